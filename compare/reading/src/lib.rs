@@ -1,0 +1,11 @@
+//! Document 01, read once more and written down in Rust, to hold answers to.
+//! It calls nothing else: neither the Rust that is compared nor what replaces
+//! it. It prefers the plainest form over speed.
+
+mod extent;
+mod header;
+mod types;
+
+pub use extent::{Extent, extent};
+pub use header::{FrameType, Header, header};
+pub use types::{Kind, fixed_size, is_analog, is_reportable_type, kind};

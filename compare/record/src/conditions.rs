@@ -1,0 +1,56 @@
+//! The listed differences of the Rust's value reader from document 01. Each is
+//! a condition on the value alone; under each the Rust refuses a value whose
+//! end document 01 knows.
+
+use reading::{Extent, Kind};
+
+#[derive(Debug, Clone, Copy, PartialEq, Eq)]
+pub enum Condition {
+    /// A Boolean that is neither 0 nor 1.
+    BooleanAboveOne,
+    /// An octet or character string of length ff.
+    InvalidString,
+    /// A long octet or long character string of length ffff.
+    InvalidLongString,
+    /// A whole character string, long or not, that is not UTF-8.
+    NotUtf8,
+    /// An array, structure, set or bag that has an extent.
+    Collection,
+}
+
+impl Condition {
+    pub const ALL: [Self; 5] = [
+        Self::BooleanAboveOne,
+        Self::InvalidString,
+        Self::InvalidLongString,
+        Self::NotUtf8,
+        Self::Collection,
+    ];
+
+    /// The condition that `value`, a type code and bytes, fulfils.
+    pub fn of(value: &[u8]) -> Option<Self> {
+        let (&code, bytes) = value.split_first()?;
+        Self::ALL
+            .into_iter()
+            .find(|condition| condition.holds(code, bytes))
+    }
+
+    fn holds(self, code: u8, bytes: &[u8]) -> bool {
+        match self {
+            Self::BooleanAboveOne => code == 0x10 && bytes.first().is_some_and(|&raw| raw > 1),
+            Self::InvalidString => matches!(code, 0x41 | 0x42) && bytes.starts_with(&[0xff]),
+            Self::InvalidLongString => {
+                matches!(code, 0x43 | 0x44) && bytes.starts_with(&[0xff, 0xff])
+            }
+            Self::NotUtf8 => match (code, reading::extent(code, bytes, 0)) {
+                (0x42, Extent::End(end)) => str::from_utf8(&bytes[1..end]).is_err(),
+                (0x44, Extent::End(end)) => str::from_utf8(&bytes[2..end]).is_err(),
+                _ => false,
+            },
+            Self::Collection => {
+                matches!(reading::kind(code), Kind::Series | Kind::Structure)
+                    && matches!(reading::extent(code, bytes, 0), Extent::End(_))
+            }
+        }
+    }
+}

@@ -1,0 +1,121 @@
+//! The whole list.
+
+use reading::Extent;
+
+use crate::conditions::Condition;
+use crate::lines::{Inputs, hex};
+use crate::{collections, headers, numbers, rust, strings, types};
+
+/// The list, or why there is none.
+pub fn whole() -> Result<String, String> {
+    let mut lines = types::lines()?;
+    lines.extend(headers::lines()?);
+
+    let mut inputs = Inputs::default();
+    numbers::add(&mut inputs);
+    strings::add(&mut inputs);
+    collections::add(&mut inputs);
+    for input in inputs.into_vec() {
+        lines.push(value_line(&input)?);
+    }
+
+    let count = u32::try_from(lines.len()).expect("the list is short");
+    lines.push(format!("n {}", hex(&count.to_le_bytes())));
+    Ok(lines.join("\n") + "\n")
+}
+
+/// An `e` line where the Rust and document 01 agree, a `d` line where a listed
+/// condition holds. The condition holds exactly where they differ.
+fn value_line(value: &[u8]) -> Result<String, String> {
+    let ours = document(value);
+    let theirs = rust::extent(value)?;
+    let (input, first, second) = (hex(value), hex(&ours), hex(&theirs));
+    match (ours == theirs, Condition::of(value)) {
+        (true, None) => Ok(format!("e {input} {second}")),
+        (false, Some(_)) => Ok(format!("d {input} {first} {second}")),
+        (false, None) => Err(format!(
+            "a difference that is not listed: {input}, document 01 {first}, the Rust {second}"
+        )),
+        (true, Some(condition)) => Err(format!(
+            "{condition:?} is listed as a difference and is none: {input}, both {first}"
+        )),
+    }
+}
+
+/// Document 01's answer for a value, in the form of the Rust's.
+fn document(value: &[u8]) -> Vec<u8> {
+    match reading::extent(value[0], &value[1..], 0) {
+        Extent::End(end) => rust::taken(Some(end)),
+        Extent::Cut | Extent::Without => rust::taken(None),
+    }
+}
+
+#[cfg(test)]
+mod tests {
+    use super::*;
+
+    fn unhex(text: &str) -> Vec<u8> {
+        (0..text.len() / 2)
+            .map(|at| u8::from_str_radix(&text[2 * at..2 * at + 2], 16).expect("hex"))
+            .collect()
+    }
+
+    #[test]
+    fn shape() {
+        let list = whole().expect("no difference but the listed ones");
+        assert_eq!(list, whole().expect("again"), "two runs, one list");
+        assert!(list.is_ascii() && list.len() < 200_000);
+
+        let mut lines: Vec<&str> = list
+            .strip_suffix('\n')
+            .expect("an end")
+            .split('\n')
+            .collect();
+        assert!((2_500..6_000).contains(&lines.len()));
+
+        let last = lines.pop().expect("a last line");
+        let count = u32::try_from(lines.len()).expect("short");
+        assert_eq!(last, format!("n {}", hex(&count.to_le_bytes())));
+
+        let floors = [
+            ('t', 256, 3),
+            ('h', 1_400, 3),
+            ('e', 1_200, 3),
+            ('d', 300, 4),
+        ];
+        let mut rest = lines.len();
+        for (letter, floor, fields) in floors {
+            let of: Vec<&&str> = lines
+                .iter()
+                .filter(|line| line.starts_with(letter))
+                .collect();
+            assert!(of.len() >= floor, "{letter}: {}", of.len());
+            assert!(of.iter().all(|line| line.split(' ').count() == fields));
+            rest -= of.len();
+        }
+        assert_eq!(rest, 0, "no other letters");
+
+        for line in &lines {
+            assert!(line.len() < 1_200);
+            for field in line.split(' ').skip(1) {
+                assert_eq!(field, hex(&unhex(field)), "{line}");
+            }
+        }
+        let once: std::collections::HashSet<_> = lines.iter().collect();
+        assert_eq!(once.len(), lines.len(), "no line twice");
+    }
+
+    #[test]
+    fn every_condition_has_lines() {
+        let list = whole().expect("a list");
+        for condition in Condition::ALL {
+            let found = list
+                .lines()
+                .filter_map(|line| line.strip_prefix("d "))
+                .map(|rest| unhex(rest.split(' ').next().expect("an input")))
+                .filter(|value| Condition::of(value) == Some(condition))
+                .count();
+            assert!(found >= 4, "{condition:?}: {found}");
+        }
+    }
+}

@@ -1,0 +1,57 @@
+-- Each way out is one law of the definition: no size, too wide, an Int, any other. Assumes nothing.
+use borrow.Author.Needs.{needs}
+use Rattle.types.proofs.value.number_at.Statement.{statement}
+use Rattle.types.proofs.value.number_at.Tie as tie
+use mathlib.Core.Path.{ap, sym, _∙_}
+use Rattle.types.specs.declared.value.Number.the-variants.{Value}
+use Rattle.types.proofs.Machine.{came-back}
+use Rattle.types.proofs.Values.{number-varies, number-wide, signed-way, plain-way}
+
+fixed-size-requires : tie.Need-fixed-size-requires
+fixed-size-requires c κs = search needs
+
+enum-known-w : tie.Need-enum-known-w
+enum-known-w c = search needs
+
+enum-told : tie.Need-enum-told
+enum-told c = search needs
+
+returns : tie.Need-returns
+returns c = sym (number-varies _ _ _ (sym (c .before .before .fixed-size .ensures) ∙ c .enum-told .given .1))
+
+returns-2 : tie.Need-returns-2
+returns-2 c = sym (number-wide _ _ _ _ (sym (c .before .before .before .before .fixed-size .ensures) ∙ c .before .before .w .given .1) (c .if1 .taken))
+
+is-signed-requires : tie.Need-is-signed-requires
+is-signed-requires c κs = search needs
+
+signed-at-requires : tie.Need-signed-at-requires
+signed-at-requires c κs = search needs
+
+returns-3 : tie.Need-returns-3
+returns-3 c = ap Value (came-back _ (c .signed-at .ok)) ∙ signed-way (c .before .before .before .before .before .before .before .before .before .args .s .now) (c .before .before .before .before .before .before .before .before .before .args .at) (c .before .before .before .before .before .before .before .before .before .args .type-id .0) _ _ (sym (c .before .before .before .before .before .before .before .fixed-size .ensures) ∙ c .before .before .before .before .before .w .given .1) (c .before .before .before .if1 .left) (sym (c .before .before .is-signed .ensures) ∙ c .before .if2 .taken) (c .signed-at .ensures)
+
+unsigned-at-requires : tie.Need-unsigned-at-requires
+unsigned-at-requires c κs = search needs
+
+bits-i64-requires : tie.Need-bits-i64-requires
+bits-i64-requires c κs = search needs
+
+returns-4 : tie.Need-returns-4
+returns-4 c = ap Value (came-back _ (c .bits-i64 .ok)) ∙ plain-way (c .before .before .before .before .before .before .before .before .before .before .args .s .now) (c .before .before .before .before .before .before .before .before .before .before .args .at) (c .before .before .before .before .before .before .before .before .before .before .args .type-id .0) _ _ _ (λ i. c .before .before .before .before .before .before .before .before .before .shared-slice-known .given i .fits) (sym (c .before .before .before .before .before .before .before .before .fixed-size .ensures) ∙ c .before .before .before .before .before .before .w .given .1) (c .before .before .before .before .if1 .left) (sym (c .before .before .before .is-signed .ensures) ∙ c .before .before .if2 .left) (c .bits-i64 .ensures) (c .before .unsigned-at .ensures)
+
+pub number-at-spec : {M : Type 1} → statement M
+number-at-spec =
+    tie.close
+    (tie.spec
+    fixed-size-requires
+    enum-known-w
+    enum-told
+    returns
+    returns-2
+    is-signed-requires
+    signed-at-requires
+    returns-3
+    unsigned-at-requires
+    bits-i64-requires
+    returns-4)

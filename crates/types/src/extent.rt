@@ -1,0 +1,154 @@
+// Where a value ends (ZCL 2.6): the role of the `ZclDataType` reader, for every slice, place and type.
+ghost use mathlib.Core.Path.{_≡_};
+ghost use Prim.Native.Nat.{_<_};
+ghost use Rattle.types.specs.Extent.{upto, count, text, byForm, seriesAt, structureAt, extentOf};
+ghost use Rattle.types.specs.declared.extent.Extent.the-variants.{Without};
+use super::ids::Form;
+use super::ids::TypeId;
+use super::number::byte_at;
+use super::number::u16_at;
+
+// Where a value ends: at a place; the slice ends first; or nowhere, whatever bytes came behind.
+pub enum Extent {
+    End(usize),
+    Cut,
+    Without,
+}
+
+// n bytes from p on.
+fn span(s: &[u8], p: usize, n: usize) -> Extent
+    ensures { λ r. ⌜ r ≡ upto (now (s .entry)) p n ⌝ }
+{
+    if p <= s.len() {
+        if n <= s.len() - p {
+            return Extent::End(p + n);
+        }
+    }
+    Extent::Cut
+}
+
+// The two-byte count at p; ffff is the mark of an invalid value, which has no elements.
+fn counted(s: &[u8], p: usize) -> usize
+    ensures means { λ r. ⌜ r ≡ count 2 (now (s .entry)) p ⌝ }
+    ensures small { λ r. ⌜ r < 65536 ⌝ }
+{
+    let n = u16_at(s, p);
+    if n == 0xffff {
+        return 0;
+    }
+    n as usize
+}
+
+// A string with one length byte; ff is the mark of an invalid one.
+fn text_extent(s: &[u8], p: usize) -> Extent
+    ensures { λ r. ⌜ r ≡ text 1 (now (s .entry)) p ⌝ }
+{
+    let Extent::End(first) = span(s, p, 1) else {
+        return Extent::Cut;
+    };
+    let n = byte_at(s, p) as usize;
+    if n == 0xff {
+        return span(s, first, 0);
+    }
+    span(s, first, n)
+}
+
+// A string with two length bytes.
+fn long_text_extent(s: &[u8], p: usize) -> Extent
+    ensures { λ r. ⌜ r ≡ text 2 (now (s .entry)) p ⌝ }
+{
+    let Extent::End(first) = span(s, p, 2) else {
+        return Extent::Cut;
+    };
+    span(s, first, counted(s, p))
+}
+
+// A value that is no collection.
+fn plain_extent(s: &[u8], p: usize, layout: Form) -> Extent
+    ensures { λ r. ⌜ r ≡ byForm (now (s .entry)) p layout Without Without ⌝ }
+{
+    match layout {
+        Form::Fixed(w) => span(s, p, w),
+        Form::Text => text_extent(s, p),
+        Form::LongText => long_text_extent(s, p),
+        Form::Series => Extent::Without,
+        Form::Structure => Extent::Without,
+        Form::Unknown => Extent::Without,
+    }
+}
+
+// An array, set or bag at p: element type, count, elements; with so many levels left for it and what it holds.
+// Elements of one size are passed over by one multiplication, so that their count costs nothing.
+fn series_extent(s: &[u8], p: usize, depth: usize) -> Extent
+    ensures { λ r. ⌜ r ≡ seriesAt depth (now (s .entry)) p ⌝ }
+{
+    if depth == 0 {
+        return Extent::Without;
+    }
+    let Extent::End(first) = span(s, p, 3) else {
+        return Extent::Cut;
+    };
+    let n = counted(s, p + 1);
+    let layout = TypeId(s[p]).form();
+    if let Form::Fixed(w) = layout {
+        return span(s, first, n * w);
+    }
+    let mut q = first;
+    let mut left = n;
+    while 0 < left {
+        let e = match layout {
+            Form::Series => series_extent(s, q, depth - 1),
+            Form::Structure => structure_extent(s, q, depth - 1),
+            _ => plain_extent(s, q, layout),
+        };
+        let Extent::End(next) = e else {
+            return e;
+        };
+        q = next;
+        left -= 1;
+    }
+    Extent::End(q)
+}
+
+// A structure at p: count, then type and value of each member; with so many levels left for it and what it holds.
+fn structure_extent(s: &[u8], p: usize, depth: usize) -> Extent
+    ensures { λ r. ⌜ r ≡ structureAt depth (now (s .entry)) p ⌝ }
+{
+    if depth == 0 {
+        return Extent::Without;
+    }
+    let Extent::End(first) = span(s, p, 2) else {
+        return Extent::Cut;
+    };
+    let mut q = first;
+    let mut left = counted(s, p);
+    while 0 < left {
+        if s.len() <= q {
+            return Extent::Cut;
+        }
+        let layout = TypeId(s[q]).form();
+        let e = match layout {
+            Form::Series => series_extent(s, q + 1, depth - 1),
+            Form::Structure => structure_extent(s, q + 1, depth - 1),
+            _ => plain_extent(s, q + 1, layout),
+        };
+        let Extent::End(next) = e else {
+            return e;
+        };
+        q = next;
+        left -= 1;
+    }
+    Extent::End(q)
+}
+
+// Where the value of a type at p ends. The outermost collection is level 1 of 15.
+pub fn extent_at(s: &[u8], p: usize, type_id: TypeId) -> Extent
+    ensures { λ r. ⌜ r ≡ extentOf (now (s .entry)) p («type_id» .0) ⌝ }
+{
+    let layout = type_id.form();
+    match layout {
+        Form::Series => series_extent(s, p, 15),
+        Form::Structure => structure_extent(s, p, 15),
+        _ => plain_extent(s, p, layout),
+    }
+}
