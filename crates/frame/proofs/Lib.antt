@@ -1,0 +1,11 @@
+-- The laws that this crate's proofs and its clients' cite, a file for an idea.
+-- bytes laid over a buffer, a put by its answer, and the reply that a buffer shows
+pub mod Buffer
+-- a code tells its command, status or refusal
+pub mod Codes
+-- what a caller sees tells the answer, the buffer and the state
+pub mod Outcome
+-- the two ways of a header, and what lies behind it
+pub mod Headers
+-- examples that compute
+pub mod Worked

@@ -1,0 +1,6 @@
+-- What a reader must believe of this crate, a file for an idea.
+pub mod CommandIdentifier
+pub mod Status
+pub mod Reply
+pub mod Header
+pub mod Answer
