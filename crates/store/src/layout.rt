@@ -1,0 +1,134 @@
+// Whether bytes are a store. Any bytes get an answer.
+ghost use mathlib.Core.Path.{_≡_};
+ghost use mathlib.Core.List.{[], _∷_};
+ghost use lib.ListN.{take, drop};
+ghost use Rattle.store.specs.Layout.{isText, textLength, roomOk, lengthOk, unusedOk, allZero, allOf, isStore};
+ghost use Rattle.store.specs.Inside.{entryOk};
+use super::lookup::Attribute;
+use super::lookup::attribute_at;
+use super::lookup::count_of;
+use types::ids::Form;
+use types::number::byte_at;
+
+// n bytes from `from` on, as far as they are there.
+pub fn part(s: &[u8], from: usize, n: usize) -> &[u8]
+    ensures { λ r. ⌜ now r ≡ take n (drop from (now (s .entry))) ⌝ }
+{
+    if s.len() <= from {
+        return &s[..0];
+    }
+    if s.len() - from < n {
+        return &s[from..];
+    }
+    let end = from + n;
+    &s[from..end]
+}
+
+// Whether every byte is 0. One way out of the loop, so that it runs on many bytes at once.
+fn all_zero(s: &[u8]) -> bool
+    ensures { λ r. ⌜ r ≡ allZero (now (s .entry)) ⌝ }
+{
+    let mut clean = true;
+    let mut i = 0;
+    while i < s.len() {
+        if s[i] != 0 {
+            clean = false;
+        }
+        i += 1;
+    }
+    clean
+}
+
+// Whether an attribute's values are strings with a length byte.
+pub fn is_text(a: Attribute) -> bool
+    ensures { λ r. ⌜ r ≡ isText a ⌝ }
+{
+    let form = a.type_id.form();
+    match form {
+        Form::Text => true,
+        _ => false,
+    }
+}
+
+// How many bytes the first byte of a body counts; ff counts none.
+pub fn text_length(s: &[u8], a: Attribute) -> usize
+    ensures { λ r. ⌜ r ≡ textLength (now (s .entry)) a ⌝ }
+{
+    let n = byte_at(s, a.offset as usize) as usize;
+    if n == 0xff {
+        return 0;
+    }
+    n
+}
+
+// Whether a type may stand in a store, and has the room that it must have.
+fn room_ok(a: Attribute) -> bool
+    ensures { λ r. ⌜ r ≡ roomOk a ⌝ }
+{
+    let room = a.room as usize;
+    let form = a.type_id.form();
+    match form {
+        Form::Fixed(w) => 1 <= w && w <= 16 && room == w,
+        Form::Text => 1 <= room && room <= 255,
+        _ => false,
+    }
+}
+
+// Whether a string's length fits its room, and what it does not use is 0.
+fn text_ok(s: &[u8], a: Attribute) -> bool
+    ensures { λ r. ⌜ r ≡ allOf (lengthOk (now (s .entry)) a ∷ unusedOk (now (s .entry)) a ∷ []) ⌝ }
+{
+    if !is_text(a) {
+        return true;
+    }
+    let used = 1 + text_length(s, a);
+    let room = a.room as usize;
+    if room < used {
+        return false;
+    }
+    all_zero(part(s, a.offset as usize + used, room - used))
+}
+
+// Whether one attribute keeps all conditions, its name `least` or more and its body at `from`.
+fn entry_ok(s: &[u8], a: Attribute, least: usize, from: usize) -> bool
+    ensures { λ r. ⌜ r ≡ entryOk (now (s .entry)) least from a ⌝ }
+{
+    let name = a.name;
+    if (name.0 as usize) < least {
+        return false;
+    }
+    if 4 <= a.access {
+        return false;
+    }
+    if a.offset as usize != from {
+        return false;
+    }
+    if !room_ok(a) {
+        return false;
+    }
+    text_ok(s, a)
+}
+
+// Whether the bytes are a store.
+pub fn is_store(s: &[u8]) -> bool
+    ensures { λ r. ⌜ r ≡ isStore 8 (now (s .entry)) ⌝ }
+{
+    let n = count_of(s);
+    if 64 < n {
+        return false;
+    }
+    let mut i: u16 = 0;
+    let mut least: usize = 0;
+    let mut from = 4 + (n as usize) * 8;
+    while i < n {
+        let a = attribute_at(s, i);
+        if !entry_ok(s, a, least, from) {
+            return false;
+        }
+        let name = a.name;
+        least = name.0 as usize + 1;
+        from = from + a.room as usize;
+        i += 1;
+    }
+    from == s.len() && from <= 4096
+}

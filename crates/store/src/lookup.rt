@@ -1,0 +1,80 @@
+// The attributes that a store's contents list, and the one of a name. Each function answers for any bytes; past their end they
+// read as 0.
+ghost use mathlib.Core.Path.{_≡_};
+ghost use Rattle.store.specs.Contents.{clusterOf, countOf, attributeAt, nameOf, findOf};
+use frame::header::ManufacturerCode;
+use types::ids::AttributeId;
+use types::ids::ClusterId;
+use types::ids::TypeId;
+use types::number::byte_at;
+use types::number::u16_at;
+
+// What an attribute is looked up by.
+pub struct Name(pub u32);
+
+// An attribute, as its entry in the contents says.
+pub struct Attribute {
+    pub name: Name,
+    pub type_id: TypeId,
+    pub access: u8,
+    pub offset: u16,
+    pub room: u16,
+}
+
+pub enum Found {
+    At(Attribute),
+    Nothing,
+}
+
+// The name that a request's manufacturer code and an id make.
+pub fn name_of(code: ManufacturerCode, id: AttributeId) -> Name
+    ensures { λ r. ⌜ r .0 ≡ nameOf (code .0) (id .0) ⌝ }
+{
+    Name(id.0 as u32)
+}
+
+// The cluster that a store belongs to.
+pub fn cluster_of(s: &[u8]) -> ClusterId
+    ensures { λ r. ⌜ r .0 ≡ clusterOf (now (s .entry)) ⌝ }
+{
+    ClusterId(u16_at(s, 0))
+}
+
+// How many attributes the contents list.
+pub fn count_of(s: &[u8]) -> u16
+    ensures { λ r. ⌜ r ≡ countOf (now (s .entry)) ⌝ }
+{
+    u16_at(s, 2)
+}
+
+// Attribute i of the contents.
+pub fn attribute_at(s: &[u8], i: u16) -> Attribute
+    ensures { λ r. ⌜ r ≡ attributeAt 8 (now (s .entry)) i ⌝ }
+{
+    let p = 4 + (i as usize) * 8;
+    Attribute {
+        name: Name(u16_at(s, p) as u32),
+        type_id: TypeId(byte_at(s, p + 2)),
+        access: byte_at(s, p + 3),
+        offset: u16_at(s, p + 4),
+        room: u16_at(s, p + 6),
+    }
+}
+
+// The attribute of a name.
+pub fn find(s: &[u8], name: Name) -> Found
+    ensures { λ r. ⌜ r ≡ findOf 8 (now (s .entry)) (name .0) ⌝ }
+{
+    let n = count_of(s);
+    let wanted = name.0;
+    let mut i: u16 = 0;
+    while i < n {
+        let a = attribute_at(s, i);
+        let here = a.name;
+        if here.0 == wanted {
+            return Found::At(a);
+        }
+        i += 1;
+    }
+    Found::Nothing
+}
