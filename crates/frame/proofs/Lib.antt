@@ -9,3 +9,5 @@ pub mod Outcome
 pub mod Headers
 -- examples that compute
 pub mod Worked
+-- records one after the other, and walks over them
+pub mod Walks

@@ -4,3 +4,4 @@ pub mod Status
 pub mod Reply
 pub mod Header
 pub mod Answer
+pub mod Walk
