@@ -1,7 +1,7 @@
 # Two commands from a fresh machine with the Rattle kit on PATH.
 .PHONY: run test
 
-# Proves what the replay program stands on, builds it and runs it: how many of the Rust's recorded answers ours agree with.
+# Proves what the replay program stands on, builds it and runs it: how many recorded answers ours agree with.
 run:
 	rt check replay
 	target/bin/replay < crates/replay/stdin
