@@ -4,6 +4,7 @@
 
 mod extent;
 mod header;
+pub mod store;
 mod types;
 
 pub use extent::{Extent, extent};

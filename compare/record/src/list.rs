@@ -4,7 +4,7 @@ use reading::Extent;
 
 use crate::conditions::Condition;
 use crate::lines::{Inputs, hex};
-use crate::{collections, headers, numbers, rust, strings, types};
+use crate::{collections, headers, numbers, rust, stores, strings, types};
 
 /// The list, or why there is none.
 pub fn whole() -> Result<String, String> {
@@ -18,6 +18,7 @@ pub fn whole() -> Result<String, String> {
     for input in inputs.into_vec() {
         lines.push(value_line(&input)?);
     }
+    lines.extend(stores::lines());
 
     let count = u32::try_from(lines.len()).expect("the list is short");
     lines.push(format!("n {}", hex(&count.to_le_bytes())));
@@ -64,14 +65,14 @@ mod tests {
     fn shape() {
         let list = whole().expect("no difference but the listed ones");
         assert_eq!(list, whole().expect("again"), "two runs, one list");
-        assert!(list.is_ascii() && list.len() < 200_000);
+        assert!(list.is_ascii() && list.len() < 600_000);
 
         let mut lines: Vec<&str> = list
             .strip_suffix('\n')
             .expect("an end")
             .split('\n')
             .collect();
-        assert!((2_500..6_000).contains(&lines.len()));
+        assert!((4_000..9_000).contains(&lines.len()));
 
         let last = lines.pop().expect("a last line");
         let count = u32::try_from(lines.len()).expect("short");
@@ -82,6 +83,9 @@ mod tests {
             ('h', 1_400, 3),
             ('e', 1_200, 3),
             ('d', 300, 4),
+            ('s', 1_000, 3),
+            ('v', 300, 3),
+            ('w', 300, 3),
         ];
         let mut rest = lines.len();
         for (letter, floor, fields) in floors {
@@ -96,7 +100,7 @@ mod tests {
         assert_eq!(rest, 0, "no other letters");
 
         for line in &lines {
-            assert!(line.len() < 1_200);
+            assert!(line.len() < 20_000);
             for field in line.split(' ').skip(1) {
                 assert_eq!(field, hex(&unhex(field)), "{line}");
             }

@@ -9,4 +9,11 @@ Upto n c = (c .agree ≤ c .of) × (c .of ≤ n)
 
 -- no kind has more cases than there are lines
 abbrev pub Sound : Tally → Type 0
-Sound t = Upto (t .lines) (t .types) × Upto (t .lines) (t .headers) × Upto (t .lines) (t .extents) × Upto (t .lines) (t .differences)
+Sound t =
+    Upto (t .lines) (t .types)
+    × Upto (t .lines) (t .headers)
+    × Upto (t .lines) (t .extents)
+    × Upto (t .lines) (t .differences)
+    × Upto (t .lines) (t .stores)
+    × Upto (t .lines) (t .numbers)
+    × Upto (t .lines) (t .writes)

@@ -1,6 +1,11 @@
 // What ours says to the input of each kind of line, as bytes.
+ghost use mathlib.Core.Bool.{cond};
+ghost use mathlib.Core.Path.{_≡_};
 ghost use Rattle.replay.specs.Filled.{Holds};
 use super::hex::Filled;
+use super::stores::of_number;
+use super::stores::of_store;
+use super::stores::of_write;
 use frame::header::FrameType;
 use frame::header::HeaderRead;
 use frame::header::read_header;
@@ -15,10 +20,13 @@ pub enum Kind {
     Extent,
     // An extent in which the other program is known to differ.
     Difference,
+    Store,
+    Number,
+    Write,
 }
 
 // Puts bytes at the start of out, where they fit.
-fn put(bytes: &[u8], out: &mut [u8]) -> Filled
+pub fn put(bytes: &[u8], out: &mut [u8]) -> Filled
     ensures { λ r. ⌜ Holds r (now (out .exit)) ⌝ }
 {
     let n = bytes.len();
@@ -33,7 +41,9 @@ fn put(bytes: &[u8], out: &mut [u8]) -> Filled
     Filled::Bytes(n)
 }
 
-fn bit(b: bool) -> u8 {
+pub fn bit(b: bool) -> u8
+    ensures { λ r. ⌜ r ≡ cond b 1 0 ⌝ }
+{
     if b { 1 } else { 0 }
 }
 
@@ -115,5 +125,8 @@ pub fn answer(kind: Kind, input: &[u8], out: &mut [u8]) -> Filled
         Kind::Header => of_header(input, out),
         Kind::Extent => of_extent(input, out),
         Kind::Difference => of_extent(input, out),
+        Kind::Store => of_store(input, out),
+        Kind::Number => of_number(input, out),
+        Kind::Write => of_write(input, out),
     }
 }

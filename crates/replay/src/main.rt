@@ -1,12 +1,13 @@
 // Replays a recorded list of another program's answers, read from standard input, and says how many are ours too.
-// A kind of line has a place in cases.rt (what ours says), verdict.rt (its letter), tally.rt (its count) and here (its
-// row).
+// A kind of line has a place in cases.rt or stores.rt (what ours says), verdict.rt (its letter), tally.rt (its count)
+// and here (its row).
 ghost use mathlib.Core.Path.{_≡_};
 ghost use lib.ListN.{length};
 
 mod cases;
 mod hex;
 mod line;
+mod stores;
 mod tally;
 mod verdict;
 
@@ -41,6 +42,9 @@ fn report(t: Tally, whole: bool) {
         t.differences,
         b" as document 01 says\n",
     );
+    row(b"stores: ", t.stores, b" as document 01 says\n");
+    row(b"numbers: ", t.numbers, b" as document 01 says\n");
+    row(b"writes: ", t.writes, b" as document 01 says\n");
     if t.first != 0 {
         text(b"first that does not agree: line ");
         number(t.first);

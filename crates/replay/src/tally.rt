@@ -37,6 +37,9 @@ pub struct Tally {
     pub headers: Count,
     pub extents: Count,
     pub differences: Count,
+    pub stores: Count,
+    pub numbers: Count,
+    pub writes: Count,
     // The cases so far.
     pub lines: usize,
     // The first line that does not agree, counted from 1; 0 where all do.
@@ -61,6 +64,9 @@ impl Tally {
             headers: none,
             extents: none,
             differences: none,
+            stores: none,
+            numbers: none,
+            writes: none,
             lines: 0,
             first: 0,
             whole: false,
@@ -88,6 +94,15 @@ impl Tally {
             }
             Kind::Difference => {
                 self.differences = self.differences.with(agrees);
+            }
+            Kind::Store => {
+                self.stores = self.stores.with(agrees);
+            }
+            Kind::Number => {
+                self.numbers = self.numbers.with(agrees);
+            }
+            Kind::Write => {
+                self.writes = self.writes.with(agrees);
             }
         }
         self

@@ -11,7 +11,10 @@ use super::line::fields;
 use types::number::unsigned_at;
 
 // The most bytes that a field may have: a longer one cannot be read.
-const LONGEST: usize = 1024;
+const LONGEST: usize = 4608;
+
+// The same of a count, and of the answers of a listed difference.
+const SHORT: usize = 8;
 
 pub enum Verdict {
     // A case of a kind, and whether it agrees.
@@ -35,26 +38,33 @@ fn same(a: &[u8], b: &[u8]) -> bool {
     true
 }
 
-// Whether the k-th field has just these bytes.
-fn compared(line: &[u8], k: usize, kind: Kind, bytes: &[u8]) -> Verdict {
-    let mut held = [0u8; LONGEST];
-    let Filled::Bytes(n) = field(line, k, &mut held) else {
+// Whether the k-th field has just these bytes; it is read into `held`.
+fn compared(line: &[u8], k: usize, kind: Kind, bytes: &[u8], held: &mut [u8]) -> Verdict {
+    let Filled::Bytes(n) = field(line, k, held) else {
         return Verdict::Unreadable;
     };
     Verdict::Case(kind, same(&held[..n], bytes))
 }
 
-// Whether the second field is what ours says to the first.
+// Room for a field. The `ensures` keeps its caller's proof away from so many zeros.
+fn blank() -> [u8; LONGEST]
+    ensures { λ r. ⌜ 4608 ≡ length r ⌝ }
+{
+    [0; LONGEST]
+}
+
+// Whether the second field is what ours says to the first. The buffer of the first serves for the second again: to clear
+// one costs more than to judge a short line.
 fn recorded(line: &[u8], kind: Kind) -> Verdict {
-    let mut input = [0u8; LONGEST];
+    let mut input = blank();
     let Filled::Bytes(n) = field(line, 1, &mut input) else {
         return Verdict::Unreadable;
     };
-    let mut ours = [0u8; LONGEST];
+    let mut ours = blank();
     let Filled::Bytes(k) = answer(kind, &input[..n], &mut ours) else {
         return Verdict::Unreadable;
     };
-    compared(line, 2, kind, &ours[..k])
+    compared(line, 2, kind, &ours[..k], &mut input)
 }
 
 // A line with two fields.
@@ -71,11 +81,13 @@ fn difference(line: &[u8]) -> Verdict {
     if fields(line) != 3 {
         return Verdict::Unreadable;
     }
-    let mut listed = [0u8; LONGEST];
+    let mut listed = [0u8; SHORT];
     let Filled::Bytes(n) = field(line, 2, &mut listed) else {
         return Verdict::Unreadable;
     };
-    let Verdict::Case(kind, same) = compared(line, 3, Kind::Difference, &listed[..n]) else {
+    let mut other = [0u8; SHORT];
+    let Verdict::Case(kind, same) = compared(line, 3, Kind::Difference, &listed[..n], &mut other)
+    else {
         return Verdict::Unreadable;
     };
     let Verdict::Case(_, agrees) = recorded(line, kind) else {
@@ -89,7 +101,7 @@ fn last(line: &[u8]) -> Verdict {
     if fields(line) != 1 {
         return Verdict::Unreadable;
     }
-    let mut count = [0u8; LONGEST];
+    let mut count = [0u8; SHORT];
     let Filled::Bytes(n) = field(line, 1, &mut count) else {
         return Verdict::Unreadable;
     };
@@ -106,6 +118,9 @@ fn by_letter(line: &[u8], letter: u8) -> Verdict {
         b'h' => case(line, Kind::Header),
         b'e' => case(line, Kind::Extent),
         b'd' => difference(line),
+        b's' => case(line, Kind::Store),
+        b'v' => case(line, Kind::Number),
+        b'w' => case(line, Kind::Write),
         b'n' => last(line),
         _ => Verdict::Unreadable,
     }

@@ -4,9 +4,6 @@ use borrow.Author.Needs.{needs}
 use Rattle.replay.proofs.verdict.compared.Statement.{statement}
 use Rattle.replay.proofs.verdict.compared.Tie as tie
 
-slice-aggregate-field : tie.Need-slice-aggregate-field
-slice-aggregate-field c = search needs
-
 field-requires : tie.Need-field-requires
 field-requires c κs = search needs
 
@@ -16,17 +13,23 @@ enum-known-n c = search needs
 enum-told : tie.Need-enum-told
 enum-told c = search needs
 
+same-length : tie.Need-same-length
+same-length c = search needs
+
 returns : tie.Need-returns
 returns c = search needs
 
-array-share-prefix-held : tie.Need-array-share-prefix-held
-array-share-prefix-held c = counted _ _ _ (c .before .n .given .1) (c .before .before .before .before .field .ensures) .0
+slice-reshare-prefix-same : tie.Need-slice-reshare-prefix-same
+slice-reshare-prefix-same c = counted _ _ _ (c .before .n .given .1) (c .before .before .before .before .before .field .ensures) .0
 
 slice-aggregate-same : tie.Need-slice-aggregate-same
-slice-aggregate-same c = counted _ _ _ (c .before .before .n .given .1) (c .before .before .before .before .before .field .ensures) .1
+slice-aggregate-same c = counted _ _ _ (c .before .before .n .given .1) (c .before .before .before .before .before .before .field .ensures) .1
 
 same-requires : tie.Need-same-requires
 same-requires c κs = search needs
+
+same-length-2 : tie.Need-same-length-2
+same-length-2 c = search needs
 
 returns-2 : tie.Need-returns-2
 returns-2 c = search needs
@@ -35,12 +38,13 @@ pub compared-spec : {M : Type 1} → statement M
 compared-spec =
     tie.close
     (tie.spec
-    slice-aggregate-field
     field-requires
     enum-known-n
     enum-told
+    same-length
     returns
-    array-share-prefix-held
+    slice-reshare-prefix-same
     slice-aggregate-same
     same-requires
+    same-length-2
     returns-2)

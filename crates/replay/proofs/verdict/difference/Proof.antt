@@ -31,6 +31,9 @@ array-share-prefix-listed c = counted _ _ _ (c .before .n .given .1) (c .before 
 slice-aggregate-compared : tie.Need-slice-aggregate-compared
 slice-aggregate-compared c = counted _ _ _ (c .before .before .n .given .1) (c .before .before .before .before .before .field .ensures) .1
 
+slice-aggregate-compared-2 : tie.Need-slice-aggregate-compared-2
+slice-aggregate-compared-2 c = search needs
+
 compared-requires : tie.Need-compared-requires
 compared-requires c κs = search needs
 
@@ -68,6 +71,7 @@ difference-spec =
     returns-2
     array-share-prefix-listed
     slice-aggregate-compared
+    slice-aggregate-compared-2
     compared-requires
     enum-known-kind
     returns-3
