@@ -9,7 +9,7 @@ use lib.ListN.{length, getD, take, drop}
 use lib.Seq.{sets, length-sets, sets-eq, getD-take, take-take, drop-drop, take-append-add, take-append-le, drop-append-seam}
 use lib.Dec.{leb, ltb, eqb}
 use borrow.Author.Tests.{eqb-true, eqb-false, leb-true, ltb-true, ltb-false, lt-ltb}
-use Rattle.types.specs.Number.{zeros, le, unsignedAt}
+use Rattle.types.specs.Number.{zeros, allZero, le, unsignedAt}
 use Rattle.types.specs.Ids.{formOf}
 use Rattle.types.specs.declared.ids.Form.{Form}
 use Rattle.types.specs.declared.ids.Form.the-variants.{Fixed, Text, LongText, Series, Structure, Unknown}
@@ -21,7 +21,7 @@ use Rattle.frame.specs.Reply.{padded, over}
 use Rattle.frame.proofs.Buffer.{drop-take, part-before, part-at, part-after, length-padded, take-padded}
 use Rattle.store.specs.declared.lookup.Attribute.{Attribute}
 use Rattle.store.specs.Contents.{clusterOf, countOf, attributeAt, attributesOf}
-use Rattle.store.specs.Layout.{each, ascending, accessOk, roomBy, roomOk, textBy, isText, textLength, lengthOk, followOn, endFrom, allZero, unusedOk, bodiesAt, mostOf, isStore}
+use Rattle.store.specs.Layout.{each, ascending, accessOk, roomBy, roomOk, textBy, isText, textLength, lengthOk, followOn, endFrom, unusedOk, bodiesAt, mostOf, isStore}
 use Rattle.store.specs.Value.{usedOf, valueOf, fitted, stored}
 use Rattle.store.specs.Write.{tooLong}
 use Rattle.store.proofs.Contents.{length-attributes, attributes-at, In, at-place, same-cluster, same-count, same-contents}

@@ -5,6 +5,7 @@ use mathlib.Core.Bool.{Bool, true, false, cond, _&&_}
 use mathlib.Core.List.{List, [], _∷_}
 use lib.ListN.{length, getD, take, drop}
 use lib.Dec.{leb, ltb, eqb}
+use Rattle.types.specs.Number.{allZero}
 use Rattle.types.specs.Ids.{formOf}
 use Rattle.types.specs.declared.ids.Form.{Form}
 use Rattle.types.specs.declared.ids.Form.the-variants.{Fixed, Text, LongText, Series, Structure, Unknown}
@@ -68,10 +69,6 @@ endFrom from [] = from
 endFrom from (a ∷ more) = endFrom (from + a .room) more
 
 -- the bytes of a string's body that are not used are zero
-unfoldable pub allZero : List ℕ → Bool
-allZero [] = true
-allZero (b ∷ bs) = eqb b 0 && allZero bs
-
 unfoldable pub unusedOk : List ℕ → Attribute → Bool
 unusedOk s a = cond (isText a) (allZero (take (a .room - (1 + textLength s a)) (drop (a .offset + (1 + textLength s a)) s))) true
 

@@ -2,12 +2,13 @@
 ghost use mathlib.Core.Path.{_≡_};
 ghost use mathlib.Core.List.{[], _∷_};
 ghost use lib.ListN.{take, drop};
-ghost use Rattle.store.specs.Layout.{isText, textLength, roomOk, lengthOk, unusedOk, allZero, allOf, isStore};
+ghost use Rattle.store.specs.Layout.{isText, textLength, roomOk, lengthOk, unusedOk, allOf, isStore};
 ghost use Rattle.store.specs.Inside.{entryOk};
 use super::lookup::Attribute;
 use super::lookup::attribute_at;
 use super::lookup::count_of;
 use types::ids::Form;
+use types::number::all_zero;
 use types::number::byte_at;
 
 // n bytes from `from` on, as far as they are there.
@@ -22,21 +23,6 @@ pub fn part(s: &[u8], from: usize, n: usize) -> &[u8]
     }
     let end = from + n;
     &s[from..end]
-}
-
-// Whether every byte is 0. One way out of the loop, so that it runs on many bytes at once.
-fn all_zero(s: &[u8]) -> bool
-    ensures { λ r. ⌜ r ≡ allZero (now (s .entry)) ⌝ }
-{
-    let mut clean = true;
-    let mut i = 0;
-    while i < s.len() {
-        if s[i] != 0 {
-            clean = false;
-        }
-        i += 1;
-    }
-    clean
 }
 
 // Whether an attribute's values are strings with a length byte.

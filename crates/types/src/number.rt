@@ -4,7 +4,7 @@ ghost use Prim.Native.Nat.{ℕ, _+_, _-_, _*_, _<_, _≤_, _^_, min};
 ghost use lib.IntN.{natAbs};
 ghost use lib.ListN.{length, getD};
 ghost use lib.Seq.{sets};
-ghost use Rattle.types.specs.Number.{le, bytesOf, unsignedAt, signedAt, signedOf};
+ghost use Rattle.types.specs.Number.{allZero, le, bytesOf, unsignedAt, signedAt, signedOf};
 
 fn least(a: usize, b: usize) -> usize
     ensures { λ r. ⌜ r ≡ min a b ⌝ }
@@ -30,6 +30,21 @@ pub fn byte_at(s: &[u8], at: usize) -> u8
         return s[at];
     }
     0
+}
+
+// Whether every byte is 0. One way out of the loop, so that it runs on many bytes at once.
+pub fn all_zero(s: &[u8]) -> bool
+    ensures { λ r. ⌜ r ≡ allZero (now (s .entry)) ⌝ }
+{
+    let mut clean = true;
+    let mut i = 0;
+    while i < s.len() {
+        if s[i] != 0 {
+            clean = false;
+        }
+        i += 1;
+    }
+    clean
 }
 
 // The two-byte number at `at`; bytes past the end count as 0.

@@ -8,7 +8,8 @@ use lib.ListN.{take, drop}
 use borrow.Author.Tests.{lt-ltb, le-ltb, not-true, not-false}
 use denote.Ref.{now}
 use Rattle.store.specs.declared.lookup.Attribute.{Attribute}
-use Rattle.store.specs.Layout.{isText, textLength, lengthOk, unusedOk, allZero, allOf}
+use Rattle.types.specs.Number.{allZero}
+use Rattle.store.specs.Layout.{isText, textLength, lengthOk, unusedOk, allOf}
 use Rattle.store.proofs.Layouts.{text-length-below}
 use borrow.Author.Needs.{needs}
 use Rattle.store.proofs.layout.text_ok.Statement.{statement}

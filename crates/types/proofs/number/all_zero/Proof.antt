@@ -11,9 +11,9 @@ use lib.Seq.{take-suc, take-all}
 use lib.Dec.{eqb}
 use borrow.Author.Tests.{eq-eqb, ne-eqb}
 use denote.Ref.{now}
-use Rattle.store.specs.Layout.{allZero}
-use Rattle.store.proofs.layout.all_zero.Statement.{statement}
-use Rattle.store.proofs.layout.all_zero.Tie as tie
+use Rattle.types.specs.Number.{allZero}
+use Rattle.types.proofs.number.all_zero.Statement.{statement}
+use Rattle.types.proofs.number.all_zero.Tie as tie
 
 -- one byte more
 snoc : (l : List ℕ) (b : ℕ) → allZero (l ++ (b ∷ [])) ≡ (allZero l && eqb b 0)
