@@ -1,0 +1,134 @@
+-- An entry as the numbers of its slot. Assumes nothing.
+use Prim.Native.Nat.{ℕ, _^_, _<_}
+use mathlib.Core.Path.{_≡_, refl, ap, sym, _∙_, subst}
+use mathlib.Core.Bool.{Bool, true, false, _&&_, _||_}
+use mathlib.Core.List.{List, [], _∷_}
+use native.Mathlib.Omega.{arith}
+use native.Mathlib.Nat.{mod-lt}
+use lib.ListN.{getD}
+use lib.Pow.{pow-pos}
+use lib.Dec.{leb, eqb}
+use lib.IntN.{ℤ, pos, negsuc}
+use lib.Signed.{mag}
+use borrow.Author.Tests.{leb-true, eqb-true, eqb-false}
+use Rattle.types.specs.Number.{signedOf, residue}
+use Rattle.types.proofs.Numbers.{Bytes, signed-low}
+use Rattle.types.proofs.Readings.{signed-in, residue-signed, signed-residue}
+use Rattle.reporting.specs.declared.entry.Entry.{Entry}
+use Rattle.reporting.specs.Carried.{widths, told, numbersIn, numbersOf, entryOf, inForm, Clean}
+use Rattle.reporting.proofs.Carriage.{Within, within-numbers, both}
+
+residue-below : (z : ℤ) → residue (2 ^ 64) z < 2 ^ 64
+unfolding residue
+residue-below (pos n) = mod-lt n (pow-pos 64)
+residue-below (negsuc n) = omega arith
+
+told-below : (b : Bool) (n m : ℕ) → n < m → told b n < m
+told-below true n m h = h
+told-below false n m h = omega arith
+
+-- an entry's numbers fit the widths, and are in form
+pub entry-within : (e : Entry) → Clean e → Within widths (numbersOf e)
+unfolding numbersOf
+entry-within e h =
+    let f = told-below (e .marked) 1 (2 ^ 8) (omega arith) in
+    let t = told-below (e .marked) (e .«last_time») (2 ^ 32) (h .time) in
+    let v = told-below (e .marked) (residue (2 ^ 64) (e .«last_value»)) (2 ^ 64) (residue-below (e .«last_value»)) in
+    (h .cluster, (h .attribute, (h .minimum, (h .maximum, (h .change, (f, (t, (v, refl))))))))
+
+pub entry-in-form : (e : Entry) → inForm (numbersOf e) ≡ true
+unfolding numbersOf inForm
+entry-in-form e = go (e .marked) (e .«last_time») (residue (2 ^ 64) (e .«last_value»))
+  where
+    go : (b : Bool) (t v : ℕ) → (leb (told b 1) 1 && (eqb (told b 1) 1 || (eqb (told b t) 0 && eqb (told b v) 0))) ≡ true
+    go true t v = refl
+    go false t v = refl
+
+-- ENTRY TO NUMBERS AND BACK
+flag-back : (b : Bool) → eqb (told b 1) 1 ≡ b
+flag-back true = refl
+flag-back false = refl
+
+time-back : (b : Bool) (t : ℕ) → (b ≡ false → t ≡ 0) → told b t ≡ t
+time-back true t h = refl
+time-back false t h = sym (h refl)
+
+value-back : (b : Bool) (v : ℤ) → mag v < 2 ^ 63 → (b ≡ false → v ≡ pos 0) → signedOf 8 (told b (residue (2 ^ 64) v)) ≡ v
+value-back true v m h = signed-residue 8 v (omega arith) m
+value-back false v m h = signed-low 8 0 (omega arith) ∙ sym (h refl)
+
+pub entry-back : (e : Entry) → Clean e → entryOf (numbersOf e) ≡ e
+unfolding numbersOf entryOf
+entry-back e h = λ i. record {
+  key = e .key;
+  config = e .config;
+  marked = flag-back (e .marked) i;
+  «last_time» = time-back (e .marked) (e .«last_time») (λ q. h .quiet q .0) i;
+  «last_value» = value-back (e .marked) (e .«last_value») (h .value) (λ q. h .quiet q .1) i;
+}
+
+-- ---- what its form says of a slot's flag f, time t and value v
+module _ (f t v : ℕ) where
+  abbrev FormOf : Bool → Type 0
+  FormOf marked = (leb f 1 && (marked || (eqb t 0 && eqb v 0))) ≡ true
+
+  -- under flag 0 there is no time and no value
+  none-told : eqb f 1 ≡ false → FormOf false → (f ≡ 0) × ((t ≡ 0) × (v ≡ 0))
+  none-told e h =
+      let p = both (leb f 1) (eqb t 0 && eqb v 0) h in
+      let r = both (eqb t 0) (eqb v 0) (p .1) in
+      (omega (arith, leb-true f 1 (p .0), eqb-false f 1 e), (eqb-true t 0 (r .0), eqb-true v 0 (r .1)))
+
+  flag-told : (m : Bool) → eqb f 1 ≡ m → FormOf m → told m 1 ≡ f
+  flag-told true e h = sym (eqb-true f 1 e)
+  flag-told false e h = sym (none-told e h .0)
+
+  time-told : (m : Bool) → eqb f 1 ≡ m → FormOf m → told m t ≡ t
+  time-told true e h = refl
+  time-told false e h = sym (none-told e h .1 .0)
+
+  value-told : (m : Bool) → v < 2 ^ 64 → eqb f 1 ≡ m → FormOf m → told m (residue (2 ^ 64) (signedOf 8 v)) ≡ v
+  value-told true b e h = residue-signed 8 v b
+  value-told false b e h = sym (none-told e h .1 .1)
+
+  still : FormOf (eqb f 1) → eqb f 1 ≡ false → (t ≡ 0) × (signedOf 8 v ≡ pos 0)
+  still h e =
+      let n = none-told e (subst FormOf e h) .1 in
+      (n .0, ap (signedOf 8) (n .1) ∙ signed-low 8 0 (omega arith))
+
+-- NUMBERS TO ENTRY AND BACK, for a slot in form
+pub slot-back : (bs : List ℕ) → Bytes bs → inForm (numbersIn widths bs) ≡ true → numbersOf (entryOf (numbersIn widths bs)) ≡ numbersIn widths bs
+unfolding numbersOf entryOf inForm numbersIn
+slot-back bs h p =
+    let ns : List ℕ = numbersIn widths bs in
+    let f : ℕ = getD ns 5 0 in
+    let t : ℕ = getD ns 6 0 in
+    let v : ℕ = getD ns 7 0 in
+    let b : v < 2 ^ 64 = within-numbers widths bs h .1 .1 .1 .1 .1 .1 .1 .0 in
+    λ i.
+    getD ns 0 0
+    ∷ getD ns 1 0
+    ∷ getD ns 2 0
+    ∷ getD ns 3 0
+    ∷ getD ns 4 0
+    ∷ flag-told f t v (eqb f 1) refl p i
+    ∷ time-told f t v (eqb f 1) refl p i
+    ∷ value-told f t v (eqb f 1) b refl p i
+    ∷ []
+
+-- such an entry has one form
+pub slot-clean : (bs : List ℕ) → Bytes bs → inForm (numbersIn widths bs) ≡ true → Clean (entryOf (numbersIn widths bs))
+unfolding entryOf inForm numbersIn
+slot-clean bs h p =
+    let ns : List ℕ = numbersIn widths bs in
+    let w = within-numbers widths bs h in
+    record {
+      cluster = w .0;
+      attribute = w .1 .0;
+      minimum = w .1 .1 .0;
+      maximum = w .1 .1 .1 .0;
+      change = w .1 .1 .1 .1 .0;
+      time = w .1 .1 .1 .1 .1 .1 .0;
+      value = signed-in 8 (getD ns 7 0) (w .1 .1 .1 .1 .1 .1 .1 .0);
+      quiet = still (getD ns 5 0) (getD ns 6 0) (getD ns 7 0) p;
+    }

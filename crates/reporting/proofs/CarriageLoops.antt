@@ -1,0 +1,228 @@
+-- What the loops over the slots hold so far, and the tests before them. Assumes nothing.
+use Prim.Native.Nat.{ℕ, zero, suc, _+_, _-_, _*_, _≤_, _<_}
+use mathlib.Core.Path.{_≡_, refl, ap, sym, _∙_}
+use mathlib.Core.Bool.{Bool, true, false, cond, _&&_, and-true, and-false}
+use mathlib.Core.List.{List, [], _∷_, _++_, map, append-assoc, append-nil}
+use native.Mathlib.Omega.{arith}
+use native.Mathlib.Nat.{sub-zero, mul-comm}
+use native.Mathlib.Numerals.{add-one}
+use lib.ListN.{length, getD, take, drop, set, length-set, length-map, length-replicate}
+use lib.Seq.{sets, length-sets, sets-eq, drop-drop, take-suc, take-suc-set, length-take-le}
+use borrow.Author.Tests.{eq-eqb, ne-eqb, le-leb, lt-leb}
+use Rattle.types.specs.Number.{allZero, zeros}
+use Rattle.frame.specs.Reply.{padded, over}
+use Rattle.frame.proofs.Buffer.{length-padded, over-padded}
+use Rattle.reporting.specs.declared.entry.Entry.{Entry}
+use Rattle.reporting.specs.declared.table.ReportingTable.{ReportingTable}
+use Rattle.reporting.specs.Carried.{widths, total, laid, numbersIn, rowsLaid, rowsIn, numbersOf, entryOf, inForm, allInForm, countIn, slotsIn, tableIn, tableSize, tableBytes, isTable, Reading, seen, slotsRead, readT, written, writeT}
+use Rattle.reporting.proofs.Carriage.{length-laid, length-rows, length-rowsIn}
+
+-- what owning an array of structs tells of its list, where `search needs` stops at arrays of numbers
+pub length-mapped : {X Y : Type 0} (f : X → Y) (l : List X) (n : ℕ) → length (map f l) ≡ n → length l ≡ n
+length-mapped f l n p = sym (length-map l f) ∙ p
+
+slot-size : total widths ≡ 29
+unfolding total
+slot-size = refl
+
+table-size : tableSize 16 ≡ 465
+unfolding total
+table-size = refl
+
+-- ---- reading the slots
+
+-- the slots from the i-th on
+abbrev pub slotsFrom : List ℕ → ℕ → ℕ → List (List ℕ)
+slotsFrom bs count i = rowsIn widths (count - i) (drop (1 + 29 * i) bs)
+
+slots-more : (bs : List ℕ) (count i : ℕ) → i < count → slotsFrom bs count i ≡ numbersIn widths (drop (1 + 29 * i) bs) ∷ slotsFrom bs count (i + 1)
+unfolding rowsIn
+slots-more bs count i h =
+    let n : count - i ≡ suc (count - (i + 1)) = omega arith in
+    let p : 1 + 29 * i + total widths ≡ 1 + 29 * (i + 1) = omega (arith, slot-size) in
+    ap (λ (k : ℕ). rowsIn widths k (drop (1 + 29 * i) bs)) n
+    ∙ ap (λ (l : List ℕ). numbersIn widths (drop (1 + 29 * i) bs) ∷ rowsIn widths (count - (i + 1)) l)
+    (drop-drop (total widths) (1 + 29 * i) bs ∙ ap (λ (k : ℕ). drop k bs) p)
+
+slots-end : (bs : List ℕ) (count i : ℕ) → count ≤ i → slotsFrom bs count i ≡ []
+unfolding rowsIn
+slots-end bs count i h =
+    let n : count - i ≡ 0 = omega arith in
+    ap (λ (k : ℕ). rowsIn widths k (drop (1 + 29 * i) bs)) n
+
+-- what is read after i slots: they are in form, their entries stand in their places, and the others are still to come
+pub record ReadSoFar (bs : List ℕ) (count : ℕ) (es : List Entry) (i : ℕ) : Type 0 where
+  pub within : i ≤ count
+  pub entries : take i es ++ map entryOf (slotsFrom bs count i) ≡ map entryOf (rowsIn widths count (drop 1 bs))
+  pub form : allInForm (slotsFrom bs count i) ≡ allInForm (rowsIn widths count (drop 1 bs))
+
+pub read-start : (bs : List ℕ) (count : ℕ) (es : List Entry) → ReadSoFar bs count es 0
+read-start bs count es =
+    let e : slotsFrom bs count 0 ≡ rowsIn widths count (drop 1 bs) = ap (λ (k : ℕ). rowsIn widths k (drop 1 bs)) (sub-zero count) in
+    record { within = omega arith; entries = ap (map entryOf) e; form = ap allInForm e }
+
+module _ (bs : List ℕ) (count : ℕ) (es : List Entry) (i : ℕ) (s : ReadSoFar bs count es i) where
+  pub read-more : (e : Entry) → i < count → i < length es → inForm (numbersIn widths (drop (1 + 29 * i) bs)) ≡ true → e ≡ entryOf (numbersIn widths (drop (1 + 29 * i) bs))
+      → ReadSoFar bs count (set es i e) (i + 1)
+  unfolding allInForm
+  read-more e h k f p =
+      let ns : List ℕ = numbersIn widths (drop (1 + 29 * i) bs) in
+      let m = slots-more bs count i h in
+      let later : List Entry = map entryOf (slotsFrom bs count (i + 1)) in
+      record {
+        within = omega arith;
+        entries = ap (λ (j : ℕ). take j (set es i e) ++ later) (add-one i)
+            ∙ ap (λ (l : List Entry). l ++ later) (take-suc-set es i e k)
+            ∙ append-assoc (take i es) (e ∷ []) later
+            ∙ ap (λ (x : Entry). take i es ++ (x ∷ later)) p
+            ∙ ap (λ (r : List (List ℕ)). take i es ++ map entryOf r) (sym m)
+            ∙ s .entries;
+        form = sym (ap allInForm m ∙ ap (λ (b : Bool). b && allInForm (slotsFrom bs count (i + 1))) f) ∙ s .form;
+      }
+
+  -- a slot that is not in form: no table
+  pub read-bad : i < count → inForm (numbersIn widths (drop (1 + 29 * i) bs)) ≡ false → seen false [] ≡ slotsRead (rowsIn widths count (drop 1 bs))
+  unfolding slotsRead allInForm
+  read-bad h f =
+      let m = slots-more bs count i h in
+      let a : allInForm (rowsIn widths count (drop 1 bs)) ≡ false = sym (s .form) ∙ ap allInForm m ∙ ap (λ (b : Bool). b && allInForm (slotsFrom bs count (i + 1))) f in
+      ap (λ (b : Bool). cond b (seen true (map entryOf (rowsIn widths count (drop 1 bs)))) (seen false [])) (sym a)
+
+  -- all are read
+  pub read-done : count ≤ i → _≡_ {A = Reading} (record { known = true; count = count; entries = take count es }) (slotsRead (rowsIn widths count (drop 1 bs)))
+  unfolding slotsRead allInForm
+  read-done h =
+      let z = slots-end bs count i h in
+      let q : i ≡ count = omega (arith, s .within) in
+      let l : List Entry = map entryOf (rowsIn widths count (drop 1 bs)) in
+      let a : allInForm (rowsIn widths count (drop 1 bs)) ≡ true = sym (s .form) ∙ ap allInForm z in
+      let b : take count es ≡ l = ap (λ (j : ℕ). take j es) (sym q) ∙ sym (append-nil (take i es)) ∙ ap (λ (r : List (List ℕ)). take i es ++ map entryOf r) (sym z) ∙ s .entries in
+      let n : count ≡ length l = sym (length-map (rowsIn widths count (drop 1 bs)) entryOf ∙ length-rowsIn widths count (drop 1 bs)) in
+      (λ j. record { known = true; count = n j; entries = b j })
+      ∙ ap (λ (t : Bool). cond t (seen true l) (seen false [])) (sym a)
+
+-- ---- the tests before
+
+module _ (bs : List ℕ) where
+  pub not-sized : (length bs ≡ 465 → ⊥) → seen false [] ≡ readT 16 bs
+  unfolding readT isTable
+  not-sized h = sym (rw (table-size, ne-eqb (length bs) 465 h))
+
+  module _ (n : length bs ≡ 465) where
+    pub not-counted : 16 < countIn bs → seen false [] ≡ readT 16 bs
+    unfolding readT isTable
+    not-counted h = sym (rw (table-size, eq-eqb (length bs) 465 n, lt-leb (countIn bs) 16 h))
+
+    module _ (k : countIn bs ≤ 16) (z : Bool) (ez : z ≡ allZero (drop (1 + 29 * countIn bs) bs)) where
+      -- the code's place of what lies behind the slots
+      behind : allZero (drop (1 + countIn bs * total widths) bs) ≡ z
+      behind = ap (λ (p : ℕ). allZero (drop (1 + p) bs)) (ap (λ (w : ℕ). countIn bs * w) slot-size ∙ mul-comm (countIn bs) 29) ∙ sym ez
+
+      so-far : isTable 16 bs ≡ (allInForm (slotsIn bs) && z)
+      unfolding isTable
+      so-far = rw (table-size, eq-eqb (length bs) 465 n, le-leb (countIn bs) 16 k, behind)
+
+      pub not-ended : z ≡ false → seen false [] ≡ readT 16 bs
+      unfolding readT
+      not-ended f =
+          let e : isTable 16 bs ≡ false = so-far ∙ ap (λ (b : Bool). allInForm (slotsIn bs) && b) f ∙ and-false (allInForm (slotsIn bs)) in
+          ap (λ (b : Bool). cond b (seen true (tableIn bs)) (seen false [])) (sym e)
+
+      pub by-slots : z ≡ true → slotsRead (rowsIn widths (countIn bs) (drop 1 bs)) ≡ readT 16 bs
+      unfolding readT slotsRead slotsIn tableIn
+      by-slots f =
+          let e : isTable 16 bs ≡ allInForm (slotsIn bs) = so-far ∙ ap (λ (b : Bool). allInForm (slotsIn bs) && b) f ∙ and-true (allInForm (slotsIn bs)) in
+          ap (λ (b : Bool). cond b (seen true (tableIn bs)) (seen false [])) (sym e)
+
+-- ---- writing the slots
+
+rows-snoc : (ws : List ℕ) (rows : List (List ℕ)) (ns : List ℕ) → rowsLaid ws (rows ++ (ns ∷ [])) ≡ rowsLaid ws rows ++ laid ws ns
+unfolding rowsLaid
+rows-snoc ws [] ns = append-nil (laid ws ns)
+rows-snoc ws (r ∷ rows) ns = ap (λ (l : List ℕ). laid ws r ++ l) (rows-snoc ws rows ns) ∙ sym (append-assoc (laid ws r) (rowsLaid ws rows) (laid ws ns))
+
+map-snoc : (l : List Entry) (e : Entry) → map numbersOf (l ++ (e ∷ [])) ≡ map numbersOf l ++ (numbersOf e ∷ [])
+map-snoc [] e = refl
+map-snoc (x ∷ l) e = ap (λ (r : List (List ℕ)). numbersOf x ∷ r) (map-snoc l e)
+
+rows-length : (es : List Entry) (i : ℕ) → i ≤ length es → length (rowsLaid widths (map numbersOf (take i es))) ≡ i * 29
+rows-length es i h =
+    length-rows widths (map numbersOf (take i es))
+    ∙ ap (λ (n : ℕ). n * total widths) (length-map (take i es) numbersOf ∙ length-take-le i es h)
+    ∙ ap (λ (n : ℕ). i * n) slot-size
+
+-- the count and the first i slots, and zeros to the end
+unfoldable pub filled : ℕ → ℕ → List Entry → ℕ → List ℕ
+filled room count es i = padded room (count ∷ rowsLaid widths (map numbersOf (take i es)))
+
+pub cleared-length : (bs l : List ℕ) → length bs ≡ 465 → l ≡ zeros (length bs) → length l ≡ 465
+cleared-length bs l n z = ap length z ∙ length-replicate (length bs) 0 ∙ n
+
+filled-none : (room count : ℕ) (es : List Entry) → 0 < room → set (zeros room) 0 count ≡ filled room count es 0
+unfolding filled padded rowsLaid
+filled-none zero count es h = absurd (omega arith)
+filled-none (suc room) count es h =
+    let e : room ≡ suc room - 1 = omega arith in
+    ap (λ (n : ℕ). count ∷ zeros n) e
+
+filled-more : (room count : ℕ) (es : List Entry) (i : ℕ) (d : Entry) → i < length es → 1 + 29 * (i + 1) ≤ room
+    → sets (filled room count es i) (1 + 29 * i) (laid widths (numbersOf (getD es i d))) ≡ filled room count es (i + 1)
+unfolding filled over
+filled-more room count es i d h k =
+    let rows : List (List ℕ) = map numbersOf (take i es) in
+    let out : List ℕ = count ∷ rowsLaid widths rows in
+    let bytes : List ℕ = laid widths (numbersOf (getD es i d)) in
+    let b : length bytes ≡ 29 = length-laid widths (numbersOf (getD es i d)) ∙ slot-size in
+    let r : length (rowsLaid widths rows) ≡ i * 29 = rows-length es i (omega arith) in
+    let p : 1 + 29 * i ≡ length out = omega arith in
+    let n : length (padded room out) ≡ room = length-padded room out (omega arith) in
+    sets-eq bytes (padded room out) (1 + 29 * i) (omega arith)
+    ∙ ap (λ (q : ℕ). over (padded room out) q bytes) p
+    ∙ over-padded room out bytes (omega arith)
+    ∙ ap (λ (l : List ℕ). padded room (count ∷ l)) (sym (rows-snoc widths rows (numbersOf (getD es i d))))
+    ∙ ap (λ (m : List (List ℕ)). padded room (count ∷ rowsLaid widths m)) (sym (map-snoc (take i es) (getD es i d)))
+    ∙ ap (λ (l : List Entry). padded room (count ∷ rowsLaid widths (map numbersOf l))) (sym (take-suc es i d h) ∙ ap (λ (j : ℕ). take j es) (sym (add-one i)))
+
+-- a buffer that was cleared, with the count in it
+pub filled-start : (count : ℕ) (es : List Entry) (bs l : List ℕ) → length bs ≡ 465 → l ≡ zeros (length bs) → (length (set l 0 count) ≡ 465) × (set l 0 count ≡ filled 465 count es 0)
+filled-start count es bs l n z = (
+  length-set l 0 count ∙ cleared-length bs l n z,
+  ap (λ (b : List ℕ). set b 0 count) (z ∙ ap zeros n) ∙ filled-none 465 count es (omega arith),
+)
+
+-- a turn
+pub filled-turn : (count : ℕ) (es : List Entry) (i : ℕ) (d : Entry) (bs l : List ℕ) → length es ≡ 16 → i < 16 → length bs ≡ 465 → bs ≡ filled 465 count es i
+    → l ≡ sets bs (1 + 29 * i) (laid widths (numbersOf (getD es i d))) → (length l ≡ 465) × (l ≡ filled 465 count es (i + 1))
+filled-turn count es i d bs l m h n e w = (
+  ap length w ∙ length-sets bs (1 + 29 * i) (laid widths (numbersOf (getD es i d))) ∙ n,
+  w
+      ∙ ap (λ (b : List ℕ). sets b (1 + 29 * i) (laid widths (numbersOf (getD es i d)))) e
+      ∙ filled-more 465 count es i d (omega arith) (omega arith),
+)
+
+-- all slots are filled: the table's bytes
+pub filled-all : (t : ReportingTable) (i : ℕ) → length (t .entries) ≡ 16 → t .count ≤ 16 → i ≤ t .count → t .count ≤ i → filled 465 (t .count) (t .entries) i ≡ tableBytes 16 (take (t .count) (t .entries))
+unfolding filled tableBytes
+filled-all t i n k a b =
+    let e : i ≡ t .count = omega arith in
+    let m : t .count ≡ length (take (t .count) (t .entries)) = sym (length-take-le (t .count) (t .entries) (omega arith)) in
+    ap (λ (j : ℕ). padded 465 (t .count ∷ rowsLaid widths (map numbersOf (take j (t .entries))))) e
+    ∙ ap (λ (j : ℕ). padded 465 (j ∷ rowsLaid widths (map numbersOf (take (t .count) (t .entries))))) m
+    ∙ ap (λ (r : ℕ). padded r (length (take (t .count) (t .entries)) ∷ rowsLaid widths (map numbersOf (take (t .count) (t .entries))))) (sym table-size)
+
+-- a table that is not written, and one that is
+module _ (t : ReportingTable) (bs : List ℕ) where
+  pub write-sized : (length bs ≡ 465 → ⊥) → written false bs ≡ writeT 16 t bs
+  unfolding writeT
+  write-sized h = sym (rw (table-size, ne-eqb (length bs) 465 h))
+
+  module _ (n : length bs ≡ 465) where
+    pub write-counted : 16 < t .count → written false bs ≡ writeT 16 t bs
+    unfolding writeT
+    write-counted h = sym (rw (table-size, eq-eqb (length bs) 465 n, lt-leb (t .count) 16 h))
+
+    pub write-done : (after : List ℕ) → t .count ≤ 16 → after ≡ tableBytes 16 (take (t .count) (t .entries)) → written true after ≡ writeT 16 t bs
+    unfolding writeT
+    write-done after h e =
+        ap (λ (l : List ℕ). written true l) e
+        ∙ sym (rw (table-size, eq-eqb (length bs) 465 n, le-leb (t .count) 16 h))

@@ -1,0 +1,68 @@
+-- One table of one entry, and what is no table, computed. docs/TABLE.md shows these bytes. Assumes nothing.
+use Prim.Native.Nat.{ℕ}
+use mathlib.Core.Path.{_≡_, refl}
+use mathlib.Core.Bool.{Bool, true, false}
+use mathlib.Core.List.{List, [], _∷_}
+use lib.IntN.{negsuc}
+use lib.ListN.{take, set}
+use Rattle.types.specs.Number.{allZero, le, bytesOf, signedOf, residue}
+use Rattle.frame.specs.Reply.{padded}
+use Rattle.reporting.specs.declared.entry.Entry.{Entry}
+use Rattle.reporting.specs.Carried.{total, laid, numbersIn, rowsLaid, rowsIn, numbersOf, entryOf, inForm, allInForm, slotsIn, tableIn, tableBytes, isTable}
+
+-- cluster 0402, attribute 0000, from 10 to 300 seconds, change 50; last reported at 100000 with the value -5
+entry : Entry
+entry = record {
+  key = record { cluster = record { 0 = 1026 }; attribute = record { 0 = 0 } };
+  config = record { «min_interval» = 10; «max_interval» = 300; «reportable_change» = 50 };
+  marked = true;
+  «last_time» = 100000;
+  «last_value» = negsuc 4;
+}
+
+head : List ℕ
+head = 1 ∷ 2 ∷ 4 ∷ 0 ∷ 0 ∷ 10 ∷ 0 ∷ 44 ∷ 1 ∷ 50 ∷ 0 ∷ 0 ∷ 0 ∷ 0 ∷ 0 ∷ 0 ∷ 0 ∷ 1 ∷ 160 ∷ 134 ∷ 1 ∷ 0 ∷ 251 ∷ 255 ∷ 255 ∷ 255 ∷ 255 ∷ 255 ∷ 255 ∷ 255 ∷ []
+
+bytes : List ℕ
+bytes = padded 465 head
+
+its-bytes : tableBytes 16 (entry ∷ []) ≡ bytes
+unfolding tableBytes rowsLaid laid numbersOf bytesOf residue total entry bytes head padded
+its-bytes = refl
+
+its-table : tableIn bytes ≡ entry ∷ []
+unfolding tableIn slotsIn rowsIn numbersIn entryOf le signedOf total entry bytes head padded
+its-table = refl
+
+-- whether these bytes are a table after one of them was changed
+with : ℕ → ℕ → Bool
+with at b = isTable 16 (set bytes at b)
+
+is-one : with 0 1 ≡ true
+unfolding with isTable slotsIn allInForm inForm allZero rowsIn numbersIn le total bytes head padded
+is-one = refl
+
+-- a count of 17; a count of 2, an empty slot being one; flag 2; a time under flag 0; a stray byte behind
+count-17 : with 0 17 ≡ false
+unfolding with isTable slotsIn allInForm inForm allZero rowsIn numbersIn le total bytes head padded
+count-17 = refl
+
+count-2 : with 0 2 ≡ true
+unfolding with isTable slotsIn allInForm inForm allZero rowsIn numbersIn le total bytes head padded
+count-2 = refl
+
+flag-2 : with 17 2 ≡ false
+unfolding with isTable slotsIn allInForm inForm allZero rowsIn numbersIn le total bytes head padded
+flag-2 = refl
+
+flag-0 : with 17 0 ≡ false
+unfolding with isTable slotsIn allInForm inForm allZero rowsIn numbersIn le total bytes head padded
+flag-0 = refl
+
+stray : with 464 1 ≡ false
+unfolding with isTable slotsIn allInForm inForm allZero rowsIn numbersIn le total bytes head padded
+stray = refl
+
+one-short : isTable 16 (take 464 bytes) ≡ false
+unfolding isTable slotsIn allInForm inForm allZero rowsIn numbersIn le total bytes head padded
+one-short = refl

@@ -1,0 +1,26 @@
+-- Laws, a file for an idea. The proofs of the functions stand in the directories, under the functions' names.
+pub mod Signed
+pub mod Due
+pub mod Places
+pub mod Slots
+pub mod Others
+pub mod Histories
+pub mod Sentences
+pub mod Accepted
+pub mod Follows
+pub mod Promise
+pub mod Compiled
+pub mod Example
+pub mod Unique
+-- numbers and rows of numbers as bytes, over the widths
+pub mod Carriage
+-- an entry as the numbers of its slot
+pub mod CarriageEntry
+-- the table as bytes: the round trips
+pub mod CarriageTable
+-- a slot at its place, as the code reads and writes it
+pub mod CarriageCode
+-- the loops over the slots, and the tests before them
+pub mod CarriageLoops
+-- examples that compute
+pub mod CarriageWorked

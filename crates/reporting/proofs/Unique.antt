@@ -1,0 +1,128 @@
+-- No second answer fits a contract: what an answer tells says which answer it is, and what the contracts see of a table leaves
+-- open only the slots past its count. Assumes nothing.
+use mathlib.Core.Path.{_≡_, refl, sym, ap, _∙_, subst}
+use mathlib.Core.Bool.{Bool, true, false, cond, true≢false, false≢true}
+use mathlib.Core.List.{List}
+use Prim.Native.Nat.{ℕ}
+use native.Mathlib.Omega.{arith}
+use lib.Dec.{ltb}
+use borrow.Author.Tests.{lt-ltb}
+use Rattle.frame.proofs.Codes.{refusal-same, refusal-nonzero}
+use Rattle.reporting.specs.declared.entry.Entry.{Entry}
+use Rattle.reporting.specs.declared.table.ReportingTable.{ReportingTable}
+use Rattle.reporting.specs.declared.table.Change.{Change}
+use Rattle.reporting.specs.declared.table.Change.the-variants as ChangeV
+use Rattle.reporting.specs.declared.table.Changed.{Changed}
+use Rattle.reporting.specs.declared.table.Report.{Report}
+use Rattle.reporting.specs.declared.table.Report.the-variants as ReportV
+use Rattle.reporting.specs.declared.table.Setting.{Setting}
+use Rattle.reporting.specs.declared.table.Setting.the-variants as SettingV
+use Rattle.reporting.specs.declared.table.Length.{Length}
+use Rattle.reporting.specs.declared.table.Length.the-variants as LengthV
+use Rattle.reporting.specs.Table.{room, Table, sound, bad, live, tableOf, Alike, ChangeTold, changeTold, ReportTold, reportTold, SettingTold, settingTold, LengthTold, lengthTold, Outcome, outcome}
+
+-- ---- answers
+
+pub change-same : (a b : Change) → changeTold a ≡ changeTold b → a ≡ b
+change-same a b p = go a b (ap (λ (x : ChangeTold). x .number) p) (ap (λ (x : ChangeTold). x .accepted) p)
+  where
+    go : (a b : Change) → changeTold a .number ≡ changeTold b .number → changeTold a .accepted ≡ changeTold b .accepted → a ≡ b
+    go ChangeV.Done ChangeV.Done n v = refl
+    go ChangeV.Done ChangeV.Full n v = absurd (true≢false v)
+    go ChangeV.Done (ChangeV.Refused w) n v = absurd (true≢false v)
+    go ChangeV.Full ChangeV.Done n v = absurd (false≢true v)
+    go ChangeV.Full ChangeV.Full n v = refl
+    go ChangeV.Full (ChangeV.Refused w) n v = absurd (omega (arith, refusal-nonzero w))
+    go (ChangeV.Refused u) ChangeV.Done n v = absurd (false≢true v)
+    go (ChangeV.Refused u) ChangeV.Full n v = absurd (omega (arith, refusal-nonzero u))
+    go (ChangeV.Refused u) (ChangeV.Refused w) n v = ap ChangeV.Refused (refusal-same u w n)
+
+pub report-same : (a b : Report) → reportTold a ≡ reportTold b → a ≡ b
+report-same a b p = go a b (ap (λ (x : ReportTold). x .number) p) (ap (λ (x : ReportTold). x .due) p)
+  where
+    go : (a b : Report) → reportTold a .number ≡ reportTold b .number → reportTold a .due ≡ reportTold b .due → a ≡ b
+    go ReportV.Due ReportV.Due n v = refl
+    go ReportV.Due ReportV.NotDue n v = absurd (true≢false v)
+    go ReportV.Due (ReportV.Refused w) n v = absurd (true≢false v)
+    go ReportV.NotDue ReportV.Due n v = absurd (false≢true v)
+    go ReportV.NotDue ReportV.NotDue n v = refl
+    go ReportV.NotDue (ReportV.Refused w) n v = absurd (omega (arith, refusal-nonzero w))
+    go (ReportV.Refused u) ReportV.Due n v = absurd (false≢true v)
+    go (ReportV.Refused u) ReportV.NotDue n v = absurd (omega (arith, refusal-nonzero u))
+    go (ReportV.Refused u) (ReportV.Refused w) n v = ap ReportV.Refused (refusal-same u w n)
+
+pub setting-same : (a b : Setting) → settingTold a ≡ settingTold b → a ≡ b
+setting-same a b p = go a b p (ap (λ (x : SettingTold). x .number) p) (ap (λ (x : SettingTold). x .found) p)
+  where
+    go : (a b : Setting) → settingTold a ≡ settingTold b → settingTold a .number ≡ settingTold b .number → settingTold a .found ≡ settingTold b .found → a ≡ b
+    go (SettingV.Given g) (SettingV.Given h) p n v = ap (λ (x : SettingTold). SettingV.Given (x .configuration)) p
+    go (SettingV.Given g) SettingV.Nothing p n v = absurd (true≢false v)
+    go (SettingV.Given g) (SettingV.Refused w) p n v = absurd (true≢false v)
+    go SettingV.Nothing (SettingV.Given h) p n v = absurd (false≢true v)
+    go SettingV.Nothing SettingV.Nothing p n v = refl
+    go SettingV.Nothing (SettingV.Refused w) p n v = absurd (omega (arith, refusal-nonzero w))
+    go (SettingV.Refused u) (SettingV.Given h) p n v = absurd (false≢true v)
+    go (SettingV.Refused u) SettingV.Nothing p n v = absurd (omega (arith, refusal-nonzero u))
+    go (SettingV.Refused u) (SettingV.Refused w) p n v = ap SettingV.Refused (refusal-same u w n)
+
+pub length-same : (a b : Length) → lengthTold a ≡ lengthTold b → a ≡ b
+length-same a b p = go a b (ap (λ (x : LengthTold). x .number) p) (ap (λ (x : LengthTold). x .length) p)
+  where
+    go : (a b : Length) → lengthTold a .number ≡ lengthTold b .number → lengthTold a .length ≡ lengthTold b .length → a ≡ b
+    go (LengthV.Entries m) (LengthV.Entries n) e v = ap LengthV.Entries v
+    go (LengthV.Entries m) (LengthV.Refused w) e v = absurd (omega (arith, refusal-nonzero w))
+    go (LengthV.Refused u) (LengthV.Entries n) e v = absurd (omega (arith, refusal-nonzero u))
+    go (LengthV.Refused u) (LengthV.Refused w) e v = ap LengthV.Refused (refusal-same u w e)
+
+-- ---- tables
+
+IsSound : Table → Type 0
+IsSound (sound n l) = Unit
+IsSound (bad t) = ⊥
+
+sound≢bad : (n : ℕ) (l : List Entry) (t : ReportingTable) → sound n l ≡ bad t → ⊥
+unfolding IsSound
+sound≢bad n l t p = subst IsSound p tt
+
+count-of : ReportingTable → Table → ℕ
+count-of t (sound n l) = n
+count-of t (bad u) = t .count
+
+entries-of : ReportingTable → Table → List Entry
+entries-of t (sound n l) = l
+entries-of t (bad u) = live t
+
+whole-of : ReportingTable → Table → ReportingTable
+whole-of t (sound n l) = t
+whole-of t (bad u) = u
+
+pub alike : (t u : ReportingTable) → tableOf t ≡ tableOf u → Alike t u
+unfolding count-of entries-of whole-of
+alike t u e = go (ltb room (t .count)) refl (ltb room (u .count)) e
+  where
+    go : (a : Bool) → ltb room (t .count) ≡ a → (b : Bool) → cond a (bad t) (sound (t .count) (live t)) ≡ cond b (bad u) (sound (u .count) (live u)) → Alike t u
+    go true h true p =
+        let q : t ≡ u = ap (whole-of t) p in
+        record { count = ap (λ (x : ReportingTable). x .count) q; entries = ap live q; whole = λ _. q }
+    go true h false p = absurd (sound≢bad (u .count) (live u) t (sym p))
+    go false h true p = absurd (sound≢bad (t .count) (live t) u p)
+    go false h false p =
+        record { count = ap (count-of t) p; entries = ap (entries-of t) p; whole = λ z. absurd (true≢false (sym (lt-ltb room (t .count) z) ∙ h)) }
+
+-- two results that meet one contract of configure, clear or mark
+pub one-result : (o : Outcome) (r s : Changed) → outcome r ≡ o → outcome s ≡ o → (r .answer ≡ s .answer) × Alike (r .table) (s .table)
+one-result o r s p q =
+    let e : outcome r ≡ outcome s = p ∙ sym q in (
+      change-same (r .answer) (s .answer) (ap (λ (x : Outcome). x .told) e),
+      alike (r .table) (s .table) (ap (λ (x : Outcome). x .table) e),
+    )
+
+-- two answers that meet one contract of ask, configuration or len
+pub one-report : (o : ReportTold) (r s : Report) → reportTold r ≡ o → reportTold s ≡ o → r ≡ s
+one-report o r s p q = report-same r s (p ∙ sym q)
+
+pub one-setting : (o : SettingTold) (r s : Setting) → settingTold r ≡ o → settingTold s ≡ o → r ≡ s
+one-setting o r s p q = setting-same r s (p ∙ sym q)
+
+pub one-length : (o : LengthTold) (r s : Length) → lengthTold r ≡ o → lengthTold s ≡ o → r ≡ s
+one-length o r s p q = length-same r s (p ∙ sym q)

@@ -1,0 +1,15 @@
+-- `reporting::entry::ReportingConfig::moved_by` meets its contract. Assumes nothing.
+use mir.Facts.{toZ-ofZ}
+use borrow.Author.Needs.{needs}
+use Rattle.reporting.proofs.Due.{moved-code}
+use Rattle.reporting.proofs.entry.ReportingConfig.moved_by.Statement.{statement}
+use Rattle.reporting.proofs.entry.ReportingConfig.moved_by.Tie as tie
+
+distance-requires : tie.Need-distance-requires
+distance-requires c κs = search needs
+
+returns : tie.Need-returns
+returns c = moved-code _ _ _ _ _ _ (toZ-ofZ (c .before .fits .from)) (toZ-ofZ (c .before .fits .to)) (c .distance .ensures)
+
+pub moved-by-spec : {M : Type 1} → statement M
+moved-by-spec = tie.close (tie.spec distance-requires returns)

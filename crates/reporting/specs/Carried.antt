@@ -1,0 +1,166 @@
+-- The reporting table as lent bytes: a count, then slots of numbers, each number in its width, the low byte first; zeros to the
+-- end. Over the limit and the widths. Assumes nothing: these are definitions.
+use Prim.Native.Nat.{ℕ, zero, suc, _+_, _*_, _^_, _<_}
+use mathlib.Core.Path.{_≡_}
+use mathlib.Core.Bool.{Bool, true, false, cond, _&&_, _||_}
+use mathlib.Core.List.{List, [], _∷_, _++_, map}
+use lib.ListN.{length, getD, take, drop}
+use lib.Dec.{leb, eqb}
+use lib.IntN.{pos}
+use lib.Signed.{mag}
+use Rattle.types.specs.Number.{allZero, le, bytesOf, signedOf, residue}
+use Rattle.frame.specs.Reply.{padded}
+use Rattle.reporting.specs.declared.entry.Entry.{Entry}
+use Rattle.reporting.specs.declared.table.ReportingTable.{ReportingTable}
+use Rattle.reporting.specs.declared.carried.ReadTable.{ReadTable}
+
+-- ---- numbers in their widths
+
+-- the bytes that numbers of these widths take
+unfoldable pub total : List ℕ → ℕ
+total [] = 0
+total (w ∷ ws) = w + total ws
+
+-- numbers laid out one behind the other, each cut to its width; a number that is missing counts as 0
+unfoldable pub laid : List ℕ → List ℕ → List ℕ
+laid [] ns = []
+laid (w ∷ ws) ns = bytesOf w (getD ns 0 0) ++ laid ws (drop 1 ns)
+
+-- the numbers that bytes hold in these widths
+unfoldable pub numbersIn : List ℕ → List ℕ → List ℕ
+numbersIn [] bs = []
+numbersIn (w ∷ ws) bs = le (take w bs) ∷ numbersIn ws (drop w bs)
+
+-- rows of numbers laid out one behind the other
+unfoldable pub rowsLaid : List ℕ → List (List ℕ) → List ℕ
+rowsLaid ws [] = []
+rowsLaid ws (ns ∷ rows) = laid ws ns ++ rowsLaid ws rows
+
+-- the first n rows that bytes hold
+unfoldable pub rowsIn : List ℕ → ℕ → List ℕ → List (List ℕ)
+rowsIn ws zero bs = []
+rowsIn ws (suc n) bs = numbersIn ws bs ∷ rowsIn ws n (drop (total ws) bs)
+
+-- ---- an entry as numbers
+
+-- a slot: cluster, attribute, minimum, maximum, change, reported flag, time, value
+abbrev pub widths : List ℕ
+widths = 2 ∷ 2 ∷ 2 ∷ 2 ∷ 8 ∷ 1 ∷ 4 ∷ 8 ∷ []
+
+-- what is told of an entry that is marked, and 0 of another
+abbrev pub told : Bool → ℕ → ℕ
+told marked n = cond marked n 0
+
+unfoldable pub numbersOf : Entry → List ℕ
+numbersOf e =
+    e .key .cluster .0
+    ∷ e .key .attribute .0
+    ∷ e .config .«min_interval»
+    ∷ e .config .«max_interval»
+    ∷ e .config .«reportable_change»
+    ∷ told (e .marked) 1
+    ∷ told (e .marked) (e .«last_time»)
+    ∷ told (e .marked) (residue (2 ^ 64) (e .«last_value»))
+    ∷ []
+
+unfoldable pub entryOf : List ℕ → Entry
+entryOf ns = record {
+  key = record { cluster = record { 0 = getD ns 0 0 }; attribute = record { 0 = getD ns 1 0 } };
+  config = record { «min_interval» = getD ns 2 0; «max_interval» = getD ns 3 0; «reportable_change» = getD ns 4 0 };
+  marked = eqb (getD ns 5 0) 1;
+  «last_time» = getD ns 6 0;
+  «last_value» = signedOf 8 (getD ns 7 0);
+}
+
+-- a slot's numbers are in their one form: the flag is 0 or 1, and under 0 there is no time and no value
+unfoldable pub inForm : List ℕ → Bool
+inForm ns = leb (getD ns 5 0) 1 && (eqb (getD ns 5 0) 1 || (eqb (getD ns 6 0) 0 && eqb (getD ns 7 0) 0))
+
+-- ---- the table
+
+-- how many bytes a table has that holds up to `limit` entries
+abbrev pub tableSize : ℕ → ℕ
+tableSize limit = 1 + limit * total widths
+
+unfoldable pub tableBytes : ℕ → List Entry → List ℕ
+tableBytes limit l = padded (tableSize limit) (length l ∷ rowsLaid widths (map numbersOf l))
+
+-- the count, and the numbers of the slots below it
+abbrev pub countIn : List ℕ → ℕ
+countIn bs = getD bs 0 0
+
+unfoldable pub slotsIn : List ℕ → List (List ℕ)
+slotsIn bs = rowsIn widths (countIn bs) (drop 1 bs)
+
+unfoldable pub tableIn : List ℕ → List Entry
+tableIn bs = map entryOf (slotsIn bs)
+
+-- what bytes must be to be a table
+abbrev pub sized : ℕ → List ℕ → Bool
+sized limit bs = eqb (length bs) (tableSize limit)
+
+abbrev pub counted : ℕ → List ℕ → Bool
+counted limit bs = leb (countIn bs) limit
+
+unfoldable pub allInForm : List (List ℕ) → Bool
+allInForm [] = true
+allInForm (ns ∷ rows) = inForm ns && allInForm rows
+
+abbrev pub endsInZeros : List ℕ → Bool
+endsInZeros bs = allZero (drop (1 + countIn bs * total widths) bs)
+
+unfoldable pub isTable : ℕ → List ℕ → Bool
+isTable limit bs = sized limit bs && (counted limit bs && (allInForm (slotsIn bs) && endsInZeros bs))
+
+-- ---- an entry that has one form: every field within its width, and without a report no time and no value
+
+pub record Clean (e : Entry) : Type 0 where
+  pub cluster : e .key .cluster .0 < 2 ^ 16
+  pub attribute : e .key .attribute .0 < 2 ^ 16
+  pub minimum : e .config .«min_interval» < 2 ^ 16
+  pub maximum : e .config .«max_interval» < 2 ^ 16
+  pub change : e .config .«reportable_change» < 2 ^ 64
+  pub time : e .«last_time» < 2 ^ 32
+  pub value : mag (e .«last_value») < 2 ^ 63
+  pub quiet : e .marked ≡ false → (e .«last_time» ≡ 0) × (e .«last_value» ≡ pos 0)
+
+abbrev pub AllClean : List Entry → Type 0
+AllClean [] = Unit
+AllClean (e ∷ l) = Clean e × AllClean l
+
+-- ---- what the code hands back
+
+-- whether the bytes are a table, its count, and the entries below the count
+pub record Reading : Type 0 where
+  pub known : Bool
+  pub count : ℕ
+  pub entries : List Entry
+
+abbrev pub reading : ReadTable → Reading
+reading r = record { known = r .known; count = r .table .count; entries = take (r .table .count) (r .table .entries) }
+
+abbrev pub seen : Bool → List Entry → Reading
+seen known l = record { known = known; count = length l; entries = l }
+
+-- slots that are all in form as a table
+unfoldable pub slotsRead : List (List ℕ) → Reading
+slotsRead rows = cond (allInForm rows) (seen true (map entryOf rows)) (seen false [])
+
+-- the table that the bytes are; where they are none, the empty one
+unfoldable pub readT : ℕ → List ℕ → Reading
+readT limit bs = cond (isTable limit bs) (seen true (tableIn bs)) (seen false [])
+
+-- whether the table was written, and the bytes afterwards
+pub record Written : Type 0 where
+  pub done : Bool
+  pub bytes : List ℕ
+
+abbrev pub written : Bool → List ℕ → Written
+written done bytes = record { done = done; bytes = bytes }
+
+-- a table is written where the bytes have its size and its count is no more than the limit; else nothing changes
+unfoldable pub writeT : ℕ → ReportingTable → List ℕ → Written
+writeT limit t bs =
+    cond (sized limit bs && leb (t .count) limit)
+    (written true (tableBytes limit (take (t .count) (t .entries))))
+    (written false bs)

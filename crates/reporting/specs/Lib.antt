@@ -1,0 +1,8 @@
+-- What a reader must believe of this crate, a file for an idea.
+pub mod Entries
+pub mod Due
+pub mod Table
+pub mod Events
+pub mod Demand3
+pub mod Log
+pub mod Carried

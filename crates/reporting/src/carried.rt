@@ -1,0 +1,208 @@
+// The reporting table as bytes that a caller lends: docs/TABLE.md has the layout. Bytes in any other form are no table.
+ghost use mathlib.Core.Path.{_≡_};
+ghost use mathlib.Core.List.{[]};
+ghost use mathlib.Core.Bool.{false};
+ghost use Prim.Native.Nat.{ℕ, _+_, _^_, _≤_};
+ghost use lib.ListN.{length, drop};
+ghost use lib.Seq.{sets};
+ghost use Rattle.types.specs.Number.{allZero, residue};
+ghost use Rattle.reporting.specs.Carried.{widths, laid, numbersIn, rowsIn, told, numbersOf, entryOf, inForm};
+ghost use Rattle.reporting.specs.Carried.{reading, seen, slotsRead, readT, written, writeT};
+use super::entry::Entry;
+use super::entry::Key;
+use super::entry::ReportingConfig;
+use super::table::ReportingTable;
+use frame::reply::clear;
+use types::ids::AttributeId;
+use types::ids::ClusterId;
+use types::number::all_zero;
+use types::number::byte_at;
+use types::number::put_le;
+use types::number::signed_at;
+use types::number::u16_at;
+use types::number::unsigned_at;
+
+const LIMIT: usize = 16;
+
+// The bytes of one entry.
+const SLOT: usize = 29;
+
+// The count's byte, and the slots.
+pub const TABLE_BYTES: usize = 465;
+
+// Whether the bytes were a table; where they were none, the table is the empty one.
+pub struct ReadTable {
+    pub known: bool,
+    pub table: ReportingTable,
+}
+
+// The same 64 bits, read without their sign.
+fn bits_u64(x: i64) -> u64
+    ensures { λ r. ⌜ r ≡ residue (2 ^ 64) x ⌝ }
+{
+    if x >= 0 {
+        return x as u64;
+    }
+    !((!x) as u64)
+}
+
+// What is written of an entry's last report: 0 where there was none.
+fn told_if(marked: bool, n: u64) -> u64
+    ensures { λ r. ⌜ r ≡ told marked n ⌝ }
+{
+    if marked {
+        return n;
+    }
+    0
+}
+
+// Whether all bytes from `from` on are 0.
+fn zero_from(bytes: &[u8], from: usize) -> bool
+    ensures { λ r. ⌜ r ≡ allZero (drop from (now (bytes .entry))) ⌝ }
+{
+    if bytes.len() <= from {
+        return true;
+    }
+    all_zero(&bytes[from..])
+}
+
+// Whether the slot at `at` is in its one form.
+fn slot_in_form(bytes: &[u8], at: usize) -> bool
+    requires { ⌜ at + 29 ≤ length (now bytes) ⌝ }
+    ensures { λ r. ⌜ r ≡ inForm (numbersIn widths (drop at (now (bytes .entry)))) ⌝ }
+{
+    let flag = byte_at(bytes, at + 16);
+    if 1 < flag {
+        return false;
+    }
+    if flag == 1 {
+        return true;
+    }
+    let time = unsigned_at(bytes, at + 17, 4);
+    let value = unsigned_at(bytes, at + 21, 8);
+    time == 0 && value == 0
+}
+
+// The entry of the slot at `at`.
+fn read_slot(bytes: &[u8], at: usize) -> Entry
+    requires { ⌜ at + 29 ≤ length (now bytes) ⌝ }
+    ensures { λ r. ⌜ r ≡ entryOf (numbersIn widths (drop at (now (bytes .entry)))) ⌝ }
+{
+    let cluster = u16_at(bytes, at);
+    let attribute = u16_at(bytes, at + 2);
+    let min_interval = u16_at(bytes, at + 4);
+    let max_interval = u16_at(bytes, at + 6);
+    let reportable_change = unsigned_at(bytes, at + 8, 8);
+    let flag = byte_at(bytes, at + 16);
+    let last_time = unsigned_at(bytes, at + 17, 4) as u32;
+    let last_value = signed_at(bytes, at + 21, 8);
+    Entry {
+        key: Key {
+            cluster: ClusterId(cluster),
+            attribute: AttributeId(attribute),
+        },
+        config: ReportingConfig {
+            min_interval,
+            max_interval,
+            reportable_change,
+        },
+        marked: flag == 1,
+        last_time,
+        last_value,
+    }
+}
+
+// Writes the slot of an entry at `at`.
+fn write_slot(bytes: &mut [u8], at: usize, e: Entry)
+    requires { ⌜ at + 29 ≤ length (now bytes) ⌝ }
+    ensures { λ _. ⌜ now (bytes .exit) ≡ sets (now (bytes .entry)) at (laid widths (numbersOf e)) ⌝ }
+{
+    let key = e.key;
+    let cluster = key.cluster;
+    let attribute = key.attribute;
+    let config = e.config;
+    let last_value = e.last_value;
+    put_le(bytes, at, 2, cluster.0 as u64);
+    put_le(bytes, at + 2, 2, attribute.0 as u64);
+    put_le(bytes, at + 4, 2, config.min_interval as u64);
+    put_le(bytes, at + 6, 2, config.max_interval as u64);
+    put_le(bytes, at + 8, 8, config.reportable_change);
+    put_le(bytes, at + 16, 1, told_if(e.marked, 1));
+    put_le(bytes, at + 17, 4, told_if(e.marked, e.last_time as u64));
+    put_le(bytes, at + 21, 8, told_if(e.marked, bits_u64(last_value)));
+}
+
+// A table without entries: its count, which is all that the code here asks of it.
+fn empty() -> ReportingTable
+    ensures { λ r. ⌜ r .count ≡ 0 ⌝ }
+{
+    ReportingTable::new()
+}
+
+// What is handed back for bytes that are no table.
+fn unknown() -> ReadTable
+    ensures { λ r. ⌜ reading r ≡ seen false [] ⌝ }
+{
+    ReadTable {
+        known: false,
+        table: empty(),
+    }
+}
+
+// The table of the first `count` slots, if each is in its one form.
+fn read_slots(bytes: &[u8], count: usize) -> ReadTable
+    requires { ⌜ (count ≤ 16) × (465 ≤ length (now bytes)) ⌝ }
+    ensures { λ r. ⌜ reading r ≡ slotsRead (rowsIn widths count (drop 1 (now (bytes .entry)))) ⌝ }
+{
+    let mut table = empty();
+    let mut i = 0;
+    while i < count {
+        let at = 1 + SLOT * i;
+        if !slot_in_form(bytes, at) {
+            return unknown();
+        }
+        table.entries[i] = read_slot(bytes, at);
+        i += 1;
+    }
+    table.count = count;
+    ReadTable { known: true, table }
+}
+
+// The table that the bytes are.
+pub fn read_table(bytes: &[u8]) -> ReadTable
+    ensures { λ r. ⌜ reading r ≡ readT 16 (now (bytes .entry)) ⌝ }
+{
+    if bytes.len() != TABLE_BYTES {
+        return unknown();
+    }
+    let count = bytes[0] as usize;
+    if LIMIT < count {
+        return unknown();
+    }
+    if !zero_from(bytes, 1 + SLOT * count) {
+        return unknown();
+    }
+    read_slots(bytes, count)
+}
+
+// Writes the table, if it is one and the bytes have its size, and says whether; otherwise the bytes are as they were.
+pub fn write_table(bytes: &mut [u8], table: ReportingTable) -> bool
+    ensures { λ r. ⌜ written r (now (bytes .exit)) ≡ writeT 16 table (now (bytes .entry)) ⌝ }
+{
+    if bytes.len() != TABLE_BYTES {
+        return false;
+    }
+    let count = table.count;
+    if LIMIT < count {
+        return false;
+    }
+    clear(bytes);
+    bytes[0] = count as u8;
+    let mut i = 0;
+    while i < count {
+        let e = table.entries[i];
+        write_slot(bytes, 1 + SLOT * i, e);
+        i += 1;
+    }
+    true
+}

@@ -1,0 +1,42 @@
+// How far apart two numbers are, without a difference that could overflow.
+ghost use mathlib.Core.Path.{_≡_};
+ghost use Prim.Native.Nat.{_+_, _-_};
+ghost use lib.Signed.{mag};
+ghost use Rattle.reporting.specs.Due.{dist};
+
+// n for n and for -(n + 1).
+fn unsigned_part(x: i64) -> u64
+    ensures { λ r. ⌜ r ≡ mag x ⌝ }
+{
+    if x >= 0 {
+        return x as u64;
+    }
+    (!x) as u64
+}
+
+// How far apart two natural numbers are.
+fn apart(x: u64, y: u64) -> u64
+    ensures { λ r. ⌜ r ≡ (x - y) + (y - x) ⌝ }
+{
+    if x < y { y - x } else { x - y }
+}
+
+// How far apart two numbers are: up to 2^64-1, for the least and the largest.
+pub fn distance(a: i64, b: i64) -> u64
+    ensures { λ r. ⌜ r ≡ dist a b ⌝ }
+{
+    let x = unsigned_part(a);
+    let y = unsigned_part(b);
+    let near = apart(x, y);
+    let far = x + y + 1;
+    if a >= 0 {
+        if b >= 0 {
+            return near;
+        }
+        return far;
+    }
+    if b >= 0 {
+        return far;
+    }
+    near
+}
