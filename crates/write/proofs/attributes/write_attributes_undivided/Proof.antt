@@ -1,0 +1,95 @@
+-- The header, the checks, and the writes where none failed. Assumes nothing.
+use mathlib.Core.Path.{sym, _∙_}
+use denote.Ref.{now}
+use lib.ListN.{length}
+use Rattle.write.proofs.Begun.{undivided-full, undivided-run, undivided-end}
+use borrow.Author.Needs.{needs}
+use Rattle.write.proofs.attributes.write_attributes_undivided.Statement.{statement}
+use Rattle.write.proofs.attributes.write_attributes_undivided.Tie as tie
+
+begin-requires : tie.Need-begin-requires
+begin-requires c κs = search needs
+
+enum-known-start : tie.Need-enum-known-start
+enum-known-start c = search needs
+
+enum-told : tie.Need-enum-told
+enum-told c = search needs
+
+refuse-requires : tie.Need-refuse-requires
+refuse-requires c κs = search needs
+
+same-length : tie.Need-same-length
+same-length c = search needs
+
+returns : tie.Need-returns
+returns c =
+    let a = c .before .before .before .before .before .before .before .before .before .before .before .before .before .args in
+    let b = c .before .before .before .before .before .before .before .before .begin in
+    let y = c .before .before .refuse in
+    undivided-full (a .request) (now (a .store)) (length (now (a .reply))) (b .result) (b .last .0) (b .ensures) (now (a .body)) (c .before .before .before .before .enum-told .given .1) (y .result) (y .last .0) (y .ensures)
+
+pass-records-requires : tie.Need-pass-records-requires
+pass-records-requires c κs = search needs
+
+is-clean-requires : tie.Need-is-clean-requires
+is-clean-requires c κs = search needs
+
+write-steps-requires : tie.Need-write-steps-requires
+write-steps-requires c κs = search needs
+
+same-length-2 : tie.Need-same-length-2
+same-length-2 c = search needs
+
+same-length-3 : tie.Need-same-length-3
+same-length-3 c = search needs
+
+returns-2 : tie.Need-returns-2
+returns-2 c =
+    let a = c .before .before .before .before .before .before .before .before .before .before .before .before .before .before .before .before .before .before .before .before .before .before .before .before .before .before .args in
+    let b = c .before .before .before .before .before .before .before .before .before .before .before .before .before .before .before .before .before .before .before .before .before .begin in
+    let x = c .before .before .before .before .before .before .before .before .before .before .before .before .before .before .before .before .before .start .given in
+    let f = c .before .before .before .before .before .before .before .before .before .before .before .before .before .pass-records in
+    let y = c .before .before .before .before .write-steps in
+    undivided-run (a .request) (now (a .store)) (length (now (a .reply))) (b .result) (b .last .0) (b .ensures) (now (a .body)) (x .0 .0) (x .1) (f .result) (f .last .0) (f .last .1 .1 .1 .1 .0) (f .ensures) (f .kept .1 .1 .1 .1 .0)
+    (sym (c .before .before .before .before .before .before .before .before .is-clean .ensures) ∙ c .before .before .before .before .before .before .before .if1 .taken) (y .result) (y .last .0) (y .last .1 .1 .1 .0) (y .ensures)
+
+conclude-requires : tie.Need-conclude-requires
+conclude-requires c κs = search needs
+
+same-length-4 : tie.Need-same-length-4
+same-length-4 c = search needs
+
+same-length-5 : tie.Need-same-length-5
+same-length-5 c = search needs
+
+returns-3 : tie.Need-returns-3
+returns-3 c =
+    let a = c .before .before .before .before .before .before .before .before .before .before .before .before .before .before .before .before .before .before .before .before .before .before .before .args in
+    let b = c .before .before .before .before .before .before .before .before .before .before .before .before .before .before .before .before .before .before .begin in
+    let x = c .before .before .before .before .before .before .before .before .before .before .before .before .before .before .start .given in
+    let f = c .before .before .before .before .before .before .before .before .before .before .pass-records in
+    let y = c .before .before .conclude in
+    undivided-end (a .request) (now (a .store)) (length (now (a .reply))) (b .result) (b .last .0) (b .ensures) (now (a .body)) (x .0 .0) (x .1) (f .result) (f .last .0) (f .last .1 .1 .1 .1 .0) (f .ensures) (f .kept .1 .1 .1 .1 .0)
+    (sym (c .before .before .before .before .before .is-clean .ensures) ∙ c .before .before .before .before .if1 .left) (y .result) (y .last .0) (y .ensures)
+
+pub write-attributes-undivided-spec : {M : Type 1} → statement M
+write-attributes-undivided-spec =
+    tie.close
+    (tie.spec
+    begin-requires
+    enum-known-start
+    enum-told
+    refuse-requires
+    same-length
+    returns
+    pass-records-requires
+    is-clean-requires
+    write-steps-requires
+    same-length-2
+    same-length-3
+    returns-2
+    conclude-requires
+    same-length-4
+    same-length-5
+    returns-3)
