@@ -1,0 +1,49 @@
+-- `attributes::read_attributes` meets its contract: no room for the header, or the walk behind it. Assumes nothing.
+use Rattle.read.proofs.Whole.{read-headless, read-walked}
+use borrow.Author.Needs.{needs}
+use Rattle.read.proofs.attributes.read_attributes.Statement.{statement}
+use Rattle.read.proofs.attributes.read_attributes.Tie as tie
+
+clear-requires : tie.Need-clear-requires
+clear-requires c κs = search needs
+
+write-response-header-requires : tie.Need-write-response-header-requires
+write-response-header-requires c κs = search needs
+
+enum-known-put : tie.Need-enum-known-put
+enum-known-put c = search needs
+
+enum-told : tie.Need-enum-told
+enum-told c = search needs
+
+same-length : tie.Need-same-length
+same-length c = search needs
+
+returns : tie.Need-returns
+returns c =
+    read-headless _ _ _ _ _ (c .before .before .before .before .before .before .before .before .clear .ensures) _ _ (c .before .before .before .before .write-response-header .ensures) (c .enum-told .given .1)
+
+read-records-requires : tie.Need-read-records-requires
+read-records-requires c κs = search needs
+
+same-length-2 : tie.Need-same-length-2
+same-length-2 c = search needs
+
+returns-2 : tie.Need-returns-2
+returns-2 c =
+    read-walked _ _ _ _ _ (c .before .before .before .before .before .before .before .before .before .before .before .before .before .clear .ensures) _ _ (c .before .before .before .before .before .before .before .before .before .write-response-header .ensures)
+    _ (c .before .before .before .before .before .put .given .1) (c .before .before .read-records .result) _ (c .before .before .read-records .ensures)
+
+pub read-attributes-spec : {M : Type 1} → statement M
+read-attributes-spec =
+    tie.close
+    (tie.spec
+    clear-requires
+    write-response-header-requires
+    enum-known-put
+    enum-told
+    same-length
+    returns
+    read-records-requires
+    same-length-2
+    returns-2)

@@ -1,0 +1,3 @@
+-- What a reader must believe of this crate.
+pub mod Read  -- Read Attributes
+pub mod Inside  -- what only inner functions say
