@@ -1,0 +1,4 @@
+-- Laws, a file for an idea. The proofs of the functions stand in the directories, under the functions' names.
+-- from what the functions of crate `reporting` ensure to what the functions towards C leave
+pub mod Bridge
+pub mod Unique

@@ -1,0 +1,2 @@
+-- What a reader must believe of this crate, a file for an idea.
+pub mod Tables  -- the reporting table through its bytes

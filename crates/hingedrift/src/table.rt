@@ -1,0 +1,162 @@
+// The reporting table's functions, on the table's bytes. Results are set to 0 first, so that a refusal leaves zeros. What was read
+// from bytes and changed fits them again, so writing back has no refusal of its own.
+ghost use mathlib.Core.Path.{_≡_};
+ghost use Rattle.hingedrift.specs.Tables.{keyOf, configOf, left, noResult, configurationAs, newLeft, configureLeft, clearLeft, markLeft, askLeft, configurationLeft};
+use frame::answer::Refusal;
+use reporting::carried::read_table;
+use reporting::carried::write_table;
+use reporting::entry::Key;
+use reporting::entry::ReportingConfig;
+use reporting::table::Change;
+use reporting::table::Report;
+use reporting::table::ReportingTable;
+use reporting::table::Setting;
+use types::ids::AttributeId;
+use types::ids::ClusterId;
+
+// The key of a cluster and an attribute, as C hands them over.
+fn key_of(cluster: u16, attribute: u16) -> Key
+    ensures { λ r. ⌜ r ≡ keyOf cluster attribute ⌝ }
+{
+    Key {
+        cluster: ClusterId(cluster),
+        attribute: AttributeId(attribute),
+    }
+}
+
+// An empty table.
+#[no_mangle]
+pub extern "C" fn hd_table_new(table: &mut [u8]) -> u8
+    ensures { λ r. ⌜ left r (now (table .exit)) noResult ≡ newLeft (now (table .entry)) ⌝ }
+{
+    if write_table(table, ReportingTable::new()) {
+        return 0;
+    }
+    Refusal::NotATable.number()
+}
+
+// Configures an attribute: 1 through `accepted` where there was room.
+#[no_mangle]
+pub extern "C" fn hd_configure(
+    table: &mut [u8],
+    cluster: u16,
+    attribute: u16,
+    minimum: u16,
+    maximum: u16,
+    change: u64,
+    accepted: &mut u8,
+) -> u8
+    ensures { λ r. ⌜ left r (now (table .exit)) (now (accepted .exit)) ≡ configureLeft (now (table .entry)) (keyOf cluster attribute) (configOf minimum maximum change) ⌝ }
+{
+    *accepted = 0;
+    let read = read_table(table);
+    if !read.known {
+        return Refusal::NotATable.number();
+    }
+    let before = read.table;
+    let config = ReportingConfig {
+        min_interval: minimum,
+        max_interval: maximum,
+        reportable_change: change,
+    };
+    let changed = before.configure(key_of(cluster, attribute), config);
+    let answer = changed.answer;
+    if let Change::Done = answer {
+        *accepted = 1;
+    }
+    write_table(table, changed.table);
+    0
+}
+
+// Takes an attribute's configuration out of the table.
+#[no_mangle]
+pub extern "C" fn hd_clear(table: &mut [u8], cluster: u16, attribute: u16) -> u8
+    ensures { λ r. ⌜ left r (now (table .exit)) noResult ≡ clearLeft (now (table .entry)) (keyOf cluster attribute) ⌝ }
+{
+    let read = read_table(table);
+    if !read.known {
+        return Refusal::NotATable.number();
+    }
+    let before = read.table;
+    let changed = before.clear(key_of(cluster, attribute));
+    write_table(table, changed.table);
+    0
+}
+
+// An attribute's configuration: 1 through `found` where it has one, and its three numbers.
+#[no_mangle]
+pub extern "C" fn hd_configuration(
+    table: &[u8],
+    cluster: u16,
+    attribute: u16,
+    found: &mut u8,
+    minimum: &mut u16,
+    maximum: &mut u16,
+    change: &mut u64,
+) -> u8
+    ensures { λ r. ⌜ left r (now (table .entry)) (configurationAs (now (found .exit)) (now (minimum .exit)) (now (maximum .exit)) (now (change .exit))) ≡ configurationLeft (now (table .entry)) (keyOf cluster attribute) ⌝ }
+{
+    *found = 0;
+    *minimum = 0;
+    *maximum = 0;
+    *change = 0;
+    let read = read_table(table);
+    if !read.known {
+        return Refusal::NotATable.number();
+    }
+    let before = read.table;
+    let setting = before.configuration(key_of(cluster, attribute));
+    if let Setting::Given(config) = setting {
+        *found = 1;
+        *minimum = config.min_interval;
+        *maximum = config.max_interval;
+        *change = config.reportable_change;
+    }
+    0
+}
+
+// Whether a report of `value` is due at `now`: 1 through `due`. The parameter hides the clauses' `now`: a clause says `.now`.
+#[no_mangle]
+pub extern "C" fn hd_ask(
+    table: &[u8],
+    cluster: u16,
+    attribute: u16,
+    now: u32,
+    value: i64,
+    due: &mut u8,
+) -> u8
+    ensures { λ r. ⌜ left r (table .entry .now) (due .exit .now) ≡ askLeft (table .entry .now) (keyOf cluster attribute) now value ⌝ }
+{
+    *due = 0;
+    let read = read_table(table);
+    if !read.known {
+        return Refusal::NotATable.number();
+    }
+    let before = read.table;
+    let report = before.ask(key_of(cluster, attribute), now, value);
+    if let Report::Due = report {
+        *due = 1;
+    }
+    0
+}
+
+// Keeps the time and the value of a report that was sent.
+#[no_mangle]
+pub extern "C" fn hd_mark(
+    table: &mut [u8],
+    cluster: u16,
+    attribute: u16,
+    now: u32,
+    value: i64,
+) -> u8
+    ensures { λ r. ⌜ left r (table .exit .now) noResult ≡ markLeft (table .entry .now) (keyOf cluster attribute) now value ⌝ }
+{
+    let read = read_table(table);
+    if !read.known {
+        return Refusal::NotATable.number();
+    }
+    let before = read.table;
+    let changed = before.mark(key_of(cluster, attribute), now, value);
+    write_table(table, changed.table);
+    0
+}

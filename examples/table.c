@@ -1,0 +1,70 @@
+/*
+ * How a driver uses the reporting table: configure an attribute, ask before each report whether it is due, and mark each report
+ * that was sent. Every answer is checked; examples/run compares what is printed with table.expected.
+ */
+#include <inttypes.h>
+#include <stdio.h>
+#include <stdlib.h>
+
+#include "hingedrift.h"
+
+/* The attribute that is reported. Its asks below are document 01's bench frame 11. */
+enum { CLUSTER = 0xfc21, ATTRIBUTE = 0x0005 };
+
+/* The table lives as long as the driver does. */
+static uint8_t table[HD_TABLE_BYTES];
+
+/* Ends the program when an answer is not the expected one. */
+static void expect(int right, const char *what)
+{
+    if (!right) {
+        printf("surprise: %s\n", what);
+        exit(1);
+    }
+}
+
+/* Asks at a time with a value, and prints the answer. */
+static void ask(uint32_t now, int64_t value, int expected)
+{
+    uint8_t due;
+
+    expect(hd_ask(table, sizeof table, CLUSTER, ATTRIBUTE, now, value, &due) == HD_OK, "an ask was refused");
+    printf("ask at %" PRIu32 " with %" PRId64 ": %s\n", now, value, due ? "report" : "not yet");
+    expect(due == expected, "the ask has another answer");
+}
+
+int main(void)
+{
+    uint8_t accepted, found;
+    uint16_t minimum, maximum;
+    uint64_t change;
+
+    expect(hd_table_new(table, sizeof table) == HD_OK, "no new table");
+    printf("new table: %u of 16 configured\n", table[0]);
+
+    /* At least 10 seconds apart, at most 60, and in between when the value has moved by 50 or more. */
+    expect(hd_configure(table, sizeof table, CLUSTER, ATTRIBUTE, 10, 60, 50, &accepted) == HD_OK, "configure was refused");
+    expect(accepted == 1, "there was no room");
+    printf("configured: %u of 16\n", table[0]);
+
+    expect(hd_configuration(table, sizeof table, CLUSTER, ATTRIBUTE, &found, &minimum, &maximum, &change) == HD_OK, "configuration was refused");
+    expect(found == 1 && minimum == 10 && maximum == 60 && change == 50, "another configuration");
+    printf("configuration: %u to %u seconds, change %" PRIu64 "\n", minimum, maximum, change);
+
+    /* The first ask is a yes. A report that was sent is marked, with its time and value. */
+    ask(100, -200, 1);
+    expect(hd_mark(table, sizeof table, CLUSTER, ATTRIBUTE, 100, -200) == HD_OK, "mark was refused");
+    printf("marked at 100 with -200\n");
+
+    ask(109, 0, 0);     /* under the minimum, however far the value moved */
+    ask(110, -151, 0);  /* moved by 49 */
+    ask(110, -150, 1);  /* moved by 50 */
+    ask(159, -200, 0);  /* not moved */
+    ask(160, -200, 1);  /* the maximum */
+    ask(90, 0, 0);      /* the clock went back: no time has passed */
+
+    expect(hd_clear(table, sizeof table, CLUSTER, ATTRIBUTE) == HD_OK, "clear was refused");
+    printf("cleared: %u of 16 configured\n", table[0]);
+    ask(1000, 0, 0);
+    return 0;
+}
