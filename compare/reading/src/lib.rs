@@ -5,6 +5,7 @@
 mod extent;
 mod header;
 pub mod store;
+pub mod table;
 mod types;
 
 pub use extent::{Extent, extent};

@@ -2,7 +2,7 @@
 //! frames 9 and 11.
 
 use zigbee_cluster_library::frame::Status;
-use zigbee_cluster_library::reporting::{AttributeReporting, ReportingTable};
+use zigbee_cluster_library::reporting::{AttributeReporting, ReportingConfig, ReportingTable};
 use zigbee_cluster_library::server::ClusterServer;
 use zigbee_cluster_library::types::descriptors::{AccessFlags, AttrInfo, Cluster};
 use zigbee_cluster_library::types::ids::{AttributeId, ClusterId, TypeId};
@@ -91,4 +91,27 @@ fn configure() {
         let answer = server.0.should_report(CLUSTER, attribute, now, value);
         assert_eq!(answer, due, "{now} {value}");
     }
+}
+
+/// What src/lib.rs adds: the entries, in order and in full.
+#[test]
+fn entries_shown() {
+    let table: ReportingTable<2> = ReportingTable::new();
+    let config = |change| ReportingConfig {
+        min_interval: 1,
+        max_interval: 2,
+        reportable_change: change,
+    };
+    assert_eq!(table.shown(), []);
+    assert!(table.configure(CLUSTER, AttributeId(5), config(7)));
+    assert!(table.configure(CLUSTER, AttributeId(4), config(8)));
+    table.reported(CLUSTER, AttributeId(4), 100, -200);
+    let first = (CLUSTER, AttributeId(5), config(7), None);
+    let second = (CLUSTER, AttributeId(4), config(8), Some((100, -200)));
+    assert_eq!(table.shown(), [first, second]);
+
+    let again: ReportingTable<2> = ReportingTable::of(&[first, second, first]);
+    assert_eq!(again.shown(), [first, second]);
+    again.clear(CLUSTER, AttributeId(5));
+    assert_eq!(again.shown(), [second]);
 }

@@ -1,0 +1,150 @@
+//! Calls by kind and answer, and how often each came.
+
+use reading::table::{Broken, Entry, Reason, ask, moved, place};
+
+use crate::call::{Answer, Call};
+
+/// All kinds; a run that does not reach each of them has failed.
+const KINDS: [&str; 34] = [
+    "configure accepted, new key",
+    "configure accepted, key again",
+    "configure not accepted",
+    "clear, key stood last",
+    "clear, key stood before others",
+    "clear, key did not stand",
+    "configuration found",
+    "configuration not found",
+    "mark, for the first time",
+    "mark, again",
+    "mark, no entry",
+    "ask no: no entry",
+    "ask no: disabled",
+    "ask yes: never marked",
+    "ask no: below minimum",
+    "ask no: below minimum, which is above maximum, and at maximum",
+    "ask no: clock back, below minimum",
+    "ask yes: at maximum",
+    "ask yes: at maximum, and at minimum, which is above it",
+    "ask yes: moved enough",
+    "ask yes: moved enough, maximum 0",
+    "ask yes: moved enough, by 2^63 or more",
+    "ask yes: clock back, moved enough",
+    "ask no: moved too little",
+    "ask no: moved too little, by 2^63 or more",
+    "ask no: clock back, moved too little",
+    "ask no: not moved",
+    "ask no: clock back, not moved",
+    "damaged: length",
+    "damaged: count",
+    "damaged: slot past the count",
+    "damaged: flag",
+    "damaged: time or value under flag 0",
+    "damaged: another table",
+];
+
+pub struct Kinds([u64; KINDS.len()]);
+
+impl Kinds {
+    pub fn new() -> Self {
+        Self([0; KINDS.len()])
+    }
+
+    pub fn count(&mut self, kind: &'static str) {
+        let place = KINDS.iter().position(|&known| known == kind);
+        self.0[place.expect("the kind is listed")] += 1;
+    }
+
+    /// The kinds that never came.
+    pub fn missing(&self) -> Vec<&'static str> {
+        let each = KINDS.into_iter().zip(self.0);
+        each.filter_map(|(kind, count)| (count == 0).then_some(kind))
+            .collect()
+    }
+
+    pub fn list(&self) -> String {
+        KINDS
+            .iter()
+            .zip(self.0)
+            .map(|(kind, count)| format!("{count:9}  {kind}\n"))
+            .collect()
+    }
+}
+
+/// The kind of a call on a table of these entries, which was answered so. An
+/// ask's answer is the reason's: `Pair::give` has seen to that.
+pub fn of(entries: &[Entry], call: &Call, answer: &Answer) -> &'static str {
+    let yes = answer.written[0] == 1;
+    match *call {
+        Call::Configure(..) if !yes => "configure not accepted",
+        Call::Configure(key, _) => match place(entries, key) {
+            Some(_) => "configure accepted, key again",
+            None => "configure accepted, new key",
+        },
+        Call::Clear(key) => match place(entries, key) {
+            Some(place) if place + 1 == entries.len() => "clear, key stood last",
+            Some(_) => "clear, key stood before others",
+            None => "clear, key did not stand",
+        },
+        Call::Configuration(_) if yes => "configuration found",
+        Call::Configuration(_) => "configuration not found",
+        Call::Mark(key, ..) => match place(entries, key) {
+            Some(place) if entries[place].last.is_none() => "mark, for the first time",
+            Some(_) => "mark, again",
+            None => "mark, no entry",
+        },
+        Call::Ask(key, now, value) => {
+            let reason = ask(entries, key, now, value);
+            let entry = place(entries, key).map(|place| entries[place]);
+            of_ask(reason, entry, now, value)
+        }
+    }
+}
+
+fn of_ask(reason: Reason, entry: Option<Entry>, now: u32, value: i64) -> &'static str {
+    let Some(entry) = entry else {
+        return "ask no: no entry";
+    };
+    let Some((time, reported)) = entry.last else {
+        return match reason {
+            Reason::Disabled => "ask no: disabled",
+            _ => "ask yes: never marked",
+        };
+    };
+    let maximum = entry.config.maximum;
+    let crossed = 0 < maximum && maximum < entry.config.minimum;
+    let far = moved(value, reported) >= 1 << 63;
+    let back = now < time;
+    match reason {
+        Reason::NoEntry => "ask no: no entry",
+        Reason::Disabled => "ask no: disabled",
+        Reason::NeverMarked => "ask yes: never marked",
+        Reason::BelowMinimum if back => "ask no: clock back, below minimum",
+        Reason::BelowMinimum if crossed && now - time >= maximum.into() => {
+            "ask no: below minimum, which is above maximum, and at maximum"
+        }
+        Reason::BelowMinimum => "ask no: below minimum",
+        Reason::AtMaximum if crossed => "ask yes: at maximum, and at minimum, which is above it",
+        Reason::AtMaximum => "ask yes: at maximum",
+        Reason::MovedEnough if back => "ask yes: clock back, moved enough",
+        Reason::MovedEnough if far => "ask yes: moved enough, by 2^63 or more",
+        Reason::MovedEnough if maximum == 0 => "ask yes: moved enough, maximum 0",
+        Reason::MovedEnough => "ask yes: moved enough",
+        Reason::MovedTooLittle if back => "ask no: clock back, moved too little",
+        Reason::MovedTooLittle if far => "ask no: moved too little, by 2^63 or more",
+        Reason::MovedTooLittle => "ask no: moved too little",
+        Reason::NotMoved if back => "ask no: clock back, not moved",
+        Reason::NotMoved => "ask no: not moved",
+    }
+}
+
+/// The kind of a damaged table.
+pub fn of_damaged(read: &Result<Vec<Entry>, Broken>) -> &'static str {
+    match read {
+        Err(Broken::Length) => "damaged: length",
+        Err(Broken::Count) => "damaged: count",
+        Err(Broken::Unused) => "damaged: slot past the count",
+        Err(Broken::Flag) => "damaged: flag",
+        Err(Broken::Unreported) => "damaged: time or value under flag 0",
+        Ok(_) => "damaged: another table",
+    }
+}

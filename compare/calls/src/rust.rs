@@ -1,0 +1,97 @@
+//! The Rust: the held `ReportingTable<16>`, with answers in our form.
+
+use reading::table::{Config, Entry, Key};
+use zigbee_cluster_library::Shown;
+use zigbee_cluster_library::reporting::{AttributeReporting, ReportingConfig, ReportingTable};
+use zigbee_cluster_library::types::ids::{AttributeId, ClusterId};
+
+use crate::call::{Answer, Call};
+
+pub struct Rust(ReportingTable<16>);
+
+impl Rust {
+    pub fn new() -> Self {
+        Self(ReportingTable::new())
+    }
+
+    /// A table of these entries, however they came about.
+    pub fn of(entries: &[Entry]) -> Self {
+        let shown: Vec<Shown> = entries.iter().map(to_rust).collect();
+        Self(ReportingTable::of(&shown))
+    }
+
+    /// The entries, in their order.
+    pub fn entries(&self) -> Vec<Entry> {
+        let entries: Vec<Entry> = self.0.shown().into_iter().map(from_rust).collect();
+        assert_eq!(entries.len(), self.0.len(), "all entries are shown");
+        entries
+    }
+
+    pub fn call(&self, call: &Call) -> Answer {
+        match *call {
+            Call::Configure(key, config) => {
+                let (cluster, attribute) = ids(key);
+                let config = ReportingConfig {
+                    min_interval: config.minimum,
+                    max_interval: config.maximum,
+                    reportable_change: config.change,
+                };
+                Answer::yes(self.0.configure(cluster, attribute, config))
+            }
+            Call::Clear(key) => {
+                let (cluster, attribute) = ids(key);
+                self.0.clear(cluster, attribute);
+                Answer::DONE
+            }
+            Call::Configuration(key) => {
+                let (cluster, attribute) = ids(key);
+                let found = self.0.configuration(cluster, attribute);
+                Answer::found(found.map(config_from_rust))
+            }
+            Call::Ask(key, now, value) => Answer::yes(self.ask(key, now, value)),
+            Call::Mark(key, now, value) => {
+                let (cluster, attribute) = ids(key);
+                self.0.reported(cluster, attribute, now, value);
+                Answer::DONE
+            }
+        }
+    }
+
+    pub fn ask(&self, key: Key, now: u32, value: i64) -> bool {
+        let (cluster, attribute) = ids(key);
+        self.0.should_report(cluster, attribute, now, value)
+    }
+}
+
+fn ids(key: Key) -> (ClusterId, AttributeId) {
+    (ClusterId(key.cluster), AttributeId(key.attribute))
+}
+
+fn config_from_rust(config: ReportingConfig) -> Config {
+    Config {
+        minimum: config.min_interval,
+        maximum: config.max_interval,
+        change: config.reportable_change,
+    }
+}
+
+fn from_rust((cluster, attribute, config, last): Shown) -> Entry {
+    Entry {
+        key: Key {
+            cluster: cluster.0,
+            attribute: attribute.0,
+        },
+        config: config_from_rust(config),
+        last,
+    }
+}
+
+fn to_rust(entry: &Entry) -> Shown {
+    let (cluster, attribute) = ids(entry.key);
+    let config = ReportingConfig {
+        min_interval: entry.config.minimum,
+        max_interval: entry.config.maximum,
+        reportable_change: entry.config.change,
+    };
+    (cluster, attribute, config, entry.last)
+}

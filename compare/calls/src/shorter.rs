@@ -1,0 +1,50 @@
+//! A history that goes wrong, cut to what is needed.
+
+/// The history without every call that it goes wrong without. `wrong` says at
+/// which call a history goes wrong, if it does.
+pub fn shorter<T: Clone>(history: &[T], wrong: impl Fn(&[T]) -> Option<usize>) -> Vec<T> {
+    let mut history = history.to_vec();
+    let mut size = history.len();
+    while size > 0 {
+        let mut at = 0;
+        while at < history.len() {
+            let end = history.len().min(at + size);
+            let without = [&history[..at], &history[end..]].concat();
+            if let Some(last) = wrong(&without) {
+                history = without[..=last].to_vec();
+            } else {
+                at = end;
+            }
+        }
+        size /= 2;
+    }
+    history
+}
+
+#[cfg(test)]
+mod tests {
+    use super::shorter;
+
+    #[test]
+    fn only_what_is_needed() {
+        // wrong at a 9 after a 3 after a 5
+        let wrong = |history: &[u32]| {
+            let five = history.iter().position(|&call| call == 5)?;
+            let three = five + history[five..].iter().position(|&call| call == 3)?;
+            let nine = history[three..].iter().position(|&call| call == 9)?;
+            Some(three + nine)
+        };
+        let history: Vec<u32> = (0..400).map(|call| call * 7 % 11).collect();
+        assert_eq!(shorter(&history, wrong), [5, 3, 9]);
+        assert_eq!(shorter(&[5, 3, 9], wrong), [5, 3, 9]);
+        assert_eq!(shorter(&[5, 5, 3, 1, 9, 2], wrong), [5, 3, 9]);
+    }
+
+    #[test]
+    fn wrong_from_the_start() {
+        assert_eq!(
+            shorter(&[1, 2, 3], |history| history.len().checked_sub(1)),
+            [3]
+        );
+    }
+}

@@ -1,0 +1,155 @@
+//! The reporting table: its bytes towards C, and what an ask says.
+
+/// A table has room for this many entries.
+pub const ENTRIES: usize = 16;
+
+/// An entry's bytes.
+pub const SLOT: usize = 29;
+
+/// A table's bytes: the count, then the slots.
+pub const SIZE: usize = 1 + ENTRIES * SLOT;
+
+#[derive(Debug, Clone, Copy, PartialEq, Eq)]
+pub struct Key {
+    pub cluster: u16,
+    pub attribute: u16,
+}
+
+#[derive(Debug, Clone, Copy, PartialEq, Eq)]
+pub struct Config {
+    pub minimum: u16,
+    pub maximum: u16,
+    pub change: u64,
+}
+
+#[derive(Debug, Clone, Copy, PartialEq, Eq)]
+pub struct Entry {
+    pub key: Key,
+    pub config: Config,
+    /// Time and value of the last report.
+    pub last: Option<(u32, i64)>,
+}
+
+/// The first sentence of the layout that some bytes break.
+#[derive(Debug, Clone, Copy, PartialEq, Eq)]
+pub enum Broken {
+    Length,
+    /// More entries than there is room for.
+    Count,
+    /// A slot past the count is not all zero.
+    Unused,
+    /// Neither 0 nor 1.
+    Flag,
+    /// A time or a value under flag 0.
+    Unreported,
+}
+
+/// The entries of a table's bytes, in their order.
+pub fn entries(bytes: &[u8]) -> Result<Vec<Entry>, Broken> {
+    if bytes.len() != SIZE {
+        return Err(Broken::Length);
+    }
+    let count = usize::from(bytes[0]);
+    if count > ENTRIES {
+        return Err(Broken::Count);
+    }
+    let (used, unused) = bytes[1..].split_at(count * SLOT);
+    if unused.iter().any(|&byte| byte != 0) {
+        return Err(Broken::Unused);
+    }
+    used.chunks(SLOT).map(entry).collect()
+}
+
+/// Whether the bytes keep every sentence of the layout.
+pub fn is_table(bytes: &[u8]) -> bool {
+    entries(bytes).is_ok()
+}
+
+fn entry(slot: &[u8]) -> Result<Entry, Broken> {
+    let time = u32::from_le_bytes(field(slot, 17));
+    let value = i64::from_le_bytes(field(slot, 21));
+    let last = match slot[16] {
+        0 if (time, value) == (0, 0) => None,
+        0 => return Err(Broken::Unreported),
+        1 => Some((time, value)),
+        _ => return Err(Broken::Flag),
+    };
+    Ok(Entry {
+        key: Key {
+            cluster: u16::from_le_bytes(field(slot, 0)),
+            attribute: u16::from_le_bytes(field(slot, 2)),
+        },
+        config: Config {
+            minimum: u16::from_le_bytes(field(slot, 4)),
+            maximum: u16::from_le_bytes(field(slot, 6)),
+            change: u64::from_le_bytes(field(slot, 8)),
+        },
+        last,
+    })
+}
+
+fn field<const N: usize>(slot: &[u8], at: usize) -> [u8; N] {
+    *slot[at..]
+        .first_chunk()
+        .expect("every field is in the slot")
+}
+
+/// The place of the first entry of `key`.
+pub fn place(entries: &[Entry], key: Key) -> Option<usize> {
+    entries.iter().position(|entry| entry.key == key)
+}
+
+/// What decides an ask.
+#[derive(Debug, Clone, Copy, PartialEq, Eq)]
+pub enum Reason {
+    NoEntry,
+    /// The maximum is ffff.
+    Disabled,
+    NeverMarked,
+    BelowMinimum,
+    AtMaximum,
+    NotMoved,
+    MovedTooLittle,
+    MovedEnough,
+}
+
+impl Reason {
+    pub fn is_due(self) -> bool {
+        matches!(
+            self,
+            Self::NeverMarked | Self::AtMaximum | Self::MovedEnough
+        )
+    }
+}
+
+/// Whether `value` is to be reported at `now`, by its reason.
+pub fn ask(entries: &[Entry], key: Key, now: u32, value: i64) -> Reason {
+    let Some(place) = place(entries, key) else {
+        return Reason::NoEntry;
+    };
+    let Entry { config, last, .. } = entries[place];
+    if config.maximum == 0xffff {
+        return Reason::Disabled;
+    }
+    let Some((time, reported)) = last else {
+        return Reason::NeverMarked;
+    };
+    // a clock that went back has not moved
+    let elapsed = (i64::from(now) - i64::from(time)).max(0);
+    if elapsed < config.minimum.into() {
+        return Reason::BelowMinimum;
+    }
+    if config.maximum != 0 && elapsed >= config.maximum.into() {
+        return Reason::AtMaximum;
+    }
+    match moved(value, reported) {
+        0 => Reason::NotMoved,
+        moved if moved < config.change.into() => Reason::MovedTooLittle,
+        _ => Reason::MovedEnough,
+    }
+}
+
+/// How far two values are apart: at most 2^64 - 1.
+pub fn moved(value: i64, reported: i64) -> u128 {
+    (i128::from(value) - i128::from(reported)).unsigned_abs()
+}

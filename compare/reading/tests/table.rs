@@ -1,0 +1,222 @@
+//! A table's bytes, what breaks them, and bench frame 11's asks.
+
+use reading::table::Broken::{Count, Flag, Length, Unreported, Unused};
+use reading::table::{Config, Entry, Key, Reason, ask, entries, is_table, moved, place};
+
+const FIRST: Entry = Entry {
+    key: Key {
+        cluster: 0xfc21,
+        attribute: 5,
+    },
+    config: Config {
+        minimum: 10,
+        maximum: 60,
+        change: 50,
+    },
+    last: Some((100, -200)),
+};
+
+const SECOND: Entry = Entry {
+    key: Key {
+        cluster: 0x0102,
+        attribute: 0x0304,
+    },
+    config: Config {
+        minimum: 0x0506,
+        maximum: 0x0708,
+        change: 0x090a_0b0c_0d0e_0f10,
+    },
+    last: None,
+};
+
+fn bytes(hex: &str) -> Vec<u8> {
+    let hex: String = hex.split_whitespace().collect();
+    (0..hex.len() / 2)
+        .map(|at| u8::from_str_radix(&hex[2 * at..2 * at + 2], 16).expect("hex"))
+        .collect()
+}
+
+/// `FIRST` and `SECOND`, and fourteen slots that are not in use.
+fn two() -> Vec<u8> {
+    let used = bytes(
+        "02
+         21fc 0500 0a00 3c00 3200000000000000 01 64000000 38ffffffffffffff
+         0201 0403 0605 0807 100f0e0d0c0b0a09 00 00000000 0000000000000000",
+    );
+    assert_eq!(used.len(), 59);
+    [used, vec![0; 406]].concat()
+}
+
+/// Two entries with the byte at `at` set.
+fn with(at: usize, byte: u8) -> Vec<u8> {
+    let mut table = two();
+    assert_ne!(table[at], byte, "a change");
+    table[at] = byte;
+    table
+}
+
+#[test]
+fn two_entries_in_order() {
+    assert_eq!(entries(&two()), Ok(vec![FIRST, SECOND]));
+    assert!(is_table(&two()));
+}
+
+#[test]
+fn none_and_sixteen() {
+    assert_eq!(entries(&[0; 465]), Ok(vec![]));
+    let slot = two()[1..30].to_vec();
+    let full = [vec![16], slot.repeat(16)].concat();
+    assert_eq!(entries(&full), Ok(vec![FIRST; 16]));
+    let blank = [vec![16], vec![0; 464]].concat();
+    assert_eq!(entries(&blank).map(|entries| entries.len()), Ok(16));
+    for count in 0..16 {
+        let mut fewer = full.clone();
+        fewer[0] = count;
+        assert_eq!(entries(&fewer), Err(Unused), "{count}");
+    }
+    for count in 17..=255 {
+        let mut more = full.clone();
+        more[0] = count;
+        assert_eq!(entries(&more), Err(Count), "{count}");
+    }
+}
+
+#[test]
+fn other_lengths() {
+    for length in (0..465).chain([466, 494, 930, 3713]) {
+        let mut table = two();
+        table.resize(length, 0);
+        assert_eq!(entries(&table), Err(Length), "{length}");
+    }
+}
+
+#[test]
+fn counts() {
+    assert_eq!(entries(&with(0, 0)), Err(Unused));
+    assert_eq!(entries(&with(0, 1)), Err(Unused));
+    let blank = Entry {
+        key: Key {
+            cluster: 0,
+            attribute: 0,
+        },
+        config: Config {
+            minimum: 0,
+            maximum: 0,
+            change: 0,
+        },
+        last: None,
+    };
+    assert_eq!(entries(&with(0, 3)), Ok(vec![FIRST, SECOND, blank]));
+    assert_eq!(entries(&with(0, 17)), Err(Count));
+    assert_eq!(entries(&with(0, 255)), Err(Count));
+}
+
+#[test]
+fn slots_past_the_count() {
+    for at in 59..465 {
+        assert_eq!(entries(&with(at, 1)), Err(Unused), "{at}");
+    }
+}
+
+#[test]
+fn flags() {
+    for flag in 2..=255 {
+        assert_eq!(entries(&with(17, flag)), Err(Flag), "{flag}");
+        assert_eq!(entries(&with(46, flag)), Err(Flag), "{flag}");
+    }
+    assert_eq!(entries(&with(17, 0)), Err(Unreported));
+    let marked = Entry {
+        last: Some((0, 0)),
+        ..SECOND
+    };
+    assert_eq!(entries(&with(46, 1)), Ok(vec![FIRST, marked]));
+}
+
+#[test]
+fn unreported() {
+    for at in 47..59 {
+        assert_eq!(entries(&with(at, 1)), Err(Unreported), "{at}");
+        assert_eq!(entries(&with(at, 0x80)), Err(Unreported), "{at}");
+    }
+}
+
+/// Every byte of a key, an interval or a change counts, and none breaks it.
+#[test]
+fn any_numbers() {
+    for at in (1..17).chain(18..30).chain(30..46) {
+        let changed = entries(&with(at, 0xee)).expect("a table");
+        assert_ne!(changed, [FIRST, SECOND], "{at}");
+    }
+    let time = entries(&with(21, 0x80)).expect("a table");
+    assert_eq!(time[0].last, Some((0x8000_0064, -200)));
+    let value = entries(&with(29, 0x7f)).expect("a table");
+    assert_eq!(value[0].last, Some((100, i64::MAX - 199)));
+}
+
+#[test]
+fn first_of_equal_keys() {
+    let again = Entry {
+        last: None,
+        ..FIRST
+    };
+    let table = [SECOND, again, FIRST];
+    assert_eq!(place(&table, FIRST.key), Some(1));
+    assert_eq!(ask(&table, FIRST.key, 0, 0), Reason::NeverMarked);
+    let exchanged = Key {
+        cluster: 5,
+        attribute: 0xfc21,
+    };
+    assert_eq!(place(&table, exchanged), None);
+}
+
+#[test]
+fn bench_frame_11() {
+    for (now, value, due, reason) in [
+        (109, 0, false, Reason::BelowMinimum),
+        (110, -151, false, Reason::MovedTooLittle),
+        (110, -150, true, Reason::MovedEnough),
+        (159, -200, false, Reason::NotMoved),
+        (160, -200, true, Reason::AtMaximum),
+        (90, 0, false, Reason::BelowMinimum),
+    ] {
+        let answer = ask(&[SECOND, FIRST], FIRST.key, now, value);
+        assert_eq!(answer, reason, "{now} {value}");
+        assert_eq!(answer.is_due(), due, "{now} {value}");
+    }
+}
+
+#[test]
+fn other_asks() {
+    let of = |minimum, maximum, change, last| {
+        let config = Config {
+            minimum,
+            maximum,
+            change,
+        };
+        [Entry {
+            config,
+            last,
+            ..FIRST
+        }]
+    };
+    let key = FIRST.key;
+    assert_eq!(ask(&[], key, 0, 0), Reason::NoEntry);
+    assert_eq!(ask(&of(0, 0xffff, 0, None), key, 0, 0), Reason::Disabled);
+    assert_eq!(ask(&of(1, 60, 0, None), key, 0, 0), Reason::NeverMarked);
+
+    let never = of(0, 0, 1, Some((0, 0)));
+    assert_eq!(ask(&never, key, u32::MAX, 0), Reason::NotMoved);
+
+    let crossed = of(61, 60, 0, Some((0, 0)));
+    assert_eq!(ask(&crossed, key, 60, 9), Reason::BelowMinimum);
+    assert_eq!(ask(&crossed, key, 61, 0), Reason::AtMaximum);
+
+    let back = of(0, 1, 3, Some((100, 0)));
+    assert_eq!(ask(&back, key, 0, 2), Reason::MovedTooLittle);
+    assert_eq!(ask(&back, key, 99, -3), Reason::MovedEnough);
+
+    let far = of(0, 0, u64::MAX, Some((0, i64::MIN)));
+    assert_eq!(ask(&far, key, 0, i64::MAX), Reason::MovedEnough);
+    assert_eq!(ask(&far, key, 0, i64::MAX - 1), Reason::MovedTooLittle);
+    assert_eq!(moved(i64::MAX, i64::MIN), u64::MAX.into());
+}
