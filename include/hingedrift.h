@@ -31,10 +31,10 @@ extern "C" {
 uint8_t hd_table_new(uint8_t *table, size_t table_len);
 
 /*
- * Configures an attribute: its reports come at least `minimum` seconds apart; from then on when the value has moved by `change`
- * or more, and at all, and after `maximum` seconds whatever the value. A maximum of 0 sets no such limit, ffff means no reports.
- * What was configured for the attribute before is replaced, and its last report forgotten. Writes 1 to *accepted, or 0 where 16
- * other attributes are configured; the table is then as it was, and the call returns HD_OK all the same.
+ * Configures an attribute, in place of what was configured for it before, and forgets its last report. A report is due when
+ * `minimum` seconds have passed since the last one and the value has moved, by `change` or more; or when `maximum` seconds have
+ * passed too, whatever the value (0: never for the time alone; ffff: no reports at all).
+ * Writes 1 to *accepted, or 0 where 16 other attributes are configured: the table is then as it was, and HD_OK is returned.
  */
 uint8_t hd_configure(uint8_t *table, size_t table_len, uint16_t cluster, uint16_t attribute, uint16_t minimum, uint16_t maximum, uint64_t change, uint8_t *accepted);
 
@@ -45,8 +45,8 @@ uint8_t hd_clear(uint8_t *table, size_t table_len, uint16_t cluster, uint16_t at
 uint8_t hd_configuration(const uint8_t *table, size_t table_len, uint16_t cluster, uint16_t attribute, uint8_t *found, uint16_t *minimum, uint16_t *maximum, uint64_t *change);
 
 /*
- * Writes to *due whether the attribute should be reported at the time `now`, in seconds, if its value is `value`: 1 or 0. The
- * first ask after a configuration is a 1, unless its maximum is ffff; an attribute that is not configured gets 0.
+ * Writes to *due whether the attribute should be reported at the time `now`, in seconds, if its value is `value`: 1 or 0.
+ * From hd_configure to the first hd_mark it is 1, unless the maximum is ffff; an attribute that is not configured gets 0.
  */
 uint8_t hd_ask(const uint8_t *table, size_t table_len, uint16_t cluster, uint16_t attribute, uint32_t now, int64_t value, uint8_t *due);
 
