@@ -11,3 +11,5 @@ pub mod Headers
 pub mod Worked
 -- records one after the other, and walks over them
 pub mod Walks
+-- the records of a reply as bytes, put one behind the other
+pub mod Encoded

@@ -5,3 +5,4 @@ pub mod Reply
 pub mod Header
 pub mod Answer
 pub mod Walk
+pub mod Encoded

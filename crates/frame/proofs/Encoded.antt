@@ -1,0 +1,70 @@
+-- The laws of records as bytes (`specs/Encoded.antt`), for any record. Assumes nothing.
+use mathlib.Core.Path.{_≡_, refl, sym, ap, _∙_, subst}
+use mathlib.Core.Bool.{true, false}
+use mathlib.Core.List.{List, [], _∷_, _++_, append-assoc, append-nil}
+use Prim.Native.Nat.{ℕ, _+_, _≤_, _<_}
+use native.Mathlib.Omega.{arith}
+use lib.ListN.{length, length-append}
+use borrow.Author.Tests.{le-leb, lt-leb, leb-true}
+use Rattle.frame.specs.Reply.{over, putting, put, Shows}
+use Rattle.frame.specs.declared.reply.Put.{Put}
+use Rattle.frame.specs.declared.reply.Put.the-variants.{At, Full}
+use Rattle.frame.specs.Encoded.{encodeAll, fits, Longer, Stays, Ways}
+use Rattle.frame.proofs.Buffer.{length-over, over-append, put-fits, put-at, shows-put, shows-full}
+
+-- a run put behind a run is the two put as one, if there is room for both
+pub put-two : (d : List ℕ) (at : ℕ) (a b : List ℕ) (r₁ : Put) (o : ℕ) (d₁ : List ℕ) (r₂ : Put) (d₂ : List ℕ) → at + length (a ++ b) ≤ length d
+    → putting r₁ d₁ ≡ put d at a → r₁ ≡ At o → putting r₂ d₂ ≡ put d₁ o b → putting r₂ d₂ ≡ put d at (a ++ b)
+put-two d at a b r₁ o d₁ r₂ d₂ h p q g =
+    let n : length (a ++ b) ≡ length a + length b = length-append a b in
+    let w = put-at d at a r₁ o d₁ p q in
+    let l : length (over d at a) ≡ length d = length-over d at a (w .0) in
+    let m : at + length a + length b ≡ at + length (a ++ b) = omega arith in
+    g
+    ∙ ap (λ (k : ℕ). put d₁ k b) (w .1 .0)
+    ∙ ap (λ (x : List ℕ). put x (at + length a) b) (w .1 .1)
+    ∙ put-fits (over d at a) (at + length a) b (omega arith)
+    ∙ ap (λ (k : ℕ). putting (At k) (over (over d at a) (at + length a) b)) m
+    ∙ ap (putting (At (at + length (a ++ b)))) (over-append d at a b (w .0))
+    ∙ sym (put-fits d at (a ++ b) h)
+
+module _ {R : Type 0} (encode : R → List ℕ) where
+  -- the bytes of records and then of others
+  pub encode-all-append : (a b : List R) → encodeAll encode (a ++ b) ≡ encodeAll encode a ++ encodeAll encode b
+  unfolding encodeAll
+  encode-all-append [] b = refl
+  encode-all-append (r ∷ a) b =
+      ap (λ (l : List ℕ). encode r ++ l) (encode-all-append a b) ∙ sym (append-assoc (encode r) (encodeAll encode a) (encodeAll encode b))
+
+  pub encode-all-snoc : (rs : List R) (r : R) → encodeAll encode (rs ++ (r ∷ [])) ≡ encodeAll encode rs ++ encode r
+  unfolding encodeAll
+  encode-all-snoc rs r = encode-all-append rs (r ∷ []) ∙ ap (λ (l : List ℕ). encodeAll encode rs ++ l) (append-nil (encode r))
+
+  pub fits-within : (room head : ℕ) (rs : List R) → fits encode room head rs ≡ true → head + length (encodeAll encode rs) ≤ room
+  unfolding fits
+  fits-within room head rs e = leb-true (head + length (encodeAll encode rs)) room e
+
+  module _ (room : ℕ) (head : List ℕ) (rs : List R) (r : R) where
+    joined-as : head ++ encodeAll encode rs ++ encode r ≡ head ++ encodeAll encode (rs ++ (r ∷ []))
+    joined-as = append-assoc head (encodeAll encode rs) (encode r) ∙ ap (λ (l : List ℕ). head ++ l) (sym (encode-all-snoc rs r))
+
+    size : length (head ++ encodeAll encode rs ++ encode r) ≡ length head + length (encodeAll encode (rs ++ (r ∷ [])))
+    size = ap length joined-as ∙ length-append head (encodeAll encode (rs ++ (r ∷ [])))
+
+    fits-one : length (head ++ encodeAll encode rs ++ encode r) ≤ room → fits encode room (length head) (rs ++ (r ∷ [])) ≡ true
+    unfolding fits
+    fits-one h = le-leb (length head + length (encodeAll encode (rs ++ (r ∷ [])))) room (omega (arith, size))
+
+    past-one : room < length (head ++ encodeAll encode rs ++ encode r) → fits encode room (length head) (rs ++ (r ∷ [])) ≡ false
+    unfolding fits
+    past-one h = lt-leb (length head + length (encodeAll encode (rs ++ (r ∷ [])))) room (omega (arith, size))
+
+  -- a record put behind those that the buffer shows
+  pub put-record : (head : List ℕ) (rs : List R) (r : R) (d : List ℕ) (out : ℕ) (p : Put) (after : List ℕ)
+      → Shows d out (head ++ encodeAll encode rs) → putting p after ≡ put d out (encode r) → Ways encode head (rs ++ (r ∷ [])) (length d) d p after
+  put-record head rs r d out (At o) after s p =
+      let w = shows-put d out (head ++ encodeAll encode rs) (encode r) (At o) o after s p refl in
+      record { shows = subst (Shows after o) (joined-as (length d) head rs r) (w .shows); same = w .same; fit = fits-one (length d) head rs r (w .fits) }
+  put-record head rs r d out Full after s p =
+      let w = shows-full d out (head ++ encodeAll encode rs) (encode r) Full after s p refl in
+      record { unfit = past-one (length d) head rs r (w .0); same = w .1 }
