@@ -1,7 +1,7 @@
 // The attributes that a store's contents list, and the one of a name. Each function answers for any bytes; past their end they
 // read as 0.
 ghost use mathlib.Core.Path.{_≡_};
-ghost use Rattle.store.specs.Contents.{clusterOf, countOf, attributeAt, nameOf, findOf};
+ghost use Rattle.store.specs.Contents.{clusterOf, countOf, attributeAt, reportable, nameOf, findOf};
 use frame::header::ManufacturerCode;
 use types::ids::AttributeId;
 use types::ids::ClusterId;
@@ -59,6 +59,13 @@ pub fn attribute_at(s: &[u8], i: u16) -> Attribute
         offset: u16_at(s, p + 4),
         room: u16_at(s, p + 6),
     }
+}
+
+// Whether reports of an attribute may be configured and sent.
+pub fn is_reportable(a: Attribute) -> bool
+    ensures { λ r. ⌜ r ≡ reportable a ⌝ }
+{
+    a.access / 2 % 2 == 1
 }
 
 // The attribute of a name.
