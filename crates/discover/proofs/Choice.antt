@@ -11,10 +11,11 @@ use lib.Seq.{take-all, take-nil}
 use lib.Dec.{eqb}
 use borrow.Author.Tests.{le-leb, lt-leb, eqb-true, eq-eqb, ne-eqb}
 use Rattle.types.specs.Number.{bytesOf}
+use Rattle.frame.specs.Encoded.{encodeAll}
 use Rattle.store.specs.declared.lookup.Attribute.{Attribute}
 use Rattle.store.specs.Contents.{countOf, attributeAt, attributesFrom, attributesOf}
 use Rattle.store.proofs.Scan.{from-next, from-end}
-use Rattle.discover.specs.Discover.{Discovered, encode, encodeAll, atOrAfter, listed, completeByte, discoveredAll}
+use Rattle.discover.specs.Discover.{Discovered, encode, atOrAfter, listed, completeByte, discoveredAll}
 use Rattle.discover.specs.Inside.{recordsOf}
 
 -- ---- the scan from number i on
@@ -69,10 +70,10 @@ length-discovered [] = refl
 length-discovered (a ∷ l) = ap suc (length-discovered l)
 
 -- a record takes three bytes
-pub encode-all-length : (rs : List Discovered) → length (encodeAll rs) ≡ 3 * length rs
+pub encode-all-length : (rs : List Discovered) → length (encodeAll encode rs) ≡ 3 * length rs
 unfolding encodeAll encode bytesOf
 encode-all-length [] = refl
-encode-all-length (r ∷ rs) = let h : length (encodeAll rs) ≡ 3 * length rs = encode-all-length rs in omega arith
+encode-all-length (r ∷ rs) = let h : length (encodeAll encode rs) ≡ 3 * length rs = encode-all-length rs in omega arith
 
 pub records-length : (l : List Attribute) → length (recordsOf l) ≡ 3 * length l
 records-length l = encode-all-length (discoveredAll l) ∙ ap (λ (k : ℕ). 3 * k) (length-discovered l)

@@ -6,12 +6,13 @@ use native.Mathlib.Omega.{arith}
 use lib.ListN.{length, take, length-append}
 use lib.Seq.{take-nil}
 use Rattle.frame.specs.Reply.{putting, put, Shows}
+use Rattle.frame.specs.Encoded.{encodeAll}
 use Rattle.frame.specs.declared.reply.Put.{Put}
 use Rattle.frame.specs.declared.reply.Put.the-variants.{At, Full}
 use Rattle.frame.proofs.Buffer.{shows-put, shows-full}
 use Rattle.store.specs.declared.lookup.Attribute.{Attribute}
 use Rattle.store.specs.Contents.{countOf, attributeAt, attributesOf}
-use Rattle.discover.specs.Discover.{encode, encodeAll, atOrAfter, discovered, discoveredAll}
+use Rattle.discover.specs.Discover.{encode, atOrAfter, discovered, discoveredAll}
 use Rattle.discover.specs.Inside.{recordsOf}
 use Rattle.discover.proofs.Choice.{onward, onward-all, onward-end, onward-take, onward-skip}
 

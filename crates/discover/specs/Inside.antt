@@ -5,13 +5,14 @@ use lib.ListN.{length, take}
 use Rattle.frame.specs.declared.reply.Put.{Put}
 use Rattle.frame.specs.declared.reply.Put.the-variants.{At, Full}
 use Rattle.frame.specs.Reply.{Shows}
+use Rattle.frame.specs.Encoded.{encodeAll}
 use Rattle.store.specs.declared.lookup.Attribute.{Attribute}
 use Rattle.store.specs.Contents.{attributesOf}
-use Rattle.discover.specs.Discover.{encodeAll, atOrAfter, discoveredAll}
+use Rattle.discover.specs.Discover.{encode, atOrAfter, discoveredAll}
 
 -- the bytes of attributes' records
 abbrev pub recordsOf : List Attribute → List ℕ
-recordsOf attributes = encodeAll (discoveredAll attributes)
+recordsOf attributes = encodeAll encode (discoveredAll attributes)
 
 -- a buffer of this room came to show these bytes, or they are longer than the room
 abbrev pub Fills : List ℕ → ℕ → Put → List ℕ → Type 0

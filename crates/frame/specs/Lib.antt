@@ -6,3 +6,4 @@ pub mod Header
 pub mod Answer
 pub mod Walk
 pub mod Encoded
+pub mod Shortened

@@ -71,7 +71,6 @@ module _ (a b : List ℕ) where
 
   -- the ids of two bodies, the first of which can be read to its end, are those of the one and then those of the other
   pub read-ids-append : idsFrom a 0 .ending ≡ done → idsFrom (a ++ b) 0 ≡ joined (idsFrom a 0) (idsFrom b 0)
-  unfolding idsFrom
   read-ids-append e =
       ap (λ (n : ℕ). recordsFrom (idAt (a ++ b)) n 0) (length-append a b)
       ∙ append-records (idAt a) (idAt b) (idAt (a ++ b)) (length a) (length b) (id-ahead (a ++ b)) ends id-stable id-moved e

@@ -3,8 +3,9 @@ ghost use mathlib.Core.Path.{_≡_};
 ghost use lib.ListN.{length};
 ghost use Rattle.frame.specs.Answer.{seen, noState};
 ghost use Rattle.frame.specs.Reply.{putting, put};
-ghost use Rattle.read.specs.Read.{idAt, value as valueRecord, failure, encode, readOf};
-ghost use Rattle.read.specs.Inside.{itemOf, Turned, Walked};
+ghost use Rattle.frame.specs.Shortened.{Turned, Walked};
+ghost use Rattle.read.specs.Read.{idAt, value as valueRecord, failure, encode, recordFor, readOf};
+ghost use Rattle.read.specs.Inside.{itemOf};
 use frame::answer::Answer;
 use frame::answer::Refusal;
 use frame::answer::refuse;
@@ -75,7 +76,7 @@ fn put_value(reply: &mut [u8], out: usize, id: AttributeId, code: u8, value: &[u
 // One id: where an attribute is not found, the record is id and 86; otherwise its value, or 89 where that does not fit. Full where
 // not even id and status do.
 fn read_turn(store: &[u8], request: ZclHeader, id: AttributeId, reply: &mut [u8], out: usize) -> Put
-    ensures { λ r. ⌜ Turned (now (store .entry)) request (id .0) (now (reply .entry)) out r (now (reply .exit)) ⌝ }
+    ensures { λ r. ⌜ Turned encode (recordFor 8 (now (store .entry)) request) (id .0) (now (reply .entry)) out r (now (reply .exit)) ⌝ }
 {
     let name = name_of(request.manufacturer_code, id);
     let Found::At(a) = find(store, name) else {
@@ -97,7 +98,7 @@ fn read_records(
     reply: &mut [u8],
     from: usize,
 ) -> Answer
-    ensures { λ r. ⌜ Walked (now (store .entry)) request (now (body .entry)) (now (reply .entry)) from r (now (reply .exit)) ⌝ }
+    ensures { λ r. ⌜ Walked encode (recordFor 8 (now (store .entry)) request) (idAt (now (body .entry))) (length (now (body .entry))) (now (reply .entry)) from r (now (reply .exit)) ⌝ }
 {
     let mut at: usize = 0;
     let mut out = from;

@@ -1,5 +1,6 @@
 -- `attributes::read_attributes` meets its contract: no room for the header, or the walk behind it. Assumes nothing.
-use Rattle.read.proofs.Whole.{read-headless, read-walked}
+use Rattle.frame.proofs.Shortened.{shortened-headless, shortened-walked}
+use Rattle.read.specs.Read.{readOf}
 use borrow.Author.Needs.{needs}
 use Rattle.read.proofs.attributes.read_attributes.Statement.{statement}
 use Rattle.read.proofs.attributes.read_attributes.Tie as tie
@@ -20,8 +21,9 @@ same-length : tie.Need-same-length
 same-length c = search needs
 
 returns : tie.Need-returns
+unfolding readOf
 returns c =
-    read-headless _ _ _ _ _ (c .before .before .before .before .before .before .before .before .clear .ensures) _ _ (c .before .before .before .before .write-response-header .ensures) (c .enum-told .given .1)
+    shortened-headless _ _ _ _ _ (c .before .before .before .before .before .before .before .before .clear .ensures) _ _ (c .before .before .before .before .write-response-header .ensures) _ (c .enum-told .given .1)
 
 read-records-requires : tie.Need-read-records-requires
 read-records-requires c κs = search needs
@@ -30,9 +32,10 @@ same-length-2 : tie.Need-same-length-2
 same-length-2 c = search needs
 
 returns-2 : tie.Need-returns-2
+unfolding readOf
 returns-2 c =
-    read-walked _ _ _ _ _ (c .before .before .before .before .before .before .before .before .before .before .before .before .before .clear .ensures) _ _ (c .before .before .before .before .before .before .before .before .before .write-response-header .ensures)
-    _ (c .before .before .before .before .before .put .given .1) (c .before .before .read-records .result) _ (c .before .before .read-records .ensures)
+    shortened-walked _ _ _ _ _ (c .before .before .before .before .before .before .before .before .before .before .before .before .before .clear .ensures) _ _ (c .before .before .before .before .before .before .before .before .before .write-response-header .ensures)
+    _ _ _ (c .before .before .before .before .before .put .given .1) (c .before .before .read-records .result) _ (c .before .before .read-records .ensures)
 
 pub read-attributes-spec : {M : Type 1} → statement M
 read-attributes-spec =

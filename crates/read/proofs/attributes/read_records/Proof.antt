@@ -7,17 +7,17 @@ use lib.ListN.{length}
 use denote.Ref.{now}
 use Rattle.frame.specs.Reply.{Shows}
 use Rattle.frame.specs.Walk.{item}
-use Rattle.read.specs.Read.{idAt}
+use Rattle.frame.proofs.Shortened.{Going, going-first, going-more, going-stop, going-cut, going-done}
+use Rattle.read.specs.Read.{idAt, encode, recordFor}
 use Rattle.read.specs.Inside.{itemOf}
 use Rattle.read.proofs.Ids.{id-ahead}
-use Rattle.read.proofs.Going.{Going, going-first, going-more, going-stop, going-cut, going-done}
 use borrow.Author.Needs.{needs}
 use Rattle.read.proofs.attributes.read_records.Statement.{statement}
 use Rattle.read.proofs.attributes.read_records.Tie as tie
 
 abbrev Inv-loop : tie.InvT-loop
 Inv-loop store request body reply₀ from at₀ out₀ reply at out =
-    (length reply ≡ length reply₀) × ((head : List ℕ) → Shows reply₀ from head → Going store request body (length reply₀) head reply at out)
+    (length reply ≡ length reply₀) × ((head : List ℕ) → Shows reply₀ from head → Going encode (recordFor 8 store request) (idAt body) (length body) (length reply₀) head reply at out)
 
 abbrev μ-loop : tie.MeasureT-loop
 μ-loop store request body reply₀ from at₀ out₀ reply at out = length body - at
@@ -28,7 +28,7 @@ read-id c = ap itemOf (sym (c .id .given .1)) ∙ c .before .before .next-id .en
 
 loop-holds : tie.Need-loop-holds Inv-loop μ-loop
 loop-holds c =
-    (refl, λ head w. going-first _ _ _ _ _ _ _ w)
+    (refl, λ head w. going-first _ _ _ _ _ _ _ _ w)
 
 next-id-requires : tie.Need-next-id-requires Inv-loop μ-loop
 next-id-requires c κs = search needs
@@ -47,7 +47,7 @@ same-length c = c .before .before .refuse .kept .0 ∙ c .before .before .before
 
 returns : tie.Need-returns Inv-loop μ-loop
 returns c =
-    λ head w. c .before .before .refuse .ensures ∙ going-cut _ _ _ _ _ _ _ _ (c .before .before .before .before .before .before .before .before .loop .inv .1 head w) (c .before .before .before .before .before .before .before .before .loop .inv .0) (c .before .before .before .before .before .before .before .loop-test .taken) (ap itemOf (sym (c .before .before .before .before .enum-told .given .1)) ∙ c .before .before .before .before .before .before .next-id .ensures)
+    λ head w. c .before .before .refuse .ensures ∙ going-cut _ _ _ _ _ _ _ _ _ (c .before .before .before .before .before .before .before .before .loop .inv .1 head w) (c .before .before .before .before .before .before .before .before .loop .inv .0) (c .before .before .before .before .before .before .before .loop-test .taken) (ap itemOf (sym (c .before .before .before .before .enum-told .given .1)) ∙ c .before .before .before .before .before .before .next-id .ensures)
 
 read-turn-requires : tie.Need-read-turn-requires Inv-loop μ-loop
 read-turn-requires c κs = search needs
@@ -63,7 +63,7 @@ same-length-2 c = c .before .before .before .before .read-turn .kept .1 .1 .1 .0
 
 returns-2 : tie.Need-returns-2 Inv-loop μ-loop
 returns-2 c =
-    λ head w. going-stop _ _ _ _ _ _ _ _ (c .before .before .before .before .before .before .before .before .before .before .before .loop .inv .1 head w) (c .before .before .before .before .before .before .before .before .before .before .before .loop .inv .0) (c .before .before .before .before .before .before .before .before .before .before .loop-test .taken) _ _ (read-id (c .before .before .before .before .before .before .before)) _ _ (c .before .before .before .before .read-turn .ensures) (c .enum-told2 .given .1)
+    λ head w. going-stop _ _ _ _ _ _ _ _ _ (c .before .before .before .before .before .before .before .before .before .before .before .loop .inv .1 head w) (c .before .before .before .before .before .before .before .before .before .before .before .loop .inv .0) (id-ahead _) (c .before .before .before .before .before .before .before .before .before .before .loop-test .taken) _ _ (read-id (c .before .before .before .before .before .before .before)) _ _ (c .before .before .before .before .read-turn .ensures) (c .enum-told2 .given .1)
 
 loop-less : tie.Need-loop-less Inv-loop μ-loop
 loop-less c =
@@ -72,14 +72,14 @@ loop-less c =
 
 loop-again : tie.Need-loop-again Inv-loop μ-loop
 loop-again c =
-    (c .before .before .before .before .before .read-turn .kept .1 .1 .1 .0 ∙ c .before .before .before .before .before .before .before .before .before .before .before .before .loop .inv .0, λ head w. going-more _ _ _ _ _ _ _ _ (c .before .before .before .before .before .before .before .before .before .before .before .before .loop .inv .1 head w) (c .before .before .before .before .before .before .before .before .before .before .before .before .loop .inv .0) (c .before .before .before .before .before .before .before .before .before .before .before .loop-test .taken) _ _ (read-id (c .before .before .before .before .before .before .before .before)) _ _ (c .before .before .before .before .before .read-turn .ensures) _ (c .before .o .given .1))
+    (c .before .before .before .before .before .read-turn .kept .1 .1 .1 .0 ∙ c .before .before .before .before .before .before .before .before .before .before .before .before .loop .inv .0, λ head w. going-more _ _ _ _ _ _ _ _ _ (c .before .before .before .before .before .before .before .before .before .before .before .before .loop .inv .1 head w) (c .before .before .before .before .before .before .before .before .before .before .before .before .loop .inv .0) (id-ahead _) (c .before .before .before .before .before .before .before .before .before .before .before .loop-test .taken) _ _ (read-id (c .before .before .before .before .before .before .before .before)) _ _ (c .before .before .before .before .before .read-turn .ensures) _ (c .before .o .given .1))
 
 same-length-3 : tie.Need-same-length-3 Inv-loop μ-loop
 same-length-3 c = c .before .loop .inv .0
 
 returns-3 : tie.Need-returns-3 Inv-loop μ-loop
 returns-3 c =
-    λ head w. going-done _ _ _ _ _ _ _ _ (c .before .loop .inv .1 head w) (c .before .loop .inv .0) (c .loop-test .left)
+    λ head w. going-done _ _ _ _ _ _ _ _ _ (c .before .loop .inv .1 head w) (c .before .loop .inv .0) (c .loop-test .left)
 
 pub read-records-spec : {M : Type 1} → statement M
 read-records-spec =

@@ -4,10 +4,11 @@ use mathlib.Core.List.{List}
 use Prim.Native.Nat.{ℕ}
 use denote.Ref.{now}
 use Rattle.frame.specs.Reply.{putting, put}
+use Rattle.frame.proofs.Shortened.{turned-put, turned-tried, turned-else}
 use Rattle.store.specs.Contents.{nameOf, findOf}
 use Rattle.store.specs.Value.{valueOf}
 use Rattle.read.specs.Read.{value, encode}
-use Rattle.read.proofs.Turns.{turn-nothing, turn-value, turn-full}
+use Rattle.read.proofs.Turns.{made-nothing, made-value}
 use borrow.Author.Needs.{needs}
 use Rattle.read.proofs.attributes.read_turn.Statement.{statement}
 use Rattle.read.proofs.attributes.read_turn.Tie as tie
@@ -43,7 +44,7 @@ same-length c = search needs
 
 returns : tie.Need-returns
 returns c =
-    turn-nothing _ _ _ _ _ (found (c .before .before .before .before .before .before) ∙ c .before .before .before .before .enum-told .given .1) _ _ (c .before .before .put-failure .ensures)
+    turned-put _ _ _ _ _ _ (made-nothing _ _ _ (found (c .before .before .before .before .before .before) ∙ c .before .before .before .before .enum-told .given .1)) _ _ (c .before .before .put-failure .ensures)
 
 value-of-requires : tie.Need-value-of-requires
 value-of-requires c κs = search needs
@@ -65,7 +66,7 @@ same-length-2 c = search needs
 
 returns-2 : tie.Need-returns-2
 returns-2 c =
-    turn-full _ _ _ _ _ _ (found (c .before .before .before .before .before .before .before .before .before .before .before .before .before .before .before) ∙ c .before .before .before .before .before .before .before .before .before .before .before .before .before .a .given .1) _ _ (valued (c .before .before .before .before .before .before .before .before)) (c .before .before .before .before .enum-told2 .given .1)
+    turned-else _ _ _ _ _ _ _ (made-value _ _ _ _ (found (c .before .before .before .before .before .before .before .before .before .before .before .before .before .before .before) ∙ c .before .before .before .before .before .before .before .before .before .before .before .before .before .a .given .1)) _ _ (valued (c .before .before .before .before .before .before .before .before)) (c .before .before .before .before .enum-told2 .given .1)
     _ _ (c .before .before .put-failure2 .ensures)
 
 same-length-3 : tie.Need-same-length-3
@@ -73,7 +74,7 @@ same-length-3 c = search needs
 
 returns-3 : tie.Need-returns-3
 returns-3 c =
-    turn-value _ _ _ _ _ _ (found (c .before .before .before .before .before .before .before .before .before .before .before .before) ∙ c .before .before .before .before .before .before .before .before .before .before .a .given .1) _ _ (valued (c .before .before .before .before .before)) _ (c .before .put .given .1)
+    turned-tried _ _ _ _ _ _ _ (made-value _ _ _ _ (found (c .before .before .before .before .before .before .before .before .before .before .before .before) ∙ c .before .before .before .before .before .before .before .before .before .before .a .given .1)) _ _ (valued (c .before .before .before .before .before)) _ (c .before .put .given .1)
 
 pub read-turn-spec : {M : Type 1} → statement M
 read-turn-spec =
