@@ -13,5 +13,7 @@ pub mod Worked
 pub mod Walks
 -- the records of a reply as bytes, put one behind the other
 pub mod Encoded
+-- records that end at a known place
+pub mod Sized
 -- a reply that lists records as long as they fit: the loop, the header, the room, and which records
 pub mod Shortened

@@ -6,4 +6,5 @@ pub mod Header
 pub mod Answer
 pub mod Walk
 pub mod Encoded
+pub mod Sized
 pub mod Shortened

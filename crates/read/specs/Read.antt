@@ -3,7 +3,6 @@ use Prim.Native.Nat.{ℕ, _+_}
 use mathlib.Core.Bool.{Bool, cond}
 use mathlib.Core.List.{List, [], _∷_, _++_}
 use lib.ListN.{length}
-use lib.Dec.{leb}
 use Rattle.types.specs.Number.{unsignedAt, bytesOf}
 use Rattle.frame.specs.declared.header.ZclHeader.{ZclHeader}
 use Rattle.frame.specs.declared.command_identifier.CommandIdentifier.the-variants.{ReadAttributesResponse}
@@ -12,7 +11,8 @@ use Rattle.frame.specs.declared.status.Status.the-variants.{UnsupportedAttribut
 use Rattle.frame.specs.Status.{statusCode}
 use Rattle.frame.specs.Header.{replyHead}
 use Rattle.frame.specs.Answer.{Outcome}
-use Rattle.frame.specs.Walk.{Item, item, unread, Records, recordsFrom}
+use Rattle.frame.specs.Walk.{Item, Records, recordsFrom}
+use Rattle.frame.specs.Sized.{upTo}
 use Rattle.frame.specs.Shortened.{Making, shortened}
 use Rattle.store.specs.declared.lookup.Found.{Found}
 use Rattle.store.specs.declared.lookup.Found.the-variants.{At, Nothing}
@@ -22,7 +22,7 @@ use Rattle.store.specs.Value.{valueOf}
 -- ---- the request: ids
 
 unfoldable pub idAt : List ℕ → ℕ → Item ℕ
-idAt body p = cond (leb (p + 2) (length body)) (item (unsignedAt body p 2) (p + 2)) unread
+idAt body p = upTo body (p + 2) (unsignedAt body p 2)
 
 abbrev pub idsFrom : List ℕ → ℕ → Records ℕ
 idsFrom body p = recordsFrom (idAt body) (length body) p
