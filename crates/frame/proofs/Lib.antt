@@ -17,3 +17,9 @@ pub mod Encoded
 pub mod Sized
 -- a reply that lists records as long as they fit: the loop, the header, the room, and which records
 pub mod Shortened
+-- failures listed behind a head, and what is answered to a pass
+pub mod Listings
+-- a pass over the records: one record, the loop, the whole command
+pub mod Passes
+-- the state that a command leaves
+pub mod States

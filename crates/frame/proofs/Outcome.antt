@@ -6,7 +6,7 @@ use native.Mathlib.Omega.{arith}
 use lib.ListN.{length}
 use Rattle.types.specs.Number.{zeros}
 use Rattle.frame.specs.Reply.{padded, Putting, putting, Shows}
-use Rattle.frame.specs.Answer.{answerNumber, answerLength, Outcome, seen, replied, refused}
+use Rattle.frame.specs.Answer.{answerNumber, answerLength, Outcome, noState, seen, replied, refused}
 use Rattle.frame.specs.declared.reply.Put.{Put}
 use Rattle.frame.specs.declared.answer.Refusal.{Refusal}
 use Rattle.frame.specs.declared.answer.Answer.{Answer}
@@ -40,6 +40,14 @@ module _ {S : Type 0} where
   -- a buffer of zeros is a refusal's outcome
   pub seen-refused : (room : ℕ) (d : List ℕ) (why : Refusal) (s : S) → d ≡ zeros room → seen (Refused why) d s ≡ refused room why s
   seen-refused room d why s z = ap (λ (l : List ℕ). seen (Refused why) l s) z
+
+-- what a call without a state left, with a state beside it
+abbrev pub beside : {S : Type 0} → S → Outcome (Unit {0}) → Outcome S
+beside s o = record { number = o .number; size = o .size; reply = o .reply; state = s }
+
+-- a refusal is one whatever the state
+pub refused-with : {S : Type 0} (r : Answer) (d : List ℕ) (room : ℕ) (why : Refusal) (s : S) → seen r d noState ≡ refused room why noState → seen r d s ≡ refused room why s
+refused-with r d room why s e = ap (beside s) e
 
 -- what a put leaves tells its answer and its buffer
 pub putting-same : (p q : Put) (d e : List ℕ) → putting p d ≡ putting q e → (p ≡ q) × (d ≡ e)

@@ -8,3 +8,5 @@ pub mod Walk
 pub mod Encoded
 pub mod Sized
 pub mod Shortened
+pub mod Failures
+pub mod Passes

@@ -1,9 +1,12 @@
 // The ZCL header (ZCL 2.4.1), and the first bytes of a reply.
 ghost use mathlib.Core.Path.{_≡_};
+ghost use lib.ListN.{length};
+ghost use Rattle.types.specs.Number.{zeros};
 ghost use Rattle.frame.specs.Header.{frameTypeOf, hasCode, headerOf, replyHead};
 ghost use Rattle.frame.specs.Reply.{putting, put};
 use super::command_identifier::CommandIdentifier;
 use super::reply::Put;
+use super::reply::clear;
 use super::reply::put_run;
 use types::ids::CommandId;
 use types::number::u16_at;
@@ -93,4 +96,12 @@ pub fn write_response_header(
 {
     let head = [0x18, request.sequence_number, command.raw()];
     put_run(reply, 0, &head)
+}
+
+// A reply is begun: its first bytes, and zeros behind.
+pub fn begin_reply(reply: &mut [u8], request: ZclHeader, command: CommandIdentifier) -> Put
+    ensures { λ r. ⌜ putting r (now (reply .exit)) ≡ put (zeros (length (now (reply .entry)))) 0 (replyHead request command) ⌝ }
+{
+    clear(reply);
+    write_response_header(reply, request, command)
 }

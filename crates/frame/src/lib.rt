@@ -2,6 +2,7 @@
 // After frame/header and frame/mod.rs of zigbee-rs.
 pub mod answer;
 pub mod command_identifier;
+pub mod failures;
 pub mod header;
 pub mod reply;
 pub mod status;

@@ -1,28 +1,28 @@
--- The loops over the records, whatever is done with each: what is left of the walk is the whole. Assumes nothing.
-use mathlib.Core.Path.{_≡_, refl, sym, ap, _∙_, subst}
-use mathlib.Core.Bool.{Bool, true, false}
-use mathlib.Core.List.{List, [], _++_, append-nil}
-use Prim.Native.Nat.{ℕ, _+_, _≤_, _<_}
+-- One record done, and the loop that lists nothing: what is left of the walk is the whole. Assumes nothing.
+use mathlib.Core.Path.{_≡_, refl, sym, ap, _∙_}
+use mathlib.Core.List.{List, []}
+use Prim.Native.Nat.{ℕ, _≤_, _<_}
 use native.Mathlib.Omega.{arith}
-use lib.ListN.{length, length-append}
-use borrow.Author.Tests.{le-leb, lt-leb}
+use lib.ListN.{length}
 use Rattle.frame.specs.declared.status.Status.{Status}
-use Rattle.frame.specs.declared.reply.Put.{Put}
-use Rattle.frame.specs.declared.reply.Put.the-variants.{At, Full}
 use Rattle.frame.specs.declared.header.ZclHeader.{ZclHeader}
-use Rattle.frame.specs.Reply.{putting, Shows}
-use Rattle.frame.specs.Walk.{item, Way, through, broken, stopped, walkOver, reached, recordsFrom}
-use Rattle.frame.proofs.Walks.{walk-done, walk-cut, walk-more, walk-stop}
+use Rattle.frame.specs.Walk.{item, Way, reached}
+use Rattle.frame.specs.Failures.{did, Doing, Sofar, sofar, also, passFrom, pass, always}
+use Rattle.frame.specs.Passes.{TookOne, TookNone}
+use Rattle.frame.proofs.Passes.{more, cut-here, done-here}
 use Rattle.store.specs.Contents.{nameOf, findOf}
 use Rattle.store.specs.Write.{checkOf, Wrote, wrote, writeOf}
 use Rattle.write.specs.declared.pass.Task.{Task}
-use Rattle.write.specs.declared.pass.Pass.{Pass}
 use Rattle.write.specs.Request.{WriteRecord, recordAt, recordsAt}
-use Rattle.write.specs.Reply.{Failure, listing}
-use Rattle.write.specs.Write.{Doing, writing, statusBy, checking, Sofar, sofar, turn, passFrom, pass, fits, always}
-use Rattle.write.specs.Inside.{doingOf, taskOf, TookOne, TookNone, noting, Passed}
-use Rattle.write.proofs.Items.{record-within, ahead}
-use Rattle.write.proofs.Listings.{also, noted-at, noted-full}
+use Rattle.write.specs.Reply.{Failure, failure, encode}
+use Rattle.write.specs.Write.{written, statusBy, checked}
+use Rattle.write.specs.Inside.{taskOf, wroteBy, doingOf}
+use Rattle.write.proofs.Items.{ahead}
+
+-- a failure takes bytes
+pub some : (f : Failure) → 0 < length (encode f)
+unfolding encode
+some f = omega arith
 
 -- ---- one record
 
@@ -35,140 +35,52 @@ module _ (task : Task) (form : ℕ) (s : List ℕ) (name t : ℕ) (v : List ℕ)
   written-is e x q = q ∙ ap (λ (k : Task). taskOf k form s name t v) (sym e)
 
 -- a record by its name, type and value
-task-doing : (task : Task) (form : ℕ) (request : ZclHeader) (s : List ℕ) (r : WriteRecord) → taskOf task form s (nameOf (request .«manufacturer_code» .0) (r .id)) (r .type) (r .value) ≡ doingOf task form request s r
-unfolding checking writing
-task-doing Task.Check form request s r = refl
-task-doing Task.Write form request s r = refl
+by-task : (task : Task) (form : ℕ) (request : ZclHeader) (s : List ℕ) (r : WriteRecord)
+    → taskOf task form s (nameOf (request .«manufacturer_code» .0) (r .id)) (r .type) (r .value) ≡ wroteBy task form request s r
+unfolding checked written
+by-task Task.Check form request s r = refl
+by-task Task.Write form request s r = refl
 
 pub took-one : (task : Task) (form : ℕ) (request : ZclHeader) (s body : List ℕ) (at end : ℕ) (r : WriteRecord) (name : ℕ) (status : Status) (t : List ℕ)
     → recordAt body at ≡ item r end → name ≡ nameOf (request .«manufacturer_code» .0) (r .id) → wrote status t ≡ taskOf task form s name (r .type) (r .value)
-    → TookOne (doingOf task form request) s body at end status (r .id) t
+    → TookOne (doingOf task form request) (recordAt body) s at end status (failure status (r .id)) t
 took-one task form request s body at end r name status t is named does = record {
   taken = r;
   is = is;
-  does = does ∙ ap (λ (n : ℕ). taskOf task form s n (r .type) (r .value)) named ∙ task-doing task form request s r;
+  does = ap (λ (w : Wrote). did (w .status) (w .store)) (does ∙ ap (λ (n : ℕ). taskOf task form s n (r .type) (r .value)) named ∙ by-task task form request s r);
   named = refl;
 }
 
-module _ {doing : Doing} {s body : List ℕ} {at end : ℕ} {status : Status} {id : ℕ} {t : List ℕ} (k : TookOne doing s body at end status id t) where
-  -- what it leaves
-  turned : (fs : List Failure) → turn doing (sofar s fs) (k .taken) ≡ sofar t (also fs status id)
-  unfolding turn
-  turned fs = rw (← k .does, ← k .named)
+-- ---- the loop that lists nothing
 
-  -- the next one starts behind it
-  pub took-ahead : at < end
-  took-ahead = omega (arith, record-within body at (k .taken) end (k .is))
-
-  module _ (fine : Sofar → Bool) (fs : List Failure) (lt : at < length body) where
-    pub more : fine (sofar t (also fs status id)) ≡ true → passFrom doing fine body (sofar s fs) at ≡ passFrom doing fine body (sofar t (also fs status id)) end
-    unfolding passFrom recordsAt
-    more f =
-        walk-more (recordAt body) (length body) (turn doing) fine (sofar s fs) at (ahead body) (k .taken) end lt (k .is) (ap fine (turned fs) ∙ f)
-        ∙ ap (λ (x : Sofar). walkOver (turn doing) fine x (recordsFrom (recordAt body) (length body) end)) (turned fs)
-
-    pub stop : fine (sofar t (also fs status id)) ≡ false → passFrom doing fine body (sofar s fs) at ≡ stopped (sofar s fs) (sofar t (also fs status id))
-    unfolding passFrom recordsAt
-    stop f =
-        walk-stop (recordAt body) (length body) (turn doing) fine (sofar s fs) at (ahead body) (k .taken) end lt (k .is) (ap fine (turned fs) ∙ f)
-        ∙ ap (stopped (sofar s fs)) (turned fs)
-
-module _ (doing : Doing) (fine : Sofar → Bool) (body : List ℕ) (s : List ℕ) (fs : List Failure) (at : ℕ) where
-  pub cut-here : at < length body → (t : List ℕ) → TookNone s body at t → passFrom doing fine body (sofar s fs) at ≡ broken (sofar t fs)
-  unfolding passFrom recordsAt
-  cut-here lt t k =
-      walk-cut (recordAt body) (length body) (turn doing) fine (sofar s fs) at lt (k .is) ∙ ap (λ (l : List ℕ). broken (sofar l fs)) (sym (k .same))
-
-  pub done-here : length body ≤ at → passFrom doing fine body (sofar s fs) at ≡ through (sofar s fs)
-  unfolding passFrom recordsAt
-  done-here h = walk-done (recordAt body) (length body) (turn doing) fine (sofar s fs) at h
-
--- ---- with a reply
-
--- where a pass stands behind a head: the failures so far, in the buffer, and what is left is the whole
-pub record Since (doing : Doing) (body s₀ : List ℕ) (room : ℕ) (head s d : List ℕ) (at out : ℕ) : Type 0 where
-  pub failures : List Failure
-  pub shows : Shows d out (head ++ listing failures)
-  pub same : passFrom doing (fits room (length head)) body (sofar s failures) at ≡ pass doing (fits room (length head)) body s₀
-
-pub record Going (doing : Doing) (body : List ℕ) (start : ℕ) (s₀ d₀ s d : List ℕ) (at out : ℕ) : Type 0 where
-  pub store-length : length s ≡ length s₀
-  pub reply-length : length d ≡ length d₀
-  pub since : (head : List ℕ) → Shows d₀ start head → Since doing body s₀ (length d₀) head s d at out
-
-pub going-first : (doing : Doing) (body : List ℕ) (start : ℕ) (s d : List ℕ) → Going doing body start s d s d 0 start
-unfolding listing
-going-first doing body start s d = record {
-  store-length = refl;
-  reply-length = refl;
-  since = λ head h. record { failures = []; shows = subst (Shows d start) (sym (append-nil head)) h; same = refl };
-}
-
-module _ {doing : Doing} {body : List ℕ} {start : ℕ} {s₀ d₀ s d : List ℕ} {at out : ℕ} (g : Going doing body start s₀ d₀ s d at out) where
-  pub going-end : length body ≤ at → Passed doing body start s₀ d₀ (Pass.Through out) s d
-  going-end h head w =
-      let x = g .since head w in
-      record { failures = x .failures; is = sym (x .same) ∙ done-here doing (fits (length d₀) (length head)) body s (x .failures) at h; shows = x .shows }
-
-  module _ (lt : at < length body) where
-    pub going-cut : (t after : List ℕ) → TookNone s body at t → Passed doing body start s₀ d₀ Pass.Cut t after
-    going-cut t after k head w =
-        let x = g .since head w in
-        record { failures = x .failures; is = sym (x .same) ∙ cut-here doing (fits (length d₀) (length head)) body s (x .failures) at lt t k }
-
-    module _ (end : ℕ) (status : Status) (id : ℕ) (t : List ℕ) (k : TookOne doing s body at end status id t) (r : Put) (after : List ℕ) (p : putting r after ≡ noting d out status id) where
-      pub going-more : (o : ℕ) → r ≡ At o → length t ≡ length s → length after ≡ length d → Going doing body start s₀ d₀ t after end o
-      unfolding fits
-      going-more o e lt-t la = record {
-        store-length = lt-t ∙ g .store-length;
-        reply-length = la ∙ g .reply-length;
-        since = λ head w.
-            let x = g .since head w in
-            let fs = also (x .failures) status id in
-            let y : Shows after o (head ++ listing fs) = noted-at d out head (x .failures) status id r after (x .shows) p o e in
-            let room : length head + length (listing fs) ≤ length d₀ = omega (arith, y .place, y .within, length-append head (listing fs), la, g .reply-length) in
-            record {
-              failures = fs;
-              shows = y;
-              same = sym (more k (fits (length d₀) (length head)) (x .failures) lt (le-leb (length head + length (listing fs)) (length d₀) room)) ∙ x .same;
-            };
-      }
-
-      pub going-full : r ≡ Full → Passed doing body start s₀ d₀ Pass.Full t after
-      unfolding fits
-      going-full e head w =
-          let x = g .since head w in
-          let fs = also (x .failures) status id in
-          let room : length d₀ < length head + length (listing fs) = omega (arith, noted-full d out head (x .failures) status id r after (x .shows) p e, length-append head (listing fs), g .reply-length) in
-          record {
-            last = sofar s (x .failures);
-            failures = fs;
-            is = sym (x .same) ∙ stop k (fits (length d₀) (length head)) (x .failures) lt (lt-leb (length head + length (listing fs)) (length d₀) room);
-          }
-
--- ---- without one
-
-pub record Silent (doing : Doing) (body s₀ s : List ℕ) (at : ℕ) : Type 0 where
+pub record Silent (doing : Doing (List ℕ) WriteRecord Failure) (body s₀ s : List ℕ) (at : ℕ) : Type 0 where
   pub store-length : length s ≡ length s₀
   pub failures : List Failure
-  pub same : passFrom doing always body (sofar s failures) at ≡ pass doing always body s₀
+  pub same : passFrom doing always (recordsAt body at) (sofar s failures) ≡ pass doing always (recordsAt body 0) s₀
 
-pub silent-first : (doing : Doing) (body s : List ℕ) → Silent doing body s s 0
+pub silent-first : (doing : Doing (List ℕ) WriteRecord Failure) (body s : List ℕ) → Silent doing body s s 0
 silent-first doing body s = record { store-length = refl; failures = []; same = refl }
 
-module _ {doing : Doing} {body s₀ s : List ℕ} {at : ℕ} (g : Silent doing body s₀ s at) where
+module _ {doing : Doing (List ℕ) WriteRecord Failure} {body s₀ s : List ℕ} {at : ℕ} (g : Silent doing body s₀ s at) where
   abbrev Store : List ℕ
-  Store = reached (pass doing always body s₀) .store
+  Store = reached (pass doing always (recordsAt body 0) s₀) .state
 
-  pub silent-more : at < length body → (end : ℕ) (status : Status) (id : ℕ) (t : List ℕ) → TookOne doing s body at end status id t → length t ≡ length s → Silent doing body s₀ t end
-  silent-more lt end status id t k l = record {
+  pub silent-more : at < length body → (end : ℕ) (status : Status) (f : Failure) (t : List ℕ) → TookOne doing (recordAt body) s at end status f t → length t ≡ length s
+      → Silent doing body s₀ t end
+  unfolding recordsAt
+  silent-more lt end status f t k l = record {
     store-length = l ∙ g .store-length;
-    failures = also (g .failures) status id;
-    same = sym (more k always (g .failures) lt refl) ∙ g .same;
+    failures = also (g .failures) status f;
+    same = sym (more (ahead body) k always (g .failures) (length body) lt refl) ∙ g .same;
   }
 
-  pub silent-cut : at < length body → (t : List ℕ) → TookNone s body at t → t ≡ Store
-  silent-cut lt t k = ap (λ (x : Way Sofar). reached x .store) (sym (cut-here doing always body s (g .failures) at lt t k) ∙ g .same)
+  ends-as : (y : Way (Sofar (List ℕ) Failure)) → passFrom doing always (recordsAt body at) (sofar s (g .failures)) ≡ y → reached y .state ≡ Store
+  ends-as y e = ap (λ (x : Way (Sofar (List ℕ) Failure)). reached x .state) (sym e ∙ g .same)
+
+  pub silent-cut : at < length body → (t : List ℕ) → TookNone (recordAt body) s at t → t ≡ Store
+  unfolding recordsAt
+  silent-cut lt t k = ends-as _ (cut-here doing always (recordAt body) (length body) s (g .failures) at lt t k)
 
   pub silent-end : length body ≤ at → s ≡ Store
-  silent-end h = ap (λ (x : Way Sofar). reached x .store) (sym (done-here doing always body s (g .failures) at h) ∙ g .same)
+  unfolding recordsAt
+  silent-end h = ends-as _ (done-here doing always (recordAt body) (length body) s (g .failures) at h)

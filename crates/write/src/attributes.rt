@@ -1,14 +1,11 @@
 // The three commands.
 ghost use mathlib.Core.Path.{_≡_};
 ghost use lib.ListN.{length};
-ghost use Rattle.types.specs.Number.{zeros};
-ghost use Rattle.frame.specs.declared.command_identifier.CommandIdentifier.the-variants.{WriteAttributesResponse};
-ghost use Rattle.frame.specs.Header.{replyHead};
-ghost use Rattle.frame.specs.Reply.{putting, put};
 ghost use Rattle.frame.specs.Answer.{seen};
-ghost use Rattle.write.specs.Write.{writeAttributes, writeUndivided, writeSilently};
-ghost use Rattle.write.specs.Inside.{Ends, Concludes, isClean, Writes};
-use super::pass::Pass;
+ghost use Rattle.frame.specs.Passes.{Performs};
+ghost use Rattle.write.specs.Request.{records};
+ghost use Rattle.write.specs.Write.{writing, writeAttributes, writeUndivided, writeSilently};
+ghost use Rattle.write.specs.Inside.{isClean};
 use super::pass::Task;
 use super::pass::apply_write_records;
 use super::pass::pass_records;
@@ -16,44 +13,11 @@ use frame::answer::Answer;
 use frame::answer::Refusal;
 use frame::answer::refuse;
 use frame::command_identifier::CommandIdentifier;
+use frame::failures::Pass;
+use frame::failures::conclude;
 use frame::header::ZclHeader;
-use frame::header::write_response_header;
+use frame::header::begin_reply;
 use frame::reply::Put;
-use frame::reply::clear;
-use frame::reply::put_byte;
-use frame::status::Status;
-
-// A reply is begun: its header, and zeros behind.
-fn begin(reply: &mut [u8], request: ZclHeader) -> Put
-    ensures { λ r. ⌜ putting r (now (reply .exit)) ≡ put (zeros (length (now (reply .entry)))) 0 (replyHead request WriteAttributesResponse) ⌝ }
-{
-    clear(reply);
-    write_response_header(reply, request, CommandIdentifier::WriteAttributesResponse)
-}
-
-// The reply as it stands, or with one SUCCESS where no failure is listed behind its header.
-fn finish(reply: &mut [u8], start: usize, out: usize) -> Answer
-    ensures { λ r. ⌜ Ends (now (reply .entry)) start out r (now (reply .exit)) ⌝ }
-{
-    if out != start {
-        return Answer::Reply(out);
-    }
-    let Put::At(n) = put_byte(reply, out, Status::Success.to_u8()) else {
-        return refuse(reply, Refusal::ReplyTooLong);
-    };
-    Answer::Reply(n)
-}
-
-// The answer to a pass.
-fn conclude(reply: &mut [u8], start: usize, done: Pass) -> Answer
-    ensures { λ r. ⌜ Concludes (now (reply .entry)) start done r (now (reply .exit)) ⌝ }
-{
-    match done {
-        Pass::Through(out) => finish(reply, start, out),
-        Pass::Cut => refuse(reply, Refusal::RecordCut),
-        Pass::Full => refuse(reply, Refusal::ReplyTooLong),
-    }
-}
 
 // Whether a pass took every record and listed none of them.
 fn is_clean(done: Pass, start: usize) -> bool
@@ -74,7 +38,7 @@ fn write_steps(
     reply: &mut [u8],
     start: usize,
 ) -> Answer
-    ensures { λ r. ⌜ Writes request (now (body .entry)) start (now (store .entry)) (now (reply .entry)) r (now (store .exit)) (now (reply .exit)) ⌝ }
+    ensures { λ r. ⌜ Performs (writing 8 request) (records (now (body .entry))) start (now (store .entry)) (now (reply .entry)) r (now (store .exit)) (now (reply .exit)) ⌝ }
 {
     let done = pass_records(store, Task::Write, request, body, reply, start);
     conclude(reply, start, done)
@@ -89,7 +53,8 @@ pub fn write_attributes(
 ) -> Answer
     ensures { λ r. ⌜ seen r (now (reply .exit)) (now (store .exit)) ≡ writeAttributes 8 (now (store .entry)) request (now (body .entry)) (length (now (reply .entry))) ⌝ }
 {
-    let Put::At(start) = begin(reply, request) else {
+    let begun = begin_reply(reply, request, CommandIdentifier::WriteAttributesResponse);
+    let Put::At(start) = begun else {
         return refuse(reply, Refusal::ReplyTooLong);
     };
     write_steps(store, request, body, reply, start)
@@ -104,7 +69,8 @@ pub fn write_attributes_undivided(
 ) -> Answer
     ensures { λ r. ⌜ seen r (now (reply .exit)) (now (store .exit)) ≡ writeUndivided 8 (now (store .entry)) request (now (body .entry)) (length (now (reply .entry))) ⌝ }
 {
-    let Put::At(start) = begin(reply, request) else {
+    let begun = begin_reply(reply, request, CommandIdentifier::WriteAttributesResponse);
+    let Put::At(start) = begun else {
         return refuse(reply, Refusal::ReplyTooLong);
     };
     let first = pass_records(store, Task::Check, request, body, reply, start);

@@ -2,15 +2,20 @@
 ghost use mathlib.Core.Path.{_≡_};
 ghost use Rattle.frame.specs.Walk.{reached};
 ghost use Rattle.frame.specs.Reply.{putting};
+ghost use Rattle.frame.specs.Failures.{pass, always, noting};
+ghost use Rattle.frame.specs.Passes.{Passed};
 ghost use Rattle.store.specs.Contents.{findOf};
 ghost use Rattle.store.specs.Write.{checkOf, wrote};
-ghost use Rattle.write.specs.Write.{statusBy, writing, pass, always};
-ghost use Rattle.write.specs.Inside.{doingOf, taskOf, Took, noting, Passed};
+ghost use Rattle.write.specs.Request.{records};
+ghost use Rattle.write.specs.Reply.{failure, encode};
+ghost use Rattle.write.specs.Write.{statusBy, writing};
+ghost use Rattle.write.specs.Inside.{doingOf, taskOf, Took};
 use super::record::Next;
 use super::record::next_record;
+use frame::failures::Pass;
+use frame::failures::list_failure;
 use frame::header::ZclHeader;
 use frame::reply::Put;
-use frame::reply::put_run;
 use frame::status::Status;
 use store::lookup::Name;
 use store::lookup::name_of;
@@ -34,13 +39,6 @@ pub(crate) enum Step {
         id: AttributeId,
     },
     Cut,
-}
-
-// How a pass ended: every record taken, with the reply so far up to a place; a record cut; or a failure that does not fit.
-pub(crate) enum Pass {
-    Through(usize),
-    Cut,
-    Full,
 }
 
 // The status of a value that is only checked: a first pass makes the first three checks, so that 87 passes here.
@@ -78,17 +76,13 @@ fn record_turn(store: &mut [u8], task: Task, request: ZclHeader, body: &[u8], at
     Step::Done { end, status, id }
 }
 
-// Lists a failure: its status and the attribute. A success is not listed.
+// Lists a failure: its status and the attribute.
 fn note(reply: &mut [u8], out: usize, status: Status, id: AttributeId) -> Put
-    ensures { λ r. ⌜ putting r (now (reply .exit)) ≡ noting (now (reply .entry)) out status (id .0) ⌝ }
+    ensures { λ r. ⌜ putting r (now (reply .exit)) ≡ noting (now (reply .entry)) out status (encode (failure status (id .0))) ⌝ }
 {
-    let code = status.to_u8();
-    if code == 0 {
-        return Put::At(out);
-    }
     let n = id.0;
-    let three = [code, (n % 256) as u8, (n / 256 % 256) as u8];
-    put_run(reply, out, &three)
+    let three = [status.to_u8(), (n % 256) as u8, (n / 256 % 256) as u8];
+    list_failure(reply, out, status, &three)
 }
 
 // Every record of the body, its failures listed from `start` on, until one cannot be read or does not fit.
@@ -100,7 +94,7 @@ pub(crate) fn pass_records(
     reply: &mut [u8],
     start: usize,
 ) -> Pass
-    ensures { λ r. ⌜ Passed (doingOf task 8 request) (now (body .entry)) start (now (store .entry)) (now (reply .entry)) r (now (store .exit)) (now (reply .exit)) ⌝ }
+    ensures { λ r. ⌜ Passed (doingOf task 8 request) (records (now (body .entry))) start (now (store .entry)) (now (reply .entry)) r (now (store .exit)) (now (reply .exit)) ⌝ }
 {
     let mut at: usize = 0;
     let mut out = start;
@@ -119,7 +113,7 @@ pub(crate) fn pass_records(
 
 // Every record written, until one cannot be read; nothing is listed.
 pub(crate) fn apply_write_records(store: &mut [u8], request: ZclHeader, body: &[u8])
-    ensures { λ _. ⌜ now (store .exit) ≡ reached (pass (writing 8 request) always (now (body .entry)) (now (store .entry))) .store ⌝ }
+    ensures { λ _. ⌜ now (store .exit) ≡ reached (pass (writing 8 request) always (records (now (body .entry))) (now (store .entry))) .state ⌝ }
 {
     let mut at: usize = 0;
     while at < body.len() {

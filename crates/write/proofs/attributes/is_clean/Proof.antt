@@ -1,6 +1,6 @@
 -- The pass says it. Assumes nothing.
 use mathlib.Core.Path.{sym, ap}
-use Rattle.write.specs.declared.pass.Pass.{Pass}
+use Rattle.frame.specs.declared.failures.Pass.{Pass}
 use Rattle.write.specs.Inside.{isClean}
 use borrow.Author.Needs.{needs}
 use Rattle.write.proofs.attributes.is_clean.Statement.{statement}

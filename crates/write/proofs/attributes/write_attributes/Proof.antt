@@ -1,16 +1,20 @@
 -- The header, and the writes behind it. Assumes nothing.
 use denote.Ref.{now}
 use lib.ListN.{length}
-use Rattle.write.proofs.Begun.{write-full, write-run}
+use Rattle.frame.specs.declared.command_identifier.CommandIdentifier.the-variants.{WriteAttributesResponse}
+use Rattle.frame.specs.Failures.{performed}
+use Rattle.frame.proofs.Passes.{headed-past, headed-performs}
+use Rattle.write.specs.Request.{records}
+use Rattle.write.specs.Write.{writing, writeAttributes}
 use borrow.Author.Needs.{needs}
 use Rattle.write.proofs.attributes.write_attributes.Statement.{statement}
 use Rattle.write.proofs.attributes.write_attributes.Tie as tie
 
-begin-requires : tie.Need-begin-requires
-begin-requires c κs = search needs
+begin-reply-requires : tie.Need-begin-reply-requires
+begin-reply-requires c κs = search needs
 
-enum-known-start : tie.Need-enum-known-start
-enum-known-start c = search needs
+enum-known-begun : tie.Need-enum-known-begun
+enum-known-begun c = search needs
 
 enum-told : tie.Need-enum-told
 enum-told c = search needs
@@ -22,11 +26,13 @@ same-length : tie.Need-same-length
 same-length c = search needs
 
 returns : tie.Need-returns
+unfolding writeAttributes
 returns c =
     let a = c .before .before .before .before .before .before .before .before .before .before .before .before .before .args in
-    let b = c .before .before .before .before .before .before .before .before .begin in
+    let b = c .before .before .before .before .before .before .before .before .begin-reply in
     let y = c .before .before .refuse in
-    write-full (a .request) (now (a .store)) (length (now (a .reply))) (b .result) (b .last .0) (b .ensures) (now (a .body)) (c .before .before .before .before .enum-told .given .1) (y .result) (y .last .0) (y .ensures)
+    let n = length (now (a .reply)) in
+    headed-past (a .request) WriteAttributesResponse (now (a .store)) n (b .result) (b .last .0) (b .ensures) (performed (writing 8 (a .request)) (records (now (a .body))) (now (a .store)) n) (c .before .before .before .before .enum-told .given .1) (y .result) (y .last .0) (y .ensures)
 
 write-steps-requires : tie.Need-write-steps-requires
 write-steps-requires c κs = search needs
@@ -38,19 +44,20 @@ same-length-3 : tie.Need-same-length-3
 same-length-3 c = search needs
 
 returns-2 : tie.Need-returns-2
+unfolding writeAttributes
 returns-2 c =
     let a = c .before .before .before .before .before .before .before .before .before .before .before .before .before .before .before .before .before .args in
-    let b = c .before .before .before .before .before .before .before .before .before .before .before .before .begin in
-    let x = c .before .before .before .before .before .before .before .before .start .given in
+    let b = c .before .before .before .before .before .before .before .before .before .before .before .before .begin-reply in
+    let x = c .before .before .before .before .before .before .before .before .begun .given in
     let y = c .before .before .before .before .write-steps in
-    write-run (a .request) (now (a .store)) (length (now (a .reply))) (b .result) (b .last .0) (b .ensures) (now (a .body)) (x .0 .0) (x .1) (y .result) (y .last .0) (y .last .1 .1 .1 .0) (y .ensures)
+    headed-performs (a .request) WriteAttributesResponse (now (a .store)) (length (now (a .reply))) (b .result) (b .last .0) (b .ensures) (writing 8 (a .request)) (records (now (a .body))) (x .0 .0) (x .1) (y .result) (y .last .0) (y .last .1 .1 .1 .0) (y .ensures)
 
 pub write-attributes-spec : {M : Type 1} → statement M
 write-attributes-spec =
     tie.close
     (tie.spec
-    begin-requires
-    enum-known-start
+    begin-reply-requires
+    enum-known-begun
     enum-told
     refuse-requires
     same-length

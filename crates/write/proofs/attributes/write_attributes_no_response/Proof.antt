@@ -5,7 +5,7 @@ use lib.ListN.{length}
 use Rattle.frame.specs.declared.answer.Refusal.the-variants.{NothingToSend}
 use Rattle.frame.specs.Answer.{refused}
 use Rattle.write.specs.Write.{writeSilently}
-use Rattle.write.proofs.Endings.{refused-with}
+use Rattle.frame.proofs.Outcome.{refused-with}
 use borrow.Author.Needs.{needs}
 use Rattle.write.proofs.attributes.write_attributes_no_response.Statement.{statement}
 use Rattle.write.proofs.attributes.write_attributes_no_response.Tie as tie

@@ -1,9 +1,9 @@
 -- The pass, and what it concludes. Assumes nothing.
-use mathlib.Core.Path.{ap, _∙_}
-use Prim.Native.Nat.{ℕ}
 use denote.Ref.{now}
-use lib.ListN.{length}
-use Rattle.write.specs.Write.{writing, pass, fits, concluded}
+use Rattle.frame.proofs.Passes.{performs}
+use Rattle.write.specs.Request.{records}
+use Rattle.write.specs.Write.{writing}
+use Rattle.write.proofs.Turns.{some}
 use borrow.Author.Needs.{needs}
 use Rattle.write.proofs.attributes.write_steps.Statement.{statement}
 use Rattle.write.proofs.attributes.write_steps.Tie as tie
@@ -21,12 +21,11 @@ same-length-2 : tie.Need-same-length-2
 same-length-2 c = search needs
 
 returns : tie.Need-returns
-returns c head h =
+returns c =
     let a = c .before .before .before .before .before .before .before .before .before .before .before .before .before .before .args in
-    let y = c .before .before .before .before .before .before .before .before .pass-records in
-    let way = pass (writing 8 (a .request)) (fits (length (now (a .reply))) (length head)) (now (a .body)) (now (a .store)) in
-    c .before .before .conclude .ensures head way (y .last .0) (h .place) (y .ensures head h)
-    ∙ ap (λ (n : ℕ). concluded n head way) (y .kept .1 .1 .1 .1 .0)
+    let x = c .before .before .before .before .before .before .before .before .pass-records in
+    let y = c .before .before .conclude in
+    performs (writing 8 (a .request)) some (records (now (a .body))) (a .start) (now (a .store)) (now (a .reply)) (x .result) (x .last .0) (x .last .1 .1 .1 .1 .0) (x .ensures) (x .kept .1 .1 .1 .1 .0) (y .result) (y .last .0) (y .ensures)
 
 pub write-steps-spec : {M : Type 1} → statement M
 write-steps-spec =

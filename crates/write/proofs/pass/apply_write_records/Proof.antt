@@ -5,10 +5,15 @@ use native.Mathlib.Omega.{arith}
 use lib.ListN.{length}
 use denote.Ref.{now}
 use borrow.Author.Needs.{needs}
+use Rattle.frame.specs.Passes.{TookOne}
+use Rattle.frame.proofs.Passes.{took-ahead}
 use Rattle.write.specs.declared.pass.Step.{Step}
+use Rattle.write.specs.Request.{recordAt}
+use Rattle.write.specs.Reply.{Failure, failure}
 use Rattle.write.specs.Write.{writing}
-use Rattle.write.specs.Inside.{TookOne, Took}
-use Rattle.write.proofs.Turns.{Silent, silent-first, silent-more, silent-cut, silent-end, took-ahead}
+use Rattle.write.specs.Inside.{Took}
+use Rattle.write.proofs.Items.{ahead}
+use Rattle.write.proofs.Turns.{Silent, silent-first, silent-more, silent-cut, silent-end}
 use Rattle.write.proofs.pass.apply_write_records.Statement.{statement}
 use Rattle.write.proofs.pass.apply_write_records.Tie as tie
 
@@ -18,17 +23,21 @@ Inv-loop store₀ request body at₀ store at = Silent (writing 8 request) body 
 abbrev μ-loop : tie.MeasureT-loop
 μ-loop store₀ request body at₀ store at = length body - at
 
--- what a record that was read, or none, says of the loop's turn
-did : (c : tie.After-slice-known2 Inv-loop μ-loop) → (r : Step) → c .before .before .record-turn .result ≡ r
-    → Took (writing 8 (c .before .before .before .before .before .before .before .before .args .request)) (c .before .before .before .before .before .loop .store) (now (c .before .before .before .before .before .before .before .before .args .body)) (c .before .before .before .before .before .loop .at) r (c .before .before .record-turn .last .0)
-did c r e =
-    subst (λ (x : Step). Took (writing 8 (c .before .before .before .before .before .before .before .before .args .request)) (c .before .before .before .before .before .loop .store) (now (c .before .before .before .before .before .before .before .before .args .body)) (c .before .before .before .before .before .loop .at) x (c .before .before .record-turn .last .0)) e
-    (c .before .before .record-turn .ensures)
+-- what the loop's turn says of an answer
+abbrev Says : tie.After-slice-known2 Inv-loop μ-loop → Step → Type 0
+Says c r = Took (writing 8 (c .before .before .before .before .before .before .before .before .args .request)) (c .before .before .before .before .before .loop .store) (now (c .before .before .before .before .before .before .before .before .args .body)) (c .before .before .before .before .before .loop .at) r (c .before .before .record-turn .last .0)
 
+did : (c : tie.After-slice-known2 Inv-loop μ-loop) → (r : Step) → c .before .before .record-turn .result ≡ r → Says c r
+did c r e = subst (Says c) e (c .before .before .record-turn .ensures)
+
+-- the record that was read
 abbrev End : tie.After-end Inv-loop μ-loop → ℕ
 End c = c .end .given .0 .0
 
-took : (c : tie.After-end Inv-loop μ-loop) → TookOne (writing 8 (c .before .before .before .before .before .before .before .before .before .before .args .request)) (c .before .before .before .before .before .before .before .loop .store) (now (c .before .before .before .before .before .before .before .before .before .before .args .body)) (c .before .before .before .before .before .before .before .loop .at) (End c) (c .end .given .0 .1 .0) (c .end .given .0 .1 .1 .0 .0) (c .before .before .before .before .record-turn .last .0)
+abbrev Fails : tie.After-end Inv-loop μ-loop → Failure
+Fails c = failure (c .end .given .0 .1 .0) (c .end .given .0 .1 .1 .0 .0)
+
+took : (c : tie.After-end Inv-loop μ-loop) → TookOne (writing 8 (c .before .before .before .before .before .before .before .before .before .before .args .request)) (recordAt (now (c .before .before .before .before .before .before .before .before .before .before .args .body))) (c .before .before .before .before .before .before .before .loop .store) (c .before .before .before .before .before .before .before .loop .at) (End c) (c .end .given .0 .1 .0) (Fails c) (c .before .before .before .before .record-turn .last .0)
 took c = did (c .before .before) (Step.Done (End c) (c .end .given .0 .1 .0) (c .end .given .0 .1 .1 .0)) (c .end .given .1)
 
 loop-holds : tie.Need-loop-holds Inv-loop μ-loop
@@ -51,12 +60,12 @@ returns c =
     silent-cut (c .before .before .before .before .before .before .before .loop .inv) (c .before .before .before .before .before .before .loop-test .taken) (c .before .before .before .before .record-turn .last .0) (did (c .before .before) Step.Cut (c .enum-told .given .1))
 
 loop-less : tie.Need-loop-less Inv-loop μ-loop
-loop-less c = omega (arith, took-ahead (took (c .before)), c .before .before .before .before .before .before .before .loop-test .taken)
+loop-less c = omega (arith, took-ahead (ahead (now (c .before .before .before .before .before .before .before .before .before .before .before .args .body))) (took (c .before)), c .before .before .before .before .before .before .before .loop-test .taken)
 
 loop-again : tie.Need-loop-again Inv-loop μ-loop
 loop-again c =
     let x = c .before in
-    silent-more (c .before .before .before .before .before .before .before .before .loop .inv) (c .before .before .before .before .before .before .before .loop-test .taken) (End x) (x .end .given .0 .1 .0) (x .end .given .0 .1 .1 .0 .0) (c .before .before .before .before .before .record-turn .last .0) (took x) (c .before .before .before .before .before .record-turn .kept .0)
+    silent-more (c .before .before .before .before .before .before .before .before .loop .inv) (c .before .before .before .before .before .before .before .loop-test .taken) (End x) (x .end .given .0 .1 .0) (Fails x) (c .before .before .before .before .before .record-turn .last .0) (took x) (c .before .before .before .before .before .record-turn .kept .0)
 
 same-length-2 : tie.Need-same-length-2 Inv-loop μ-loop
 same-length-2 c = c .before .loop .inv .store-length

@@ -1,11 +1,11 @@
--- A success is not listed, and a failure is three bytes. Assumes nothing.
-use mathlib.Core.Path.{sym, ap, _∙_}
+-- A failure is three bytes. Assumes nothing.
+use mathlib.Core.Path.{ap, _∙_}
 use Prim.Native.Nat.{ℕ}
 use mathlib.Core.List.{_∷_}
 use denote.Ref.{now}
 use Rattle.types.specs.Number.{bytesOf}
-use Rattle.frame.specs.Reply.{put}
-use Rattle.write.proofs.Listings.{note-success, note-failure}
+use Rattle.frame.specs.Failures.{noting}
+use Rattle.write.specs.Reply.{encode}
 use borrow.Author.Needs.{needs}
 use Rattle.write.proofs.pass.note.Statement.{statement}
 use Rattle.write.proofs.pass.note.Tie as tie
@@ -13,44 +13,36 @@ use Rattle.write.proofs.pass.note.Tie as tie
 to-u8-requires : tie.Need-to-u8-requires
 to-u8-requires c κs = search needs
 
-returns : tie.Need-returns
-returns c =
-    let a = c .before .before .before .args in
-    sym (note-success (now (a .reply)) (a .out) (a .status) (a .id .0) (sym (c .before .to-u8 .ensures) ∙ c .if1 .taken))
+cast-t9 : tie.Need-cast-t9
+cast-t9 c = search needs
 
-cast-t10 : tie.Need-cast-t10
-cast-t10 c = search needs
+cast-t12 : tie.Need-cast-t12
+cast-t12 c = search needs
 
-cast-t13 : tie.Need-cast-t13
-cast-t13 c = search needs
+slice-aggregate-list-failure : tie.Need-slice-aggregate-list-failure
+slice-aggregate-list-failure c = search needs
 
-slice-aggregate-put-run : tie.Need-slice-aggregate-put-run
-slice-aggregate-put-run c = search needs
-
-put-run-requires : tie.Need-put-run-requires
-put-run-requires c κs = search needs
+list-failure-requires : tie.Need-list-failure-requires
+list-failure-requires c κs = search needs
 
 same-length : tie.Need-same-length
 same-length c = search needs
 
-returns-2 : tie.Need-returns-2
-unfolding bytesOf
-returns-2 c =
-    let a = c .before .before .before .before .before .before .before .before .args in
-    let e = c .before .before .before .before .before .before .to-u8 .ensures in
-    c .before .before .put-run .ensures
-    ∙ ap (λ (code : ℕ). put (now (a .reply)) (a .out) (code ∷ bytesOf 2 (a .id .0))) e
-    ∙ sym (note-failure (now (a .reply)) (a .out) (a .status) (a .id .0) (λ z. c .before .before .before .before .before .if1 .left (e ∙ z)))
+returns : tie.Need-returns
+unfolding encode bytesOf
+returns c =
+    let a = c .before .before .before .before .before .before .before .args in
+    c .before .before .list-failure .ensures
+    ∙ ap (λ (code : ℕ). noting (now (a .reply)) (a .out) (a .status) (code ∷ bytesOf 2 (a .id .0))) (c .before .before .before .before .before .to-u8 .ensures)
 
 pub note-spec : {M : Type 1} → statement M
 note-spec =
     tie.close
     (tie.spec
     to-u8-requires
-    returns
-    cast-t10
-    cast-t13
-    slice-aggregate-put-run
-    put-run-requires
+    cast-t9
+    cast-t12
+    slice-aggregate-list-failure
+    list-failure-requires
     same-length
-    returns-2)
+    returns)

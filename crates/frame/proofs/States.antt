@@ -1,0 +1,57 @@
+-- The state that a command leaves which lists its failures, for any state. Assumes nothing.
+use mathlib.Core.Path.{_≡_, refl, sym, subst}
+use mathlib.Core.Bool.{Bool, true, false, cond}
+use mathlib.Core.List.{List, [], _++_}
+use Prim.Native.Nat.{ℕ}
+use lib.ListN.{length}
+use lib.Dec.{leb}
+use Rattle.frame.specs.declared.header.ZclHeader.{ZclHeader}
+use Rattle.frame.specs.declared.command_identifier.CommandIdentifier.{CommandIdentifier}
+use Rattle.frame.specs.declared.answer.Refusal.the-variants.{ReplyTooLong}
+use Rattle.frame.specs.Header.{replyHead}
+use Rattle.frame.specs.Answer.{Outcome, replied, refused}
+use Rattle.frame.specs.Walk.{Records, Way, through, broken, stopped, reached}
+use Rattle.frame.specs.Encoded.{fits}
+use Rattle.frame.specs.Failures.{Doing, Sofar, sofar, turn, passFrom, pass, encodeFailures, answered, concluded, performed, headed}
+use Rattle.frame.proofs.Walks.{All, walk-keeps}
+
+module _ {S : Type 0} (room : ℕ) where
+  state-answered : (out : List ℕ) (s : S) → answered room out s .state ≡ s
+  unfolding answered
+  state-answered out s = go (leb (length out) room)
+    where
+      go : (b : Bool) → cond b (replied room out s) (refused room ReplyTooLong s) .state ≡ s
+      go true = refl
+      go false = refl
+
+  -- a command leaves the state that its pass reached
+  pub state-concluded : {F : Type 0} (bytes : F → List ℕ) (head : List ℕ) (way : Way (Sofar S F)) → concluded bytes room head way .state ≡ reached way .state
+  unfolding concluded
+  state-concluded bytes head (through x) = state-answered (head ++ encodeFailures bytes (x .failures)) (x .state)
+  state-concluded bytes head (broken x) = refl
+  state-concluded bytes head (stopped x y) = refl
+
+-- what holds of the state before, and of the state behind every head, holds of the state afterwards
+pub headed-keeps : {S : Type 0} (P : S → Type 0) (request : ZclHeader) (command : CommandIdentifier) (s : S) (room : ℕ) (rest : List ℕ → Outcome S)
+    → P s → ((head : List ℕ) → P (rest head .state)) → P (headed request command s room rest .state)
+unfolding headed
+headed-keeps P request command s room rest h k = go (leb (length (replyHead request command)) room)
+  where
+    go : (b : Bool) → P (cond b (rest (replyHead request command)) (refused room ReplyTooLong s) .state)
+    go true = k (replyHead request command)
+    go false = h
+
+-- what every record keeps, a pass keeps
+module _ {S R F : Type 0} (doing : Doing S R F) (P : S → Type 0) (Q : R → Type 0) (keep : (s : S) (r : R) → P s → Q r → P (doing .does s r .state)) (rs : Records R) (all : All Q (rs .list)) where
+  pub pass-keeps : (fine : List F → Bool) (s : S) → P s → P (reached (pass doing fine rs s) .state)
+  unfolding passFrom turn
+  pass-keeps fine s h = walk-keeps (turn doing) (λ y. fine (y .failures)) (λ x. P (x .state)) Q (λ x r k w. keep (x .state) r k w) _ _ (sofar s []) h all
+
+  pub concluded-keeps : (room : ℕ) (head : List ℕ) (way : Way (Sofar S F)) → P (reached way .state) → P (concluded (doing .bytes) room head way .state)
+  concluded-keeps room head way h = subst P (sym (state-concluded room (doing .bytes) head way)) h
+
+  pub performed-keeps : (s : S) (room : ℕ) (head : List ℕ) → P s → P (performed doing rs s room head .state)
+  unfolding performed
+  performed-keeps s room head h =
+      let fine : List F → Bool = fits (doing .bytes) room (length head) in
+      concluded-keeps room head (pass doing fine rs s) (pass-keeps fine s h)
