@@ -77,7 +77,3 @@ pub fn settings(config: Config) -> String {
     } = config;
     format!("minimum {minimum} maximum {maximum} change {change}")
 }
-
-pub fn hex(bytes: &[u8]) -> String {
-    bytes.iter().map(|byte| format!("{byte:02x}")).collect()
-}

@@ -2,14 +2,14 @@
 //! every function refuses them with 8 and leaves them alone, or, where they
 //! are a table all the same, does with it what the Rust does.
 
+use cases::{Lent, Random, hex};
 use reading::table::{SIZE, SLOT, entries};
 
-use crate::call::{Answer, Call, hex};
+use crate::call::{Answer, Call};
 use crate::histories::History;
 use crate::kinds::{self, Kinds};
-use crate::ours::{self, Lent};
+use crate::ours;
 use crate::pair::{Pair, list};
-use crate::random::Random;
 
 /// Tries some damaged copies of `table`.
 pub fn tried(table: &[u8], random: &mut Random, kinds: &mut Kinds) -> Result<(), String> {

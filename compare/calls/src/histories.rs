@@ -1,9 +1,9 @@
 //! Calls at random: keys of a small set, numbers around the limits.
 
+use cases::Random;
 use reading::table::{Config, Entry, Key};
 
 use crate::call::Call;
-use crate::random::Random;
 
 /// Some are others with their bytes, or cluster and attribute, exchanged.
 const CLUSTERS: [u16; 5] = [0xfc21, 0x0006, 0x21fc, 0x0000, 0xffff];

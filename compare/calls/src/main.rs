@@ -12,9 +12,7 @@ mod histories;
 mod kinds;
 mod ours;
 mod pair;
-mod random;
 mod rust;
-mod shorter;
 mod speed;
 
 use std::fmt::Write;
@@ -22,10 +20,10 @@ use std::process::ExitCode;
 use std::time::Instant;
 
 use call::Call;
+use cases::{Random, shorter};
 use histories::History;
 use kinds::Kinds;
 use pair::{Pair, list};
-use random::Random;
 
 /// A run makes at least this many, besides those on damaged tables.
 const CALLS: usize = 1_000_000;
@@ -98,7 +96,7 @@ fn history(
 
 /// The history that went wrong at its last call, as short as may be.
 fn disagreement(calls: &[Call]) -> String {
-    let short = shorter::shorter(calls, |calls| replayed(calls).err().map(|wrong| wrong.at));
+    let short = shorter(calls, |calls| replayed(calls).err().map(|wrong| wrong.at));
     let length = calls.len();
     match replayed(&short) {
         Ok(()) => format!("a disagreement after {length} calls that does not come again"),

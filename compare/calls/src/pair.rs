@@ -3,10 +3,11 @@
 use std::fmt::Write;
 use std::mem::replace;
 
+use cases::{Lent, hex};
 use reading::table::{Entry, SIZE, ask, entries};
 
-use crate::call::{Answer, Call, hex, settings, shown};
-use crate::ours::{self, Lent};
+use crate::call::{Answer, Call, settings, shown};
+use crate::ours;
 use crate::rust::Rust;
 
 pub struct Pair {

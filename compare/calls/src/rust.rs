@@ -1,7 +1,7 @@
 //! The Rust: the held `ReportingTable<16>`, with answers in our form.
 
+use oracle::tables;
 use reading::table::{Config, Entry, Key};
-use zigbee_cluster_library::Shown;
 use zigbee_cluster_library::reporting::{AttributeReporting, ReportingConfig, ReportingTable};
 use zigbee_cluster_library::types::ids::{AttributeId, ClusterId};
 
@@ -16,13 +16,12 @@ impl Rust {
 
     /// A table of these entries, however they came about.
     pub fn of(entries: &[Entry]) -> Self {
-        let shown: Vec<Shown> = entries.iter().map(to_rust).collect();
-        Self(ReportingTable::of(&shown))
+        Self(tables::of(entries))
     }
 
     /// The entries, in their order.
     pub fn entries(&self) -> Vec<Entry> {
-        let entries: Vec<Entry> = self.0.shown().into_iter().map(from_rust).collect();
+        let entries = tables::entries(&self.0);
         assert_eq!(entries.len(), self.0.len(), "all entries are shown");
         entries
     }
@@ -73,25 +72,4 @@ fn config_from_rust(config: ReportingConfig) -> Config {
         maximum: config.max_interval,
         change: config.reportable_change,
     }
-}
-
-fn from_rust((cluster, attribute, config, last): Shown) -> Entry {
-    Entry {
-        key: Key {
-            cluster: cluster.0,
-            attribute: attribute.0,
-        },
-        config: config_from_rust(config),
-        last,
-    }
-}
-
-fn to_rust(entry: &Entry) -> Shown {
-    let (cluster, attribute) = ids(entry.key);
-    let config = ReportingConfig {
-        min_interval: entry.config.minimum,
-        max_interval: entry.config.maximum,
-        reportable_change: entry.config.change,
-    };
-    (cluster, attribute, config, entry.last)
 }

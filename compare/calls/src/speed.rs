@@ -3,12 +3,12 @@
 use std::hint::black_box;
 use std::time::Instant;
 
+use cases::{Lent, Random};
 use reading::table::{Config, Key};
 
 use crate::call::{Answer, Call};
-use crate::ours::{self, Lent};
+use crate::ours;
 use crate::pair::Pair;
-use crate::random::Random;
 use crate::rust::Rust;
 
 const ASKS: usize = 20_000;

@@ -2,6 +2,7 @@
 //! It calls nothing else: neither the Rust that is compared nor what replaces
 //! it. It prefers the plainest form over speed.
 
+pub mod commands;
 mod extent;
 mod header;
 pub mod store;

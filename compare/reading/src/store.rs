@@ -46,6 +46,11 @@ fn short(bytes: &[u8]) -> u16 {
     u16::from_le_bytes([bytes[0], bytes[1]])
 }
 
+/// The cluster whose attributes these are.
+pub fn cluster_of(bytes: &[u8]) -> Option<u16> {
+    Some(short(bytes.get(0..2)?))
+}
+
 /// The entries of the contents; `None` where the bytes end before they do.
 pub fn attributes(bytes: &[u8]) -> Option<Vec<Attribute>> {
     let count = usize::from(short(bytes.get(2..4)?));
@@ -128,18 +133,25 @@ pub fn number(bytes: &[u8], id: u16) -> Result<i64, u8> {
     Ok(i64::from_le_bytes(wide))
 }
 
+/// The first three checks of a write: the attribute, or the status.
+pub fn check(bytes: &[u8], id: u16, type_code: u8) -> Result<Attribute, u8> {
+    let attribute = find(bytes, id).ok_or(0x86)?;
+    if attribute.access & 1 == 0 {
+        return Err(0x88);
+    }
+    if attribute.type_code != type_code {
+        return Err(0x8d);
+    }
+    Ok(attribute)
+}
+
 /// Writes one whole value of type `type_code` to an attribute of a store, and
 /// gives the status.
 pub fn write(bytes: &mut [u8], id: u16, type_code: u8, value: &[u8]) -> u8 {
-    let Some(attribute) = find(bytes, id) else {
-        return 0x86;
+    let attribute = match check(bytes, id, type_code) {
+        Ok(attribute) => attribute,
+        Err(status) => return status,
     };
-    if attribute.access & 1 == 0 {
-        return 0x88;
-    }
-    if attribute.type_code != type_code {
-        return 0x8d;
-    }
     // a string's length byte stands before it; behind ff there is nothing
     if attribute.room < value.len() {
         return 0x87;

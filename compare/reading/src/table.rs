@@ -1,4 +1,4 @@
-//! The reporting table: its bytes towards C, and what an ask says.
+//! The reporting table: its bytes towards C, its changes, and what an ask says.
 
 /// A table has room for this many entries.
 pub const ENTRIES: usize = 16;
@@ -92,6 +92,53 @@ fn field<const N: usize>(slot: &[u8], at: usize) -> [u8; N] {
     *slot[at..]
         .first_chunk()
         .expect("every field is in the slot")
+}
+
+/// The bytes of a table of these entries, which are no more than it holds.
+pub fn to_bytes(entries: &[Entry]) -> Vec<u8> {
+    let count = u8::try_from(entries.len()).expect("a table is short");
+    let mut bytes = vec![count];
+    for entry in entries {
+        let (time, value) = entry.last.unwrap_or((0, 0));
+        bytes.extend(entry.key.cluster.to_le_bytes());
+        bytes.extend(entry.key.attribute.to_le_bytes());
+        bytes.extend(entry.config.minimum.to_le_bytes());
+        bytes.extend(entry.config.maximum.to_le_bytes());
+        bytes.extend(entry.config.change.to_le_bytes());
+        bytes.push(entry.last.is_some().into());
+        bytes.extend(time.to_le_bytes());
+        bytes.extend(value.to_le_bytes());
+    }
+    assert!(bytes.len() <= SIZE, "at most sixteen entries");
+    bytes.resize(SIZE, 0);
+    bytes
+}
+
+/// Whether there was room. Configuring again forgets the last report.
+pub fn configure(entries: &mut Vec<Entry>, key: Key, config: Config) -> bool {
+    let entry = Entry {
+        key,
+        config,
+        last: None,
+    };
+    match place(entries, key) {
+        Some(place) => entries[place] = entry,
+        None if entries.len() < ENTRIES => entries.push(entry),
+        None => return false,
+    }
+    true
+}
+
+/// The last entry moves into the hole.
+pub fn clear(entries: &mut Vec<Entry>, key: Key) {
+    let Some(place) = place(entries, key) else {
+        return;
+    };
+    if let Some(last) = entries.pop()
+        && place < entries.len()
+    {
+        entries[place] = last;
+    }
 }
 
 /// The place of the first entry of `key`.

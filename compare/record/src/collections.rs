@@ -1,18 +1,12 @@
 //! Arrays, structures, sets and bags, all of which the Rust refuses.
 
+use cases::Random;
+use cases::values::{COLLECTIONS, STRUCTURE, made, series, structure, text};
 use reading::Kind;
 
-use crate::lines::{Inputs, Random};
-use crate::strings::text;
+use crate::lines::Inputs;
 
 const SERIES: [u8; 3] = [0x48, 0x50, 0x51];
-const STRUCTURE: u8 = 0x4c;
-const COLLECTIONS: [u8; 4] = [0x48, STRUCTURE, 0x50, 0x51];
-
-/// Types whose values have an extent, for random values.
-const PLAIN: [u8; 16] = [
-    0x00, 0x08, 0x0a, 0x10, 0x1d, 0x20, 0x21, 0x29, 0x2f, 0x31, 0x3a, 0x41, 0x42, 0x43, 0xe2, 0xf1,
-];
 
 pub fn add(inputs: &mut Inputs) {
     heads(inputs);
@@ -20,18 +14,6 @@ pub fn add(inputs: &mut Inputs) {
     members(inputs);
     nested(inputs);
     random(inputs, &mut Random::new(0x636f_6c6c));
-}
-
-/// Type code of a series, element type, count, elements.
-fn series(code: u8, element: u8, count: u16, elements: &[u8]) -> Vec<u8> {
-    let [low, high] = count.to_le_bytes();
-    [&[code, element, low, high], elements].concat()
-}
-
-/// A structure of members, each a type code and its bytes.
-fn structure(members: &[Vec<u8>]) -> Vec<u8> {
-    let [low, high] = u16::try_from(members.len()).expect("few").to_le_bytes();
-    [vec![STRUCTURE, low, high], members.concat()].concat()
 }
 
 /// Empty ones, invalid ones, and heads that are cut.
@@ -156,57 +138,16 @@ fn around(inner: &[u8], levels: usize, code: impl Fn(usize) -> u8) -> Vec<u8> {
 /// Random values: whole, one short, one longer, cut anywhere, one byte changed.
 fn random(inputs: &mut Inputs, random: &mut Random) {
     for _ in 0..90 {
-        let code = COLLECTIONS[random.below(4)];
+        let code = COLLECTIONS[random.under(4)];
         let value = [vec![code], made(random, code, 4)].concat();
         if value.len() > 120 {
             continue;
         }
         inputs.add_around(&value, random.byte());
-        inputs.add(value[..=random.below(value.len())].to_vec());
+        inputs.add(value[..=random.under(value.len())].to_vec());
         let mut changed = value;
-        let at = 1 + random.below(changed.len() - 1);
+        let at = 1 + random.under(changed.len() - 1);
         changed[at] = random.byte();
         inputs.add(changed);
-    }
-}
-
-/// The bytes of a value of type `code`, with at most `levels` collections in
-/// each other.
-fn made(random: &mut Random, code: u8, levels: usize) -> Vec<u8> {
-    match reading::kind(code) {
-        Kind::Fixed(size) => random.bytes(size),
-        Kind::Text(width) => {
-            if random.below(5) == 0 {
-                return vec![0xff; width];
-            }
-            let length = random.below(6);
-            text(code, &random.bytes(length))[1..].to_vec()
-        }
-        Kind::Unknown => Vec::new(),
-        Kind::Series => {
-            let element = some_type(random, levels);
-            let count = random.below(4);
-            let elements: Vec<u8> = (0..count)
-                .flat_map(|_| made(random, element, levels - 1))
-                .collect();
-            series(code, element, u16::try_from(count).expect("few"), &elements)[1..].to_vec()
-        }
-        Kind::Structure => {
-            let members: Vec<Vec<u8>> = (0..random.below(4))
-                .map(|_| {
-                    let member = some_type(random, levels);
-                    [vec![member], made(random, member, levels - 1)].concat()
-                })
-                .collect();
-            structure(&members)[1..].to_vec()
-        }
-    }
-}
-
-fn some_type(random: &mut Random, levels: usize) -> u8 {
-    if levels > 1 && random.below(2) == 0 {
-        COLLECTIONS[random.below(4)]
-    } else {
-        PLAIN[random.below(16)]
     }
 }

@@ -1,8 +1,9 @@
 //! Frames, whole and cut around their header.
 
+use cases::{Random, hex};
 use reading::FrameType;
 
-use crate::lines::{Inputs, Random, hex};
+use crate::lines::Inputs;
 use crate::rust;
 
 pub fn lines() -> Result<Vec<String>, String> {

@@ -1,10 +1,6 @@
-//! Small tools of the list: hex, inputs without repetition, fixed random bytes.
+//! Inputs without repetition.
 
 use std::collections::HashSet;
-
-pub fn hex(bytes: &[u8]) -> String {
-    bytes.iter().map(|byte| format!("{byte:02x}")).collect()
-}
 
 /// Inputs in the order they were added, each once.
 #[derive(Default)]
@@ -30,32 +26,11 @@ impl Inputs {
         self.add([input, &[more]].concat());
     }
 
+    pub fn len(&self) -> usize {
+        self.order.len()
+    }
+
     pub fn into_vec(self) -> Vec<Vec<u8>> {
         self.order
-    }
-}
-
-/// Xorshift: the same bytes in every run.
-pub struct Random(u64);
-
-impl Random {
-    pub fn new(seed: u64) -> Self {
-        Self(seed | 1)
-    }
-
-    pub fn byte(&mut self) -> u8 {
-        self.0 ^= self.0 << 13;
-        self.0 ^= self.0 >> 7;
-        self.0 ^= self.0 << 17;
-        self.0.to_le_bytes()[5]
-    }
-
-    pub fn bytes(&mut self, count: usize) -> Vec<u8> {
-        (0..count).map(|_| self.byte()).collect()
-    }
-
-    /// A number below `bound`, which is at most 256.
-    pub fn below(&mut self, bound: usize) -> usize {
-        usize::from(self.byte()) * bound / 256
     }
 }

@@ -1,10 +1,10 @@
 //! The whole list.
 
+use cases::{Condition, hex};
 use reading::Extent;
 
-use crate::conditions::Condition;
-use crate::lines::{Inputs, hex};
-use crate::{collections, headers, numbers, rust, stores, strings, types};
+use crate::lines::Inputs;
+use crate::{collections, frames, headers, numbers, rust, stores, strings, types};
 
 /// The list, or why there is none.
 pub fn whole() -> Result<String, String> {
@@ -19,6 +19,7 @@ pub fn whole() -> Result<String, String> {
         lines.push(value_line(&input)?);
     }
     lines.extend(stores::lines());
+    lines.extend(frames::lines()?.0);
 
     let count = u32::try_from(lines.len()).expect("the list is short");
     lines.push(format!("n {}", hex(&count.to_le_bytes())));
@@ -53,26 +54,22 @@ fn document(value: &[u8]) -> Vec<u8> {
 
 #[cfg(test)]
 mod tests {
-    use super::*;
+    use cases::unhex;
 
-    fn unhex(text: &str) -> Vec<u8> {
-        (0..text.len() / 2)
-            .map(|at| u8::from_str_radix(&text[2 * at..2 * at + 2], 16).expect("hex"))
-            .collect()
-    }
+    use super::*;
 
     #[test]
     fn shape() {
         let list = whole().expect("no difference but the listed ones");
         assert_eq!(list, whole().expect("again"), "two runs, one list");
-        assert!(list.is_ascii() && list.len() < 600_000);
+        assert!(list.is_ascii() && list.len() < 1_000_000);
 
         let mut lines: Vec<&str> = list
             .strip_suffix('\n')
             .expect("an end")
             .split('\n')
             .collect();
-        assert!((4_000..9_000).contains(&lines.len()));
+        assert!((8_000..12_000).contains(&lines.len()));
 
         let last = lines.pop().expect("a last line");
         let count = u32::try_from(lines.len()).expect("short");
@@ -86,6 +83,8 @@ mod tests {
             ('s', 1_000, 3),
             ('v', 300, 3),
             ('w', 300, 3),
+            ('c', 1_500, 3),
+            ('x', 100, 4),
         ];
         let mut rest = lines.len();
         for (letter, floor, fields) in floors {

@@ -18,12 +18,33 @@
 //! - `w question answer`: one write. The question is an id in two bytes, a type
 //!   code, the value's length in two bytes, the value, then a store; the answer
 //!   the status and the whole store afterwards.
+//! - `c input answers`: one frame over a store, at every room. The input is the
+//!   last room in one byte, the store's length in two, the store, the request
+//!   frame. The answers are those for room 0, 1 and so on up to the last: 00
+//!   where answer and store are as at the room before; else 01, the number, the
+//!   reply's length in one byte, the reply, and 00 where the store is as it was
+//!   before the call, or 01 and the whole store. The number is document 01's,
+//!   0 for a reply; reply and store are the Rust's as well, and the Rust has no
+//!   reply exactly where the number is not 0.
+//! - `x input answers answers`: a frame with a listed difference, input and
+//!   answers as in `c`, document 01's first, then the Rust's, whose number is 6
+//!   where it has no reply.
 //! - `n count`: how many lines stand before this one, the last.
 //!
-//! A difference that is not listed ends the program, with nothing written.
+//! The frames of `c` and `x` are global ones of commands 00, 02, 03, 05 and 0c
+//! with a whole header, for the cluster of the store, which is one. The last
+//! room is past the longest reply, at most 63, and where nothing changes any
+//! more with a longer one.
+//!
+//! A difference that is not listed ends the program, with nothing written, and
+//! so does an answer that document 01 allows to these commands and that no
+//! frame reaches, or a listed difference that no frame shows.
+//!
+//! `record counts` writes instead how often each answer came in `c` and `x`
+//! lines, `record smallest` the smallest frames that show each difference.
 
 mod collections;
-mod conditions;
+mod frames;
 mod headers;
 mod lines;
 mod list;
@@ -37,15 +58,19 @@ use std::io::{Write, stdout};
 use std::process::ExitCode;
 
 fn main() -> ExitCode {
-    let list = match list::whole() {
-        Ok(list) => list,
-        Err(trouble) => {
-            eprintln!("record: {trouble}");
-            return ExitCode::FAILURE;
-        }
+    let asked = std::env::args().nth(1);
+    let text = match asked.as_deref() {
+        None => list::whole(),
+        Some("counts") => frames::lines().map(|(_, counts)| counts.list()),
+        Some("smallest") => frames::smallest::list(),
+        Some(other) => Err(format!("{other}: not one of counts, smallest")),
     };
-    let mut out = stdout().lock();
-    match out.write_all(list.as_bytes()).and_then(|()| out.flush()) {
+    let written = text.and_then(|text| {
+        let mut out = stdout().lock();
+        let written = out.write_all(text.as_bytes()).and_then(|()| out.flush());
+        written.map_err(|trouble| trouble.to_string())
+    });
+    match written {
         Ok(()) => ExitCode::SUCCESS,
         Err(trouble) => {
             eprintln!("record: {trouble}");

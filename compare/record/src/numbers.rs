@@ -1,8 +1,9 @@
 //! Values of fixed size, and codes of no type.
 
+use cases::Random;
 use reading::Kind;
 
-use crate::lines::{Inputs, Random};
+use crate::lines::Inputs;
 
 pub fn add(inputs: &mut Inputs) {
     let mut random = Random::new(0x6e75_6d62);

@@ -4,12 +4,11 @@
 use std::panic::{AssertUnwindSafe, catch_unwind};
 
 use byte::BytesExt;
+use cases::hex;
 use zigbee_cluster_library::frame::header::ZclHeader;
 use zigbee_cluster_library::frame::header::frame_control::FrameType;
 use zigbee_cluster_library::types::data_types::ZclDataType;
 use zigbee_cluster_library::types::ids::TypeId;
-
-use crate::lines::hex;
 
 pub type Answer = Result<Vec<u8>, String>;
 

@@ -1,7 +1,10 @@
 //! Strings: whole, cut, with the length that means invalid, and character
 //! strings that are not UTF-8.
 
-use crate::lines::{Inputs, Random};
+use cases::Random;
+use cases::values::text;
+
+use crate::lines::Inputs;
 
 const SHORT: [u8; 2] = [0x41, 0x42];
 const LONG: [u8; 2] = [0x43, 0x44];
@@ -36,23 +39,12 @@ pub fn add(inputs: &mut Inputs) {
             inputs.add_around(&text(code, &letters), 0xa9);
         }
         for _ in 0..24 {
-            let length = random.below(12);
+            let length = random.under(12);
             let whole = text(code, &random.bytes(length));
             inputs.add_around(&whole, random.byte());
             inputs.add([vec![code], random.bytes(length)].concat());
         }
     }
-}
-
-/// Type code, length, letters.
-pub fn text(code: u8, letters: &[u8]) -> Vec<u8> {
-    let [low, high] = u16::try_from(letters.len()).expect("short").to_le_bytes();
-    let length = if LONG.contains(&code) {
-        vec![low, high]
-    } else {
-        vec![low]
-    };
-    [vec![code], length, letters.to_vec()].concat()
 }
 
 fn letters(count: usize) -> Vec<u8> {

@@ -1,6 +1,7 @@
 //! The type table, all codes in order.
 
-use crate::lines::hex;
+use cases::hex;
+
 use crate::rust;
 
 pub fn lines() -> Result<Vec<String>, String> {

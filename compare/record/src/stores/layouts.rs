@@ -1,12 +1,14 @@
 //! Bytes, and whether they are a store.
 
+use cases::Random;
+use cases::stores::{
+    Part, bench, built, invalid, most_rooms, random_parts, single, string, strings, word,
+};
 use reading::Kind;
 use reading::store::is_store;
 
-use super::{
-    Part, bench, built, invalid, line, most_rooms, random_parts, single, string, strings, word,
-};
-use crate::lines::{Inputs, Random};
+use super::line;
+use crate::lines::Inputs;
 
 pub fn lines() -> Vec<String> {
     let mut inputs = Inputs::default();
@@ -217,7 +219,7 @@ fn random(inputs: &mut Inputs, random: &mut Random) {
         let store = built(&random_parts(random));
         for _ in 0..2 {
             let mut changed = store.clone();
-            let at = random.below(changed.len());
+            let at = random.under(changed.len());
             changed[at] = random.byte();
             inputs.add(changed);
         }

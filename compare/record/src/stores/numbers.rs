@@ -1,11 +1,13 @@
 //! The number of a value. An input is an id and a store's bytes; the answer 00
 //! and the number, or the refusal.
 
+use cases::Random;
+use cases::stores::{Part, bench, built, most_rooms, random_parts, single, string, strings};
 use reading::Kind;
 use reading::store::number;
 
-use super::{Part, bench, built, line, most_rooms, random_parts, single, string, strings};
-use crate::lines::{Inputs, Random};
+use super::line;
+use crate::lines::Inputs;
 
 pub fn lines() -> Vec<String> {
     let mut inputs = Inputs::default();

@@ -2,14 +2,16 @@
 //! two bytes, one whole value of the type, and a store; the answer the status,
 //! and the store as it is afterwards.
 
+use cases::Random;
+use cases::stores::{
+    Part, TYPES, bench, built, invalid, most_rooms, random_body, random_parts, string, strings,
+    word,
+};
 use reading::Kind;
 use reading::store::write;
 
-use super::{
-    Part, TYPES, bench, built, invalid, line, most_rooms, random_body, random_parts, string,
-    strings, word,
-};
-use crate::lines::{Inputs, Random};
+use super::line;
+use crate::lines::Inputs;
 
 /// Values of types that no store may hold: none, a long string, collections.
 const FOREIGN: [(u8, &[u8]); 5] = [
@@ -163,7 +165,7 @@ fn random(inputs: &mut Inputs, random: &mut Random) {
             inputs.add(asked(part.id, part.code, &value, &store));
         }
         if let Some(part) = parts.last() {
-            let code = TYPES[random.below(TYPES.len())];
+            let code = TYPES[random.under(TYPES.len())];
             let value = random_value(random, code);
             inputs.add(asked(part.id, code, &value, &store));
             let value = random_value(random, part.code);

@@ -24,11 +24,21 @@ impl Random {
     }
 
     pub fn byte(&mut self) -> u8 {
-        (self.number() >> 56) as u8
+        self.number().to_le_bytes()[5]
+    }
+
+    pub fn bytes(&mut self, count: usize) -> Vec<u8> {
+        (0..count).map(|_| self.byte()).collect()
     }
 
     pub fn below(&mut self, bound: usize) -> usize {
         self.word() as usize % bound
+    }
+
+    /// Below a bound of at most 256, drawn from one byte: the recorded list is
+    /// made with it, and would be another with `below`.
+    pub fn under(&mut self, bound: usize) -> usize {
+        usize::from(self.byte()) * bound / 256
     }
 
     pub fn one_in(&mut self, many: usize) -> bool {

@@ -1,7 +1,8 @@
-//! Links our archive, libhingedrift.a.
+//! Links our archive, libhingedrift.a: the build script of calls and frames.
 //!
 //! `HINGEDRIFT_LIB` names its folder. Where it is not set, this repository's
-//! `target/staticlib` is taken, where `rt staticlib hingedrift` writes it.
+//! `target/staticlib` is taken, where `rt staticlib hingedrift` writes it. A
+//! crate with the feature `alone` links nothing.
 
 use std::fs;
 use std::path::PathBuf;
@@ -10,10 +11,14 @@ use std::process::exit;
 const OURS: &str = "../../target/staticlib";
 
 fn main() {
-    println!("cargo::rerun-if-changed=build.rs");
+    println!("cargo::rerun-if-changed=../link.rs");
     println!("cargo::rerun-if-env-changed=HINGEDRIFT_LIB");
 
-    // a relative folder is seen from this file's
+    if std::env::var_os("CARGO_FEATURE_ALONE").is_some() {
+        return;
+    }
+
+    // a relative folder is seen from the crate's
     let given = std::env::var_os("HINGEDRIFT_LIB").filter(|given| !given.is_empty());
     let folder = given.map_or_else(|| PathBuf::from(OURS), PathBuf::from);
     let archive = folder.join("libhingedrift.a");

@@ -1,4 +1,5 @@
-//! A history that goes wrong, cut to what is needed.
+//! A history, or anything else in a row, that goes wrong, cut to what is
+//! needed.
 
 /// The history without every call that it goes wrong without. `wrong` says at
 /// which call a history goes wrong, if it does.

@@ -1,10 +1,13 @@
-//! The listed differences of the Rust's value reader from document 01. Each is
-//! a condition on the value alone; under each the Rust refuses a value whose
-//! end document 01 knows.
+//! The listed differences of the Rust from document 01. Each is a condition on
+//! a value; under each the Rust's value reader refuses a value whose end
+//! document 01 knows. It reads a value so to step over it where it is not
+//! stored: so a frame meets a condition by a value that the Rust steps over.
 
-use reading::{Extent, Kind};
+use reading::{Extent, FrameType, Kind};
 
-#[derive(Debug, Clone, Copy, PartialEq, Eq)]
+use crate::records::{body_of, records};
+
+#[derive(Debug, Clone, Copy, PartialEq, Eq, Hash)]
 pub enum Condition {
     /// A Boolean that is neither 0 nor 1.
     BooleanAboveOne,
@@ -33,6 +36,21 @@ impl Condition {
         Self::ALL
             .into_iter()
             .find(|condition| condition.holds(code, bytes))
+    }
+
+    /// The condition that a frame over a store fulfils, by the first such value
+    /// that the Rust steps over: of a write, with or without response, in a
+    /// record that fails, of an undivided write in any record.
+    pub fn of_frame(store: &[u8], request: &[u8]) -> Option<Self> {
+        let (header, body) = body_of(request)?;
+        if header.frame_type != FrameType::Global || !matches!(header.command, 0x02 | 0x03 | 0x05) {
+            return None;
+        }
+        let (records, _) = records(store, body);
+        records
+            .iter()
+            .filter(|record| header.command == 0x03 || record.status != 0x00)
+            .find_map(|record| Self::of(record.value))
     }
 
     fn holds(self, code: u8, bytes: &[u8]) -> bool {

@@ -1,0 +1,20 @@
+//! What the programs of the comparison share: the inputs that they make, the
+//! listed differences, and the table of what document 01 lets a call answer.
+
+mod conditions;
+mod hex;
+pub mod kinds;
+mod lent;
+mod random;
+mod records;
+pub mod requests;
+mod shorter;
+pub mod stores;
+pub mod values;
+
+pub use conditions::Condition;
+pub use hex::{hex, unhex};
+pub use lent::{BEFORE, Lent};
+pub use random::Random;
+pub use records::{End, Record, body_of, records};
+pub use shorter::shorter;

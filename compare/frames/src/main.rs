@@ -1,0 +1,96 @@
+//! Gives the held Rust's server, the reading of document 01 and our archive
+//! the same frames, over random stores and tables, and compares all that can
+//! be seen afterwards: number, reply, the whole reply buffer, store and table.
+//! The Rust is held to document 01 but for the listed differences, ours to it
+//! always. Two runs make the same frames.
+//!
+//! It prints how often each answer came, and fails at the first disagreement,
+//! with as short a case as it finds; where document 01 allows an answer that
+//! never came; and where fewer than a million frames were compared with the
+//! Rust. With the feature `alone` our archive is left out.
+
+mod case;
+mod compare;
+mod counted;
+mod given;
+mod others;
+#[cfg(not(feature = "alone"))]
+mod ours;
+mod shorten;
+mod sides;
+mod stores;
+mod tables;
+
+use std::process::ExitCode;
+use std::time::Instant;
+
+use cases::Random;
+use cases::kinds::{Kinds, OTHERS, SERVED};
+use oracle::Oracle;
+
+use case::Case;
+use compare::{Compared, compare};
+use counted::Counted;
+use given::Given;
+
+/// So many frames are made.
+const FRAMES: usize = 1_150_000;
+
+fn main() -> ExitCode {
+    match run() {
+        Ok(()) => ExitCode::SUCCESS,
+        Err(trouble) => {
+            eprintln!("frames: {trouble}");
+            ExitCode::FAILURE
+        }
+    }
+}
+
+fn run() -> Result<(), String> {
+    let start = Instant::now();
+    let random = &mut Random::new(0x6672_616d_6573);
+    let kinds = &mut Kinds::default();
+    let stands = served(random, kinds)?;
+    others::compare(random, kinds)?;
+    let seconds = start.elapsed().as_secs_f64();
+    print!("{}", kinds.list(&SERVED));
+    print!("{}", kinds.list(&OTHERS));
+    print!("{}", stands.list());
+    println!(
+        "frames: {FRAMES}, {} agree with the Rust, {seconds:.1} s",
+        stands.agreed
+    );
+
+    let missing = [kinds.missing(&SERVED), kinds.missing(&OTHERS)].concat();
+    if !missing.is_empty() {
+        return Err(format!("never reached: {}", missing.join("; ")));
+    }
+    stands.enough()
+}
+
+fn served(random: &mut Random, kinds: &mut Kinds) -> Result<Counted, String> {
+    let mut counted = Counted::default();
+    let mut oracle = Oracle::default();
+    let mut given = Given::new();
+    for _ in 0..FRAMES {
+        let case = given.next(random);
+        let Compared { seen, rust } =
+            compare(&mut oracle, &case).map_err(|_| disagreement(&case))?;
+        kinds
+            .count(&compare::kinds(&case, &seen))
+            .map_err(|trouble| format!("{trouble}\n{case}"))?;
+        counted.count(rust);
+        given.go_on(&seen);
+    }
+    Ok(counted)
+}
+
+/// The case that went wrong, as short as may be, and both answers.
+fn disagreement(case: &Case) -> String {
+    let wrong = |case: &Case| compare(&mut Oracle::default(), case).err();
+    let short = shorten::shorten(case, |case| wrong(case).is_some());
+    match wrong(&short) {
+        Some(trouble) => format!("a disagreement on\n{short}{trouble}"),
+        None => format!("a disagreement that does not come again, on\n{case}"),
+    }
+}

@@ -1,0 +1,19 @@
+//! The commands, step by step, and what a call says back.
+
+mod answer;
+mod body;
+mod configuration;
+mod configure;
+mod default_response;
+mod discover;
+mod read;
+mod reply;
+mod report;
+mod serve;
+mod unsupported;
+mod write;
+
+pub use answer::{Answer, Refusal};
+pub use report::report;
+pub use serve::{serve, serve_lent};
+pub use unsupported::unsupported_cluster;

@@ -1,0 +1,116 @@
+//! Configure reporting.
+
+use super::answer::{Refusal, Served};
+use super::body::Body;
+use super::reply::{Reply, id_bytes};
+use crate::store::find;
+use crate::table::{Config, Entry, Key, clear, configure as set};
+use crate::types::{fixed_size, is_analog};
+
+/// What a record of direction 0 asks for.
+struct Asked {
+    type_code: u8,
+    config: Config,
+}
+
+impl Asked {
+    fn read(body: &mut Body<'_>) -> Result<Self, Refusal> {
+        let type_code = body.byte()?;
+        let minimum = body.short()?;
+        let maximum = body.short()?;
+        let width = change_width(type_code);
+        let change = change(type_code, body.bytes(width)?);
+        Ok(Self {
+            type_code,
+            config: Config {
+                minimum,
+                maximum,
+                change,
+            },
+        })
+    }
+}
+
+/// An analog type has a change field of its width, any other none.
+pub fn change_width(type_code: u8) -> usize {
+    match fixed_size(type_code) {
+        Some(size) if is_analog(type_code) => size,
+        _ => 0,
+    }
+}
+
+/// Int changes are sign-extended and lose their sign; float changes become 0.
+fn change(type_code: u8, field: &[u8]) -> u64 {
+    let signed = matches!(type_code, 0x28..=0x2f);
+    let float = matches!(type_code, 0x38..=0x3a);
+    if float {
+        return 0;
+    }
+    let negative = signed && field.last().is_some_and(|&top| top >= 0x80);
+    let mut wide = [if negative { 0xff } else { 0x00 }; 8];
+    wide[..field.len()].copy_from_slice(field);
+    if signed {
+        i64::from_le_bytes(wide).unsigned_abs()
+    } else {
+        u64::from_le_bytes(wide)
+    }
+}
+
+pub fn configure(
+    store: &[u8],
+    table: &mut Vec<Entry>,
+    cluster: u16,
+    mut body: Body<'_>,
+    mut reply: Reply,
+) -> Served {
+    let mut none_failed = true;
+    while body.goes_on() {
+        let direction = body.byte()?;
+        let id = body.short()?;
+        let status = if direction == 0 {
+            let asked = Asked::read(&mut body)?;
+            let attribute = id;
+            one(store, table, Key { cluster, attribute }, &asked)
+        } else {
+            body.short()?;
+            0x8c
+        };
+        if status != 0x00 {
+            none_failed = false;
+            let [low, high] = id_bytes(id);
+            reply.put(&[status, direction, low, high])?;
+        }
+    }
+    if none_failed {
+        reply.put(&[0x00])?;
+    }
+    reply.done()
+}
+
+/// The status of one record of direction 0, which is done if it is 00.
+fn one(store: &[u8], table: &mut Vec<Entry>, key: Key, asked: &Asked) -> u8 {
+    let Some(attribute) = find(store, key.attribute) else {
+        return 0x86;
+    };
+    if attribute.access & 2 == 0 {
+        return 0x8c;
+    }
+    if attribute.type_code != asked.type_code {
+        return 0x8d;
+    }
+    let Config {
+        minimum, maximum, ..
+    } = asked.config;
+    if maximum == 0xffff || (maximum == 0 && minimum == 0xffff) {
+        clear(table, key);
+        return 0x00;
+    }
+    if maximum != 0 && maximum < minimum {
+        return 0x87;
+    }
+    if set(table, key, asked.config) {
+        0x00
+    } else {
+        0x89
+    }
+}
