@@ -51,6 +51,7 @@ pub fn kinds(case: &Case, seen: &Seen) -> Vec<Kind> {
     kinds::of(&Call {
         store: &case.store,
         table: &entries(&case.table).unwrap_or_default(),
+        unicast: case.unicast != 0,
         request: &case.request,
         room: case.room,
         answer: &answer,

@@ -12,6 +12,7 @@ use crate::records::body_of;
 pub struct Call<'a> {
     pub store: &'a [u8],
     pub table: &'a [Entry],
+    pub unicast: bool,
     pub request: &'a [u8],
     pub room: usize,
     pub answer: &'a Answer,
@@ -88,7 +89,9 @@ fn default_response(call: &Call<'_>, header: &Header) -> Vec<Detail> {
             }
             details
         }
-        5 => vec![header_or(call.room, "behind the header")],
-        _ => vec![Said("no unicast")],
+        5 if call.unicast && call.room < 5 => vec![header_or(call.room, "behind the header")],
+        6 if !call.unicast => vec![Said("no unicast")],
+        // allowed nowhere
+        _ => vec![Said("without a reason")],
     }
 }

@@ -142,6 +142,7 @@ fn count(
     let call = Call {
         store,
         table: &[],
+        unicast: true,
         request,
         room,
         answer,
