@@ -1,0 +1,12 @@
+-- The laws that this crate's proofs and its clients' cite, a file for an idea.
+pub mod Widths  -- the width of a change
+-- Configure Reporting
+pub mod Items  -- one record of a request
+pub mod Settings  -- a configuration, and what it comes to in the table
+pub mod Turns  -- one record done, the loop, and the whole command
+-- Read Reporting Configuration
+pub mod Asked  -- what a request asks for
+pub mod Encodings  -- the bytes of a configuration
+pub mod Answers  -- the record for what is asked
+pub mod Configurations  -- the command as a whole
+pub mod Worked  -- examples that compute

@@ -1,0 +1,168 @@
+-- One record done, the loop over the records, and the whole command. Assumes nothing.
+use mathlib.Core.Path.{_≡_, refl, sym, ap, _∙_, subst}
+use mathlib.Core.Bool.{Bool, true, false, cond}
+use mathlib.Core.List.{List, [], _∷_}
+use Prim.Native.Nat.{ℕ, _≤_, _<_}
+use native.Mathlib.Omega.{arith}
+use lib.ListN.{length}
+use lib.Dec.{ltb}
+use borrow.Author.Tests.{ltb-false}
+use Rattle.types.specs.Number.{zeros}
+use Rattle.frame.specs.declared.header.ZclHeader.{ZclHeader}
+use Rattle.frame.specs.declared.status.Status.{Status}
+use Rattle.frame.specs.declared.status.Status.the-variants.{UnreportableAttribute}
+use Rattle.frame.specs.declared.reply.Put.{Put}
+use Rattle.frame.specs.declared.reply.Put.the-variants.{At, Full}
+use Rattle.frame.specs.declared.failures.Pass.{Pass}
+use Rattle.frame.specs.declared.answer.Answer.{Answer}
+use Rattle.frame.specs.declared.answer.Refusal.{Refusal}
+use Rattle.frame.specs.declared.answer.Refusal.the-variants.{NotATable, ReplyTooLong}
+use Rattle.frame.specs.declared.command_identifier.CommandIdentifier.the-variants.{ConfigureReportingResponse}
+use Rattle.frame.specs.Header.{replyHead}
+use Rattle.frame.specs.Answer.{refusalNumber, noState, seen, refused}
+use Rattle.frame.specs.Walk.{item}
+use Rattle.frame.specs.Reply.{putting, put}
+use Rattle.frame.specs.Failures.{did, performed, noting, concludedAt}
+use Rattle.frame.specs.Passes.{TookOne, TookNone}
+use Rattle.frame.proofs.Codes.{refusal-nonzero}
+use Rattle.frame.proofs.Outcome.{refused-with}
+use Rattle.frame.proofs.Passes.{Going, going-first, going-done, going-cut, going-more, going-stop, performs, headed-past, headed-performs}
+use Rattle.store.specs.Contents.{nameOf, findOf}
+use Rattle.reporting.specs.declared.entry.ReportingConfig.{ReportingConfig}
+use Rattle.reporting.specs.declared.entry.Entry.{Entry}
+use Rattle.reporting.specs.declared.table.ReportingTable.{ReportingTable}
+use Rattle.reporting.specs.declared.table.Length.{Length}
+use Rattle.reporting.specs.declared.table.Length.the-variants as LengthV
+use Rattle.reporting.specs.Table.{room, Table, sound, bad, live, tableOf, holding, LengthTold, lengthTold, lengthT}
+use Rattle.reporting.specs.Events.{Event}
+use Rattle.reporting.proofs.Slots.{live-length}
+use Rattle.configure.specs.Request.{keyFor, received, reported, configureAt, configures}
+use Rattle.configure.specs.Configure.{Failure, encode, checked, setting, tried, configuring, configureEvents, left, configureOf}
+use Rattle.configure.specs.Inside.{failure, Left, Tries, Took, Missed, Ran, Runs}
+use Rattle.configure.proofs.Items.{ahead}
+use Rattle.configure.proofs.Settings.{tries-as, fails-with}
+
+-- a failure takes bytes
+pub some : (f : Failure) → 0 < length (encode f)
+some f = omega arith
+
+-- ---- one record
+
+module _ (s : List ℕ) (request : ZclHeader) (body : List ℕ) (at end : ℕ) (t : ReportingTable) where
+  pub took-received : (direction id : ℕ) → configureAt body at ≡ item (received direction id) end → Took s request body at end t UnreportableAttribute (failure UnreportableAttribute direction id) t
+  unfolding tried
+  took-received direction id e =
+      record { taken = received direction id; is = e; named = refl; does = fails-with (λ l es. tried 8 room s request l es (received direction id)) UnreportableAttribute (λ l es. refl) t }
+
+  pub took-reported : (id kind : ℕ) (g : ReportingConfig) (status : Status) (u : ReportingTable) → configureAt body at ≡ item (reported id kind g) end
+      → Tries (λ l es. checked (findOf 8 s (nameOf (request .«manufacturer_code» .0) id)) kind es (setting room l (keyFor s request id) g es)) t status u
+      → Took s request body at end t status (failure status 0 id) u
+  unfolding tried
+  took-reported id kind g status u e c = record { taken = reported id kind g; is = e; named = refl; does = c }
+
+-- ---- the loop
+
+-- where it stands in a table of these entries: the events so far
+pub record Along (s : List ℕ) (request : ZclHeader) (body : List ℕ) (start : ℕ) (l : List Entry) (d₀ : List ℕ) (t : ReportingTable) (d : List ℕ) (at out : ℕ) : Type 0 where
+  pub events : List Event
+  pub left : Left l events t
+  pub going : Going (configuring 8 room s request l) (configureAt body) (length body) start [] d₀ events d at out
+
+pub record Goes (s : List ℕ) (request : ZclHeader) (body : List ℕ) (start : ℕ) (t₀ : ReportingTable) (d₀ : List ℕ) (t : ReportingTable) (d : List ℕ) (at out : ℕ) : Type 0 where
+  pub reply-length : length d ≡ length d₀
+  pub along : (l : List Entry) → tableOf t₀ ≡ holding l → Along s request body start l d₀ t d at out
+
+pub goes-first : (s : List ℕ) (request : ZclHeader) (body : List ℕ) (start : ℕ) (t : ReportingTable) (d : List ℕ) → Goes s request body start t d t d 0 start
+goes-first s request body start t d = record {
+  reply-length = refl;
+  along = λ l h. record { events = []; left = h; going = going-first (configuring 8 room s request l) (configureAt body) (length body) start [] d };
+}
+
+module _ {s : List ℕ} {request : ZclHeader} {body : List ℕ} {start : ℕ} {t₀ : ReportingTable} {d₀ : List ℕ} {t : ReportingTable} {d : List ℕ} {at out : ℕ}
+    (g : Goes s request body start t₀ d₀ t d at out) where
+  pub goes-done : length body ≤ at → Runs s request body start t₀ d₀ (Pass.Through out) t d
+  goes-done h l e =
+      let x = g .along l e in
+      record { events = x .events; left = x .left; passed = going-done (x .going) h }
+
+  module _ (lt : at < length body) where
+    pub goes-cut : (u : ReportingTable) (after : List ℕ) → Missed body at t u → Runs s request body start t₀ d₀ Pass.Cut u after
+    goes-cut u after m l e =
+        let x = g .along l e in
+        record {
+          events = x .events;
+          left = ap tableOf (m .same) ∙ x .left;
+          passed = going-cut (x .going) lt (x .events) after (record { is = m .is; same = refl });
+        }
+
+    module _ (end : ℕ) (status : Status) (f : Failure) (u : ReportingTable) (k : Took s request body at end t status f u)
+        (r : Put) (after : List ℕ) (p : putting r after ≡ noting d out status (encode f)) where
+      -- the events with this record's behind them
+      abbrev then : (l : List Entry) → tableOf t₀ ≡ holding l → List Event
+      then l e = tried 8 room s request l (g .along l e .events) (k .taken) .state
+
+      took : (l : List Entry) (e : tableOf t₀ ≡ holding l) → TookOne (configuring 8 room s request l) (configureAt body) (g .along l e .events) at end status f (then l e)
+      took l e =
+          let x = g .along l e in
+          record { taken = k .taken; is = k .is; does = ap (λ (y : Status). did y (then l e)) (k .does l (x .events) (x .left) .is); named = k .named }
+
+      left-by : (l : List Entry) (e : tableOf t₀ ≡ holding l) → Left l (then l e) u
+      left-by l e = let x = g .along l e in k .does l (x .events) (x .left) .left
+
+      pub goes-more : (o : ℕ) → r ≡ At o → length after ≡ length d → Goes s request body start t₀ d₀ u after end o
+      goes-more o q n = record {
+        reply-length = n ∙ g .reply-length;
+        along = λ l e. record { events = then l e; left = left-by l e; going = going-more (g .along l e .going) lt (ahead body) end status f (then l e) (took l e) r after p o q n };
+      }
+
+      pub goes-stop : r ≡ Full → Runs s request body start t₀ d₀ Pass.Full u after
+      goes-stop q l e = record { events = then l e; left = left-by l e; passed = going-stop (g .along l e .going) lt (ahead body) end status f (then l e) (took l e) r after p q }
+
+-- ---- the whole command
+
+module _ (t : ReportingTable) (r : Length) (e : lengthTold r ≡ lengthT (tableOf t)) where
+  number : lengthTold r .number ≡ lengthT (tableOf t) .number
+  number = ap (λ (x : LengthTold). x .number) e
+
+  -- a table that is none
+  pub is-bad : (w : Refusal) → r ≡ LengthV.Refused w → tableOf t ≡ bad t
+  is-bad w q = go (ltb room (t .count)) refl (ap (λ (x : Length). lengthTold x .number) (sym q) ∙ number)
+    where
+      go : (b : Bool) → ltb room (t .count) ≡ b → refusalNumber w ≡ lengthT (cond b (bad t) (sound (t .count) (live t))) .number → cond b (bad t) (sound (t .count) (live t)) ≡ bad t
+      go true h z = refl
+      go false h z = absurd (omega (arith, refusal-nonzero w))
+
+  -- one that is
+  pub is-held : length (t .entries) ≡ room → (n : ℕ) → r ≡ LengthV.Entries n → tableOf t ≡ holding (live t)
+  is-held slots n q = go (ltb room (t .count)) refl (ap (λ (x : Length). lengthTold x .number) (sym q) ∙ number)
+    where
+      go : (b : Bool) → ltb room (t .count) ≡ b → 0 ≡ lengthT (cond b (bad t) (sound (t .count) (live t))) .number → cond b (bad t) (sound (t .count) (live t)) ≡ holding (live t)
+      go true h z = absurd (omega arith)
+      go false h z = ap (λ (k : ℕ). sound k (live t)) (sym (live-length t slots (ltb-false room (t .count) h)))
+
+module _ (s : List ℕ) (t : ReportingTable) (request : ZclHeader) (body : List ℕ) (n : ℕ) (x : Answer) (d : List ℕ) where
+  -- 8, and the table as it was
+  pub command-bad : tableOf t ≡ bad t → seen x d noState ≡ refused n NotATable noState → seen x d (tableOf t) ≡ configureOf 8 room s (tableOf t) request body n
+  unfolding configureOf
+  command-bad h q = refused-with x d n NotATable (tableOf t) q ∙ ap (refused n NotATable) h ∙ sym (ap (λ (y : Table). configureOf 8 room s y request body n) h)
+
+  module _ (l : List Entry) (h : tableOf t ≡ holding l) where
+    -- from the events to the table
+    by-events : (es : List Event) (u : ReportingTable) → Left l es u → seen x d es ≡ configureEvents 8 room s l request body n → seen x d (tableOf u) ≡ configureOf 8 room s (tableOf t) request body n
+    unfolding configureOf
+    by-events es u w e = ap (seen x d) w ∙ ap (left room l) e ∙ sym (ap (λ (y : Table). configureOf 8 room s y request body n) h)
+
+    module _ (r : Put) (after : List ℕ) (p : putting r after ≡ put (zeros n) 0 (replyHead request ConfigureReportingResponse)) where
+      pub command-full : r ≡ Full → seen x d noState ≡ refused (length after) ReplyTooLong noState → seen x d (tableOf t) ≡ configureOf 8 room s (tableOf t) request body n
+      unfolding configureEvents
+      command-full e q =
+          by-events [] t h (headed-past request ConfigureReportingResponse [] n r after p (performed (configuring 8 room s request l) (configures body) [] n) e x d q)
+
+      pub command-run : (start : ℕ) → r ≡ At start → (done : Pass) (u : ReportingTable) (last : List ℕ) → Runs s request body start t after done u last → length last ≡ length after
+          → seen x d noState ≡ concludedAt last start done → seen x d (tableOf u) ≡ configureOf 8 room s (tableOf t) request body n
+      unfolding configureEvents
+      command-run start e done u last w k q =
+          let y = w l h in
+          by-events (y .events) u (y .left)
+          (headed-performs request ConfigureReportingResponse [] n r after p (configuring 8 room s request l) (configures body) start e x (y .events) d
+          (performs (configuring 8 room s request l) some (configures body) start [] after done (y .events) last (y .passed) k x d q))

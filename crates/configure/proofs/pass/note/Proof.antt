@@ -1,0 +1,47 @@
+-- A failure is four bytes. Assumes nothing.
+use mathlib.Core.Path.{ap, _∙_}
+use Prim.Native.Nat.{ℕ}
+use mathlib.Core.List.{_∷_}
+use denote.Ref.{now}
+use Rattle.types.specs.Number.{bytesOf}
+use Rattle.frame.specs.Failures.{noting}
+use borrow.Author.Needs.{needs}
+use Rattle.configure.proofs.pass.note.Statement.{statement}
+use Rattle.configure.proofs.pass.note.Tie as tie
+
+to-u8-requires : tie.Need-to-u8-requires
+to-u8-requires c κs = search needs
+
+cast-t10 : tie.Need-cast-t10
+cast-t10 c = search needs
+
+cast-t13 : tie.Need-cast-t13
+cast-t13 c = search needs
+
+slice-aggregate-list-failure : tie.Need-slice-aggregate-list-failure
+slice-aggregate-list-failure c = search needs
+
+list-failure-requires : tie.Need-list-failure-requires
+list-failure-requires c κs = search needs
+
+same-length : tie.Need-same-length
+same-length c = search needs
+
+returns : tie.Need-returns
+unfolding bytesOf
+returns c =
+    let a = c .before .before .before .before .before .before .before .args in
+    c .before .before .list-failure .ensures
+    ∙ ap (λ (code : ℕ). noting (now (a .reply)) (a .out) (a .status) (code ∷ a .direction ∷ bytesOf 2 (a .id .0))) (c .before .before .before .before .before .to-u8 .ensures)
+
+pub note-spec : {M : Type 1} → statement M
+note-spec =
+    tie.close
+    (tie.spec
+    to-u8-requires
+    cast-t10
+    cast-t13
+    slice-aggregate-list-failure
+    list-failure-requires
+    same-length
+    returns)

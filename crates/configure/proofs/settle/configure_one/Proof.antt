@@ -1,0 +1,103 @@
+-- The checks one after the other, and then the table. Assumes nothing.
+use mathlib.Core.Path.{_≡_, refl, sym, ap, _∙_}
+use mathlib.Core.Bool.{true}
+use mathlib.Core.List.{List}
+use denote.Ref.{now}
+use borrow.Author.Tests.{not-true, not-false}
+use Prim.Native.Nat.{ℕ}
+use Rattle.frame.specs.declared.status.Status.the-variants.{UnsupportedAttribute, UnreportableAttribute, InvalidDataType}
+use Rattle.frame.specs.Failures.{Did}
+use Rattle.store.specs.declared.lookup.Found.{Found}
+use Rattle.store.specs.declared.lookup.Found.the-variants.{At}
+use Rattle.store.specs.Contents.{nameOf, findOf, reportable}
+use Rattle.reporting.specs.declared.entry.Key.{Key}
+use Rattle.reporting.specs.declared.entry.Entry.{Entry}
+use Rattle.reporting.specs.Table.{room}
+use Rattle.reporting.specs.Events.{Event}
+use Rattle.configure.specs.Request.{keyFor}
+use Rattle.configure.specs.Configure.{checked, setting}
+use Rattle.configure.proofs.Settings.{tries-as, fails-with, checked-missing, checked-unreportable, checked-other, checked-fine}
+use borrow.Author.Needs.{needs}
+use Rattle.configure.proofs.settle.configure_one.Statement.{statement}
+use Rattle.configure.proofs.settle.configure_one.Tie as tie
+
+-- the attribute of the name
+is : (c : tie.After-find) (x : Found) → c .find .result ≡ x → findOf 8 (now (c .before .before .before .args .store)) (nameOf (c .before .before .before .args .request .«manufacturer_code» .0) (c .before .before .before .args .id .0)) ≡ x
+is c x e = sym (c .find .ensures ∙ ap (findOf 8 (now (c .before .before .before .args .store))) (c .before .name-of .ensures)) ∙ e
+
+found : (c : tie.After-a) → findOf 8 (now (c .before .before .before .before .before .args .store)) (nameOf (c .before .before .before .before .before .args .request .«manufacturer_code» .0) (c .before .before .before .before .before .args .id .0)) ≡ At (c .a .given .0 .0)
+found c = is (c .before .before) (At (c .a .given .0 .0)) (c .a .given .1)
+
+may : (c : tie.Else1) → reportable (c .before .before .before .a .given .0 .0) ≡ true
+may c = sym (c .before .is-reportable .ensures) ∙ not-false _ (c .if1 .left)
+
+-- the key that was made
+abbrev Made : tie.After-cluster-of → Key
+Made c = record { cluster = c .cluster-of .result; attribute = c .before .before .before .before .before .before .before .before .before .before .before .before .before .args .id }
+
+made : (c : tie.After-cluster-of) → Made c ≡ keyFor (now (c .before .before .before .before .before .before .before .before .before .before .before .before .before .args .store)) (c .before .before .before .before .before .before .before .before .before .before .before .before .before .args .request) (c .before .before .before .before .before .before .before .before .before .before .before .before .before .args .id .0)
+made c = ap (λ (n : ℕ). record { cluster = record { 0 = n }; attribute = c .before .before .before .before .before .before .before .before .before .before .before .before .before .args .id }) (c .cluster-of .ensures)
+
+-- what is asked of the table
+abbrev Asked : tie.Start → List Entry → List Event → Did (List Event)
+Asked c l es = setting room l (keyFor (now (c .args .store)) (c .args .request) (c .args .id .0)) (c .args .config) es
+
+abbrev Want : tie.Start → List Entry → List Event → Did (List Event)
+Want c l es = checked (findOf 8 (now (c .args .store)) (nameOf (c .args .request .«manufacturer_code» .0) (c .args .id .0))) (c .args .type-id .0) es (Asked c l es)
+
+name-of-requires : tie.Need-name-of-requires
+name-of-requires c κs = search needs
+
+find-requires : tie.Need-find-requires
+find-requires c κs = search needs
+
+enum-known-a : tie.Need-enum-known-a
+enum-known-a c = search needs
+
+enum-told : tie.Need-enum-told
+enum-told c = search needs
+
+returns : tie.Need-returns
+returns c =
+    fails-with (Want (c .before .before .before .before .before)) UnsupportedAttribute (λ l es. checked-missing _ (c .before .before .before .before .before .args .type-id .0) es (Asked (c .before .before .before .before .before) l es) (is (c .before .before) _ (c .enum-told .given .1))) (c .before .before .before .before .before .args .table)
+
+is-reportable-requires : tie.Need-is-reportable-requires
+is-reportable-requires c κs = search needs
+
+returns-2 : tie.Need-returns-2
+returns-2 c =
+    fails-with (Want (c .before .before .before .before .before .before .before .before)) UnreportableAttribute (λ l es. checked-unreportable _ (c .before .before .before .before .before .before .before .before .args .type-id .0) es (Asked (c .before .before .before .before .before .before .before .before) l es) (c .before .before .before .a .given .0 .0) (found (c .before .before .before)) (sym (c .before .is-reportable .ensures) ∙ not-true _ (c .if1 .taken))) (c .before .before .before .before .before .before .before .before .args .table)
+
+returns-3 : tie.Need-returns-3
+returns-3 c =
+    fails-with (Want (c .before .before .before .before .before .before .before .before .before .before .before .before)) InvalidDataType (λ l es. checked-other _ (c .before .before .before .before .before .before .before .before .before .before .before .before .args .type-id .0) es (Asked (c .before .before .before .before .before .before .before .before .before .before .before .before) l es) (c .before .before .before .before .before .before .before .a .given .0 .0) (found (c .before .before .before .before .before .before .before)) (may (c .before .before .before .before)) (c .if2 .taken)) (c .before .before .before .before .before .before .before .before .before .before .before .before .args .table)
+
+cluster-of-requires : tie.Need-cluster-of-requires
+cluster-of-requires c κs = search needs
+
+settle-requires : tie.Need-settle-requires
+settle-requires c κs = search needs
+
+returns-4 : tie.Need-returns-4
+returns-4 c =
+    let a = c .before .before .before .before .before .before .before .before .before .before .before .before .before .before .args in
+    let x = c .settle in
+    tries-as (Want (c .before .before .before .before .before .before .before .before .before .before .before .before .before .before)) (λ l es. setting room l (Made (c .before)) (a .config) es)
+    (λ l es. ap (λ (k : Key). setting room l k (a .config) es) (made (c .before)) ∙ checked-fine _ (a .type-id .0) es (Asked (c .before .before .before .before .before .before .before .before .before .before .before .before .before .before) l es) (c .before .before .before .before .before .before .before .before .before .a .given .0 .0) (found (c .before .before .before .before .before .before .before .before .before)) (may (c .before .before .before .before .before .before)) (c .before .before .if2 .left))
+    (a .table) (x .result .table) (x .result .status) (x .ensures)
+
+pub configure-one-spec : {M : Type 1} → statement M
+configure-one-spec =
+    tie.close
+    (tie.spec
+    name-of-requires
+    find-requires
+    enum-known-a
+    enum-told
+    returns
+    is-reportable-requires
+    returns-2
+    returns-3
+    cluster-of-requires
+    settle-requires
+    returns-4)

@@ -1,0 +1,111 @@
+-- What inner functions say; nothing that a caller of this crate must believe. Assumes nothing: these are definitions.
+use mathlib.Core.Path.{_≡_}
+use Prim.Native.Nat.{ℕ}
+use mathlib.Core.List.{List, []}
+use Rattle.frame.specs.declared.header.ZclHeader.{ZclHeader}
+use Rattle.frame.specs.declared.status.Status.{Status}
+use Rattle.frame.specs.declared.failures.Pass.{Pass}
+use Rattle.frame.specs.Walk.{Item, item, unread}
+use Rattle.frame.specs.Failures.{Did}
+use Rattle.frame.specs.Passes.{Passed}
+use Rattle.reporting.specs.declared.entry.Key.{Key}
+use Rattle.reporting.specs.declared.entry.ReportingConfig.{ReportingConfig}
+use Rattle.reporting.specs.declared.entry.Entry.{Entry}
+use Rattle.reporting.specs.declared.table.ReportingTable.{ReportingTable}
+use Rattle.reporting.specs.Entries.{acceptsL}
+use Rattle.reporting.specs.Table.{room, tableOf, holding, sound}
+use Rattle.reporting.specs.Events.{Event, run, Wish, clears, wrong, sets, statusW, recordW}
+use Rattle.configure.specs.declared.record.Next.{Next}
+use Rattle.configure.specs.declared.pass.Step.{Step}
+use Rattle.configure.specs.Request.{ConfigureRecord, received, reported, configureAt, configures, Asked, asked, askedAt}
+use Rattle.configure.specs.Configure.{Failure, failing, tried, configuring}
+use lib.ListN.{length}
+use Rattle.frame.specs.declared.answer.Answer.{Answer}
+use Rattle.frame.specs.declared.reply.Put.{Put}
+use Rattle.frame.specs.Shortened.{Turned, Walked}
+use Rattle.configure.specs.declared.configuration.NextAsked.{NextAsked}
+use Rattle.configure.specs.Configuration.{encode, recordFor}
+use Rattle.configure.specs.declared.settle.Wish.the-variants as Told
+use Rattle.configure.specs.declared.settle.Wish as Declared
+use Rattle.configure.specs.declared.configuration.NextAsked.the-variants as NextAskedV
+
+-- ---- 06: one record
+
+abbrev pub itemOf : Next → Item ConfigureRecord
+itemOf (Next.Received direction id end) = item (received direction (id .0)) end
+itemOf (Next.Reported id t config end) = item (reported (id .0) (t .0) config) end
+itemOf Next.Cut = unread
+
+abbrev pub failure : Status → ℕ → ℕ → Failure
+failure why direction id = record { status = why; direction = direction; id = id }
+
+-- ---- a configuration and the table
+
+abbrev pub wishTold : Declared.Wish → Wish
+wishTold Told.Clears = clears
+wishTold Told.Wrong = wrong
+wishTold Told.Sets = sets
+
+-- what a wish comes to in a table of these entries: a status, and the table afterwards
+pub record Came (w : Wish) (k : Key) (g : ReportingConfig) (l : List Entry) (status : Status) (u : ReportingTable) : Type 0 where
+  pub is : status ≡ statusW w (acceptsL room k l)
+  pub table : tableOf u ≡ holding (recordW w room k g l)
+
+abbrev pub Comes : Wish → Key → ReportingConfig → ReportingTable → Status → ReportingTable → Type 0
+Comes w k g t status u = (l : List Entry) → tableOf t ≡ holding l → Came w k g l status u
+
+-- a table is what events leave of these entries
+abbrev pub Left : List Entry → List Event → ReportingTable → Type 0
+Left l es t = tableOf t ≡ holding (run room es l)
+
+-- this status was given, and the table is what these events leave
+pub record Does (l : List Entry) (want : Did (List Event)) (status : Status) (u : ReportingTable) : Type 0 where
+  pub is : status ≡ want .status
+  pub left : Left l (want .state) u
+
+-- so it is for every table, whatever events left it
+abbrev pub Tries : (List Entry → List Event → Did (List Event)) → ReportingTable → Status → ReportingTable → Type 0
+Tries want t status u = (l : List Entry) (es : List Event) → Left l es t → Does l (want l es) status u
+
+-- ---- the pass
+
+-- the record at a place was read and done, or none could be read
+pub record Took (s : List ℕ) (request : ZclHeader) (body : List ℕ) (at end : ℕ) (t : ReportingTable) (status : Status) (f : Failure) (u : ReportingTable) : Type 0 where
+  pub taken : ConfigureRecord
+  pub is : configureAt body at ≡ item taken end
+  pub named : f ≡ failing status taken
+  pub does : Tries (λ l es. tried 8 room s request l es taken) t status u
+
+pub record Missed (body : List ℕ) (at : ℕ) (t u : ReportingTable) : Type 0 where
+  pub is : configureAt body at ≡ unread
+  pub same : u ≡ t
+
+abbrev pub Steps : List ℕ → ZclHeader → List ℕ → ℕ → ReportingTable → Step → ReportingTable → Type 0
+Steps s request body at t (Step.Done end status direction id) u = Took s request body at end t status (failure status direction (id .0)) u
+Steps s request body at t Step.Cut u = Missed body at t u
+
+-- every record was done, in a table of these entries and behind whatever head the buffer showed
+pub record Ran (s : List ℕ) (request : ZclHeader) (body : List ℕ) (start : ℕ) (l : List Entry) (d : List ℕ) (done : Pass) (u : ReportingTable) (after : List ℕ) : Type 0 where
+  pub events : List Event
+  pub left : Left l events u
+  pub passed : Passed (configuring 8 room s request l) (configures body) start [] d done events after
+
+abbrev pub Runs : List ℕ → ZclHeader → List ℕ → ℕ → ReportingTable → List ℕ → Pass → ReportingTable → List ℕ → Type 0
+Runs s request body start t d done u after = (l : List Entry) → tableOf t ≡ holding l → Ran s request body start l d done u after
+
+-- ---- 08
+
+-- what an answer says of what is asked somewhere
+abbrev pub askedItem : NextAsked → Item Asked
+askedItem (NextAskedV.Asked direction id next) = item (asked direction (id .0)) next
+askedItem NextAskedV.Cut = unread
+
+-- one that is asked was answered, from a table with whatever entries
+abbrev pub Answered : List ℕ → ReportingTable → ZclHeader → ℕ → ℕ → List ℕ → ℕ → Put → List ℕ → Type 0
+Answered s table request direction id d out r after =
+    (n : ℕ) (l : List Entry) → tableOf table ≡ sound n l → Turned encode (λ fit. recordFor 8 s l request) (asked direction id) d out r after
+
+-- every one was
+abbrev pub AllAnswered : List ℕ → ReportingTable → ZclHeader → List ℕ → List ℕ → ℕ → Answer → List ℕ → Type 0
+AllAnswered s table request body d from r after =
+    (n : ℕ) (l : List Entry) → tableOf table ≡ sound n l → Walked encode (λ fit. recordFor 8 s l request) (askedAt body) (length body) d from r after

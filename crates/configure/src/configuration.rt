@@ -1,0 +1,191 @@
+// Read Reporting Configuration: a record of the reply for each that was asked, as long as they fit.
+ghost use mathlib.Core.Path.{_≡_};
+ghost use lib.ListN.{length};
+ghost use Rattle.frame.specs.Answer.{seen, noState};
+ghost use Rattle.frame.specs.Reply.{putting, put};
+ghost use Rattle.reporting.specs.Table.{tableOf};
+ghost use Rattle.configure.specs.Request.{askedAt};
+ghost use Rattle.configure.specs.Configuration.{setting, failure, encode, configurationOf};
+ghost use Rattle.configure.specs.Inside.{askedItem, Answered, AllAnswered};
+use super::change::change_width;
+use frame::answer::Answer;
+use frame::answer::Refusal;
+use frame::answer::refuse;
+use frame::command_identifier::CommandIdentifier;
+use frame::header::ZclHeader;
+use frame::header::write_response_header;
+use frame::reply::Put;
+use frame::reply::clear;
+use frame::reply::put_run;
+use frame::status::Status;
+use reporting::entry::Key;
+use reporting::entry::ReportingConfig;
+use reporting::table::Length;
+use reporting::table::ReportingTable;
+use reporting::table::Setting;
+use store::lookup::Found;
+use store::lookup::cluster_of;
+use store::lookup::find;
+use store::lookup::is_reportable;
+use store::lookup::name_of;
+use types::ids::AttributeId;
+use types::ids::TypeId;
+use types::number::byte_at;
+use types::number::le_bytes;
+use types::number::u16_at;
+
+// What is asked, and where the next one starts; or that it is cut.
+enum NextAsked {
+    Asked(u8, AttributeId, usize),
+    Cut,
+}
+
+// The direction and id at `at`.
+fn next_asked(body: &[u8], at: usize) -> NextAsked
+    ensures { λ r. ⌜ askedItem r ≡ askedAt (now (body .entry)) at ⌝ }
+{
+    if body.len() < 3 {
+        return NextAsked::Cut;
+    }
+    if body.len() - 3 < at {
+        return NextAsked::Cut;
+    }
+    let direction = byte_at(body, at);
+    NextAsked::Asked(direction, AttributeId(u16_at(body, at + 1)), at + 3)
+}
+
+// Puts status, direction and id.
+fn put_failure(reply: &mut [u8], out: usize, why: Status, direction: u8, id: AttributeId) -> Put
+    ensures { λ r. ⌜ putting r (now (reply .exit)) ≡ put (now (reply .entry)) out (encode (failure why direction (id .0))) ⌝ }
+{
+    let n = id.0;
+    let four = [
+        why.to_u8(),
+        direction,
+        (n % 256) as u8,
+        (n / 256 % 256) as u8,
+    ];
+    put_run(reply, out, &four)
+}
+
+// Puts a configuration, its change cut to the width of its type. One run, so that nothing half-written ever stands.
+fn put_setting(
+    reply: &mut [u8],
+    out: usize,
+    direction: u8,
+    id: AttributeId,
+    type_id: TypeId,
+    config: ReportingConfig,
+) -> Put
+    ensures { λ r. ⌜ putting r (now (reply .exit)) ≡ put (now (reply .entry)) out (encode (setting direction (id .0) («type_id» .0) config)) ⌝ }
+{
+    let n = id.0;
+    let min = config.min_interval;
+    let max = config.max_interval;
+    let change = le_bytes(config.reportable_change);
+    let all = [
+        0x00,
+        direction,
+        (n % 256) as u8,
+        (n / 256 % 256) as u8,
+        type_id.0,
+        (min % 256) as u8,
+        (min / 256 % 256) as u8,
+        (max % 256) as u8,
+        (max / 256 % 256) as u8,
+        change[0],
+        change[1],
+        change[2],
+        change[3],
+        change[4],
+        change[5],
+        change[6],
+        change[7],
+    ];
+    let end = 9 + change_width(type_id);
+    put_run(reply, out, &all[..end])
+}
+
+// One that is asked: 86, 8c, 8c, 8b, or what is configured.
+fn configuration_turn(
+    store: &[u8],
+    table: ReportingTable,
+    request: ZclHeader,
+    direction: u8,
+    id: AttributeId,
+    reply: &mut [u8],
+    out: usize,
+) -> Put
+    ensures { λ r. ⌜ Answered (now (store .entry)) table request direction (id .0) (now (reply .entry)) out r (now (reply .exit)) ⌝ }
+{
+    let name = name_of(request.manufacturer_code, id);
+    let Found::At(a) = find(store, name) else {
+        return put_failure(reply, out, Status::UnsupportedAttribute, direction, id);
+    };
+    if direction != 0 {
+        return put_failure(reply, out, Status::UnreportableAttribute, direction, id);
+    }
+    if !is_reportable(a) {
+        return put_failure(reply, out, Status::UnreportableAttribute, direction, id);
+    }
+    let key = Key {
+        cluster: cluster_of(store),
+        attribute: id,
+    };
+    let Setting::Given(config) = table.configuration(key) else {
+        return put_failure(reply, out, Status::NotFound, direction, id);
+    };
+    put_setting(reply, out, direction, id, a.type_id, config)
+}
+
+// Every record of the body, behind a header that ends at `from`. The walk stops without error at the first record that does not fit.
+fn configuration_records(
+    store: &[u8],
+    table: ReportingTable,
+    request: ZclHeader,
+    body: &[u8],
+    reply: &mut [u8],
+    from: usize,
+) -> Answer
+    ensures { λ r. ⌜ AllAnswered (now (store .entry)) table request (now (body .entry)) (now (reply .entry)) from r (now (reply .exit)) ⌝ }
+{
+    let mut at: usize = 0;
+    let mut out = from;
+    while at < body.len() {
+        let NextAsked::Asked(direction, id, next) = next_asked(body, at) else {
+            return refuse(reply, Refusal::RecordCut);
+        };
+        let put = configuration_turn(store, table, request, direction, id, reply, out);
+        let Put::At(o) = put else {
+            return Answer::Reply(out);
+        };
+        at = next;
+        out = o;
+    }
+    Answer::Reply(out)
+}
+
+// Read Reporting Configuration. The store may be any bytes; whoever serves a frame has checked it. A table that is none is refused.
+pub fn read_reporting_configuration(
+    store: &[u8],
+    table: ReportingTable,
+    request: ZclHeader,
+    body: &[u8],
+    reply: &mut [u8],
+) -> Answer
+    ensures { λ r. ⌜ seen r (now (reply .exit)) noState ≡ configurationOf 8 (now (store .entry)) (tableOf table) request (now (body .entry)) (length (now (reply .entry))) ⌝ }
+{
+    clear(reply);
+    let Length::Entries(_) = table.len() else {
+        return Answer::Refused(Refusal::NotATable);
+    };
+    let put = write_response_header(
+        reply,
+        request,
+        CommandIdentifier::ReadReportingConfigurationResponse,
+    );
+    let Put::At(from) = put else {
+        return Answer::Refused(Refusal::ReplyTooLong);
+    };
+    configuration_records(store, table, request, body, reply, from)
+}

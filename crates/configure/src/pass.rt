@@ -1,0 +1,145 @@
+// One pass over the records of a request: each is done, and its failure is listed in the reply.
+ghost use mathlib.Core.Path.{_≡_};
+ghost use Rattle.frame.specs.Reply.{putting};
+ghost use Rattle.frame.specs.Failures.{noting};
+ghost use Rattle.configure.specs.Configure.{encode};
+ghost use Rattle.configure.specs.Inside.{failure, Steps, Runs};
+use super::record::Next;
+use super::record::next_record;
+use super::settle::configure_one;
+use frame::failures::Pass;
+use frame::failures::list_failure;
+use frame::header::ZclHeader;
+use frame::reply::Put;
+use frame::status::Status;
+use reporting::table::ReportingTable;
+use types::ids::AttributeId;
+
+// What was done with a record, and where the next one starts; or none that can be read.
+pub(crate) enum Step {
+    Done {
+        end: usize,
+        status: Status,
+        direction: u8,
+        id: AttributeId,
+    },
+    Cut,
+}
+
+// A step with the table, which an enum cannot hold.
+pub(crate) struct Stepped {
+    step: Step,
+    table: ReportingTable,
+}
+
+// How a pass ended, and the table.
+pub(crate) struct Passed {
+    pub done: Pass,
+    pub table: ReportingTable,
+}
+
+// One record read and done.
+fn configure_turn(
+    store: &[u8],
+    table: ReportingTable,
+    request: ZclHeader,
+    body: &[u8],
+    at: usize,
+) -> Stepped
+    ensures { λ r. ⌜ Steps (now (store .entry)) request (now (body .entry)) at table (r .step) (r .table) ⌝ }
+{
+    let next = next_record(body, at);
+    match next {
+        Next::Received { direction, id, end } => Stepped {
+            step: Step::Done {
+                end,
+                status: Status::UnreportableAttribute,
+                direction,
+                id,
+            },
+            table,
+        },
+        Next::Reported {
+            id,
+            type_id,
+            config,
+            end,
+        } => {
+            let settled = configure_one(store, table, request, id, type_id, config);
+            let status = settled.status;
+            let after = settled.table;
+            Stepped {
+                step: Step::Done {
+                    end,
+                    status,
+                    direction: 0,
+                    id,
+                },
+                table: after,
+            }
+        }
+        Next::Cut => Stepped {
+            step: Step::Cut,
+            table,
+        },
+    }
+}
+
+// Lists a failure: status, direction, id.
+fn note(reply: &mut [u8], out: usize, status: Status, direction: u8, id: AttributeId) -> Put
+    ensures { λ r. ⌜ putting r (now (reply .exit)) ≡ noting (now (reply .entry)) out status (encode (failure status direction (id .0))) ⌝ }
+{
+    let n = id.0;
+    let four = [
+        status.to_u8(),
+        direction,
+        (n % 256) as u8,
+        (n / 256 % 256) as u8,
+    ];
+    list_failure(reply, out, status, &four)
+}
+
+// Every record of the body, its failures listed from `start` on, until one cannot be read or does not fit.
+pub(crate) fn configure_records(
+    store: &[u8],
+    table: ReportingTable,
+    request: ZclHeader,
+    body: &[u8],
+    reply: &mut [u8],
+    start: usize,
+) -> Passed
+    ensures { λ r. ⌜ Runs (now (store .entry)) request (now (body .entry)) start table (now (reply .entry)) (r .done) (r .table) (now (reply .exit)) ⌝ }
+{
+    let mut kept = table;
+    let mut at: usize = 0;
+    let mut out = start;
+    while at < body.len() {
+        let stepped = configure_turn(store, kept, request, body, at);
+        kept = stepped.table;
+        let step = stepped.step;
+        let Step::Done {
+            end,
+            status,
+            direction,
+            id,
+        } = step
+        else {
+            return Passed {
+                done: Pass::Cut,
+                table: kept,
+            };
+        };
+        let Put::At(next) = note(reply, out, status, direction, id) else {
+            return Passed {
+                done: Pass::Full,
+                table: kept,
+            };
+        };
+        at = end;
+        out = next;
+    }
+    Passed {
+        done: Pass::Through(out),
+        table: kept,
+    }
+}
