@@ -1,13 +1,15 @@
 /*
- * Hingedrift's reporting table, for C: which attributes report, how often, and what each last reported.
+ * Hingedrift for C: a Zigbee attribute server over a store of values, and a reporting table that says which attributes report, how
+ * often, and what each last reported.
  *
- * The table is HD_TABLE_BYTES bytes that the caller keeps and lends to each call, with their length. hd_table_new makes them a
- * table; the other functions look at it or change it. docs/TABLE.md has the layout.
+ * The caller keeps the store and the table as bytes and lends them to each call, with their length. A table is HD_TABLE_BYTES bytes;
+ * hd_table_new makes them one, and docs/TABLE.md has the layout. A store's layout is that of document 01.
  *
- * Every function returns one of the two numbers below. When it returns HD_NOT_A_TABLE, the table's bytes are as they were, and
- * 0 was written through every other pointer.
+ * Every function returns one of the numbers below. A refusal, any number but HD_OK, writes 0 through every pointer to a result and
+ * zeros to the whole reply buffer. Store and table are then as they were, but where HD_RECORD_CUT, HD_TOO_LONG or
+ * HD_NOTHING_TO_SEND is returned by hd_handle_request: what the records before it did stays done.
  *
- * No pointer may be null. Between one call's table and its results, and between two of the results, no byte may be shared.
+ * No pointer may be null. Between the buffers and results of one call no byte may be shared.
  */
 #ifndef HINGEDRIFT_H
 #define HINGEDRIFT_H
@@ -24,8 +26,28 @@ extern "C" {
 
 /* What a call returns: that it was done, */
 #define HD_OK 0
-/* or that the bytes are no table: their length is another, or they are in no form that these functions write. */
+/* or why not. The request is for another cluster than the store's. */
+#define HD_OTHER_CLUSTER 1
+/* The request is too short for a header. */
+#define HD_HEADER_SHORT 2
+/* Its frame type is reserved. */
+#define HD_RESERVED_FRAME_TYPE 3
+/* A record or the body is cut, or a value has no extent. */
+#define HD_RECORD_CUT 4
+/* The reply does not fit. */
+#define HD_TOO_LONG 5
+/* By rule nothing is to be sent. */
+#define HD_NOTHING_TO_SEND 6
+/* The bytes are no store. */
+#define HD_NOT_A_STORE 7
+/* The bytes are no table: their length is another, or they are in no form that these functions write. */
 #define HD_NOT_A_TABLE 8
+/* There is no such attribute, or its value has no number. */
+#define HD_NO_NUMBER 9
+/* The list of attributes to report is empty. */
+#define HD_EMPTY_REPORT 11
+/* An attribute to report is missing or not reportable. */
+#define HD_NOT_REPORTABLE 12
 
 /* Makes the bytes an empty table, whatever they were. HD_NOT_A_TABLE where table_len is not HD_TABLE_BYTES. */
 uint8_t hd_table_new(uint8_t *table, size_t table_len);
@@ -55,6 +77,30 @@ uint8_t hd_ask(const uint8_t *table, size_t table_len, uint16_t cluster, uint16_
  * the table is as it was.
  */
 uint8_t hd_mark(uint8_t *table, size_t table_len, uint16_t cluster, uint16_t attribute, uint32_t now, int64_t value);
+
+/*
+ * Writes the number of an attribute's value to *value: Int types with their sign, every other type without one, but that a value of
+ * eight bytes keeps its bit pattern.
+ */
+uint8_t hd_number(const uint8_t *store, size_t store_len, uint16_t attribute, int64_t *value);
+
+/*
+ * Serves one request, the bytes of a ZCL frame that came for `cluster`; `unicast` is 0 where it was not sent to this device alone. Writes
+ * the reply to the start of `reply`, zeros behind it, and its length to *reply_used.
+ */
+uint8_t hd_handle_request(uint8_t *store, size_t store_len, uint8_t *table, size_t table_len, uint16_t cluster, uint8_t unicast, const uint8_t *request, size_t request_len, uint8_t *reply, size_t reply_len, size_t *reply_used);
+
+/*
+ * Answers a request for a cluster that is not among the `served_len` served ones, with UNSUPPORTED_CLUSTER. Ask it last, after every
+ * store of the endpoint: a served cluster gets HD_NOTHING_TO_SEND.
+ */
+uint8_t hd_unsupported_cluster(const uint16_t *served, size_t served_len, uint16_t cluster, uint8_t unicast, const uint8_t *request, size_t request_len, uint8_t *reply, size_t reply_len, size_t *reply_used);
+
+/*
+ * Writes a Report Attributes frame of these attributes, in their order, to the start of `frame`, zeros behind it, and its length to
+ * *frame_used.
+ */
+uint8_t hd_report(const uint8_t *store, size_t store_len, uint8_t sequence, const uint16_t *ids, size_t ids_len, uint8_t *frame, size_t frame_len, size_t *frame_used);
 
 #ifdef __cplusplus
 }

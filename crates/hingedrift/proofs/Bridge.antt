@@ -134,7 +134,7 @@ not-given (SettingV.Refused why) o = refl
 -- ---- reading
 
 module _ (bs : List ℕ) (r : ReadTable) (e : reading r ≡ readT 16 bs) where
-  is-known : r .known ≡ isTable room bs
+  pub is-known : r .known ≡ isTable room bs
   unfolding readT
   is-known = go (isTable room bs) e
     where
@@ -150,7 +150,7 @@ module _ (bs : List ℕ) (r : ReadTable) (e : reading r ≡ readT 16 bs) where
 
   -- bytes that are a table
   module _ (h : not (r .known) ≡ false) where
-    is-one : isTable room bs ≡ true
+    pub is-one : isTable room bs ≡ true
     is-one = sym is-known ∙ not-false _ h
 
     the-table : IsTable room bs
@@ -174,9 +174,12 @@ module _ (bs : List ℕ) (r : ReadTable) (e : reading r ≡ readT 16 bs) where
     unfolding onTable
     on-table nothing rest = ap (λ (b : Bool). cond b (rest (tableIn bs)) (left 8 bs nothing)) is-one
 
+    pub has-size : sized room bs ≡ true
+    has-size = eq-eqb _ _ (the-table .size)
+
     -- a table of these entries was written back
     pub back : (t : ReportingTable) (l : List Entry) (w : Bool) (bs′ : List ℕ) → tableOf t ≡ holding l → written w bs′ ≡ writeT 16 t bs → bs′ ≡ tableBytes room l
-    back t l w bs′ q p = into t l q w bs bs′ p (eq-eqb _ _ (the-table .size))
+    back t l w bs′ q p = into t l q w bs bs′ p has-size
 
     -- the operations, on the table that was read, for the key that the caller gave
     module _ (k key : Key) (ek : k ≡ key) where

@@ -1,4 +1,6 @@
 -- Laws, a file for an idea. The proofs of the functions stand in the directories, under the functions' names.
 -- from what the functions of crate `reporting` ensure to what the functions towards C leave
 pub mod Bridge
+-- from what the functions of crate `server` ensure to what C has after a call
+pub mod Handed
 pub mod Unique

@@ -1,2 +1,3 @@
 -- What a reader must believe of this crate, a file for an idea.
 pub mod Tables  -- the reporting table through its bytes
+pub mod Serving  -- the server, a number and a report frame

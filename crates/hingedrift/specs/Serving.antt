@@ -1,0 +1,64 @@
+-- The server's functions towards C: those of crates `store` and `server`, with a table as its bytes and `unicast` as a number, 0 or
+-- anything else. Assumes nothing: these are definitions.
+use Prim.Native.Nat.{ℕ}
+use mathlib.Core.Bool.{Bool, cond, not}
+use mathlib.Core.List.{List}
+use lib.Dec.{eqb}
+use lib.IntN.{ℤ}
+use Rattle.frame.specs.declared.answer.Refusal.the-variants.{NotAStore, NotATable}
+use Rattle.frame.specs.Answer.{Outcome, noState, refused}
+use Rattle.store.specs.Contents.{nameOf}
+use Rattle.store.specs.Layout.{isStore}
+use Rattle.store.specs.Value.{Telling, telling, numberOf}
+use Rattle.reporting.specs.Table.{room, Table, sound, bad, holding}
+use Rattle.reporting.specs.Carried.{isTable, tableIn, tableBytes}
+use Rattle.server.specs.Serve.{State, within, serve}
+use Rattle.server.specs.UnsupportedCluster.{unsupportedCluster}
+use Rattle.server.specs.Report.{reportOf}
+
+-- what C has after a call: the number, how many bytes of the reply are used, the whole reply buffer, and what else was lent
+abbrev pub handed : {S : Type 0} → ℕ → ℕ → List ℕ → S → Outcome S
+handed n used d s = record { number = n; size = used; reply = d; state = s }
+
+abbrev pub isUnicast : ℕ → Bool
+isUnicast unicast = not (eqb unicast 0)
+
+-- hd_number
+abbrev pub numberHanded : ℕ → ℤ → Telling
+numberHanded n z = record { answer = n; value = z }
+
+abbrev pub numberLeft : List ℕ → ℕ → Telling
+numberLeft s attribute = telling (numberOf 8 s (nameOf 0 attribute))
+
+-- hd_unsupported_cluster
+abbrev pub unsupportedLeft : List ℕ → ℕ → ℕ → List ℕ → ℕ → Outcome (Unit {0})
+unsupportedLeft served cluster unicast frame size = unsupportedCluster served cluster (isUnicast unicast) frame size
+
+-- hd_report
+abbrev pub reportLeft : List ℕ → ℕ → List ℕ → ℕ → Outcome (Unit {0})
+reportLeft s sequence ids size = reportOf 8 s sequence ids size
+
+-- ---- hd_handle_request
+
+-- what is lent and may change
+pub record Lent : Type 0 where
+  pub store : List ℕ
+  pub table : List ℕ
+
+abbrev pub lent : List ℕ → List ℕ → Lent
+lent s bs = record { store = s; table = bs }
+
+-- the bytes of a table where it is one; else they stay
+abbrev pub bytesAfter : List ℕ → Table → List ℕ
+bytesAfter bs (sound n l) = tableBytes room l
+bytesAfter bs (bad t) = bs
+
+abbrev pub carried : List ℕ → State → Lent
+carried bs x = lent (x .store) (bytesAfter bs (x .table))
+
+-- 7, then 8 for bytes that are no table, then as the table that they are is served
+unfoldable pub handleLeft : List ℕ → List ℕ → ℕ → ℕ → List ℕ → ℕ → Outcome Lent
+handleLeft s bs cluster unicast frame size =
+    cond (isTable room bs)
+    (within (carried bs) (serve 8 room s (holding (tableIn bs)) cluster (isUnicast unicast) frame size))
+    (refused size (cond (isStore 8 s) NotATable NotAStore) (lent s bs))

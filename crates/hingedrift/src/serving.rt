@@ -1,0 +1,109 @@
+// The server's functions. `unicast` is 0 or anything else; a refusal leaves zeros in the reply buffer and through `reply_used`.
+ghost use mathlib.Core.Path.{_≡_};
+ghost use lib.ListN.{length};
+ghost use Rattle.frame.specs.Answer.{noState};
+ghost use Rattle.hingedrift.specs.Serving.{handed, numberHanded, lent, numberLeft, unsupportedLeft, reportLeft, handleLeft};
+use frame::answer::Answer;
+use frame::answer::Refusal;
+use frame::answer::refuse;
+use frame::header::ManufacturerCode;
+use reporting::carried::read_table;
+use reporting::carried::write_table;
+use server::report::report;
+use server::serve::handle_request;
+use server::unsupported_cluster::unsupported_cluster;
+use store::layout::is_store;
+use store::lookup::name_of;
+use store::value::Numbered;
+use store::value::number_of;
+use types::ids::AttributeId;
+use types::ids::ClusterId;
+
+// The number of an attribute's value. A Uint32 with its top bit set is not negative.
+#[no_mangle]
+pub extern "C" fn hd_number(store: &[u8], attribute: u16, value: &mut i64) -> u8
+    ensures { λ r. ⌜ numberHanded r (now (value .exit)) ≡ numberLeft (now (store .entry)) attribute ⌝ }
+{
+    *value = 0;
+    let name = name_of(ManufacturerCode(0), AttributeId(attribute));
+    let says = number_of(store, name);
+    match says {
+        Numbered::Is(z) => {
+            *value = z;
+            0
+        }
+        Numbered::Refused(why) => why.number(),
+    }
+}
+
+// Serves a request. Where the table's bytes are none, the store is still looked at first: 7 comes before 8.
+#[no_mangle]
+pub extern "C" fn hd_handle_request(
+    store: &mut [u8],
+    table: &mut [u8],
+    cluster: u16,
+    unicast: u8,
+    request: &[u8],
+    reply: &mut [u8],
+    reply_used: &mut usize,
+) -> u8
+    ensures { λ r. ⌜ handed r (now («reply_used» .exit)) (now (reply .exit)) (lent (now (store .exit)) (now (table .exit))) ≡ handleLeft (now (store .entry)) (now (table .entry)) cluster unicast (now (request .entry)) (length (now (reply .entry))) ⌝ }
+{
+    *reply_used = 0;
+    let read = read_table(table);
+    if !read.known {
+        let why = if is_store(store) {
+            Refusal::NotATable
+        } else {
+            Refusal::NotAStore
+        };
+        let refused = refuse(reply, why);
+        return refused.number();
+    }
+    let before = read.table;
+    let served = handle_request(
+        store,
+        before,
+        ClusterId(cluster),
+        unicast != 0,
+        request,
+        reply,
+    );
+    write_table(table, served.table);
+    let answer = served.answer;
+    *reply_used = answer.reply_len();
+    answer.number()
+}
+
+// Answers a request for a cluster that is not served.
+#[no_mangle]
+pub extern "C" fn hd_unsupported_cluster(
+    served: &[u16],
+    cluster: u16,
+    unicast: u8,
+    request: &[u8],
+    reply: &mut [u8],
+    reply_used: &mut usize,
+) -> u8
+    ensures { λ r. ⌜ handed r (now («reply_used» .exit)) (now (reply .exit)) noState ≡ unsupportedLeft (now (served .entry)) cluster unicast (now (request .entry)) (length (now (reply .entry))) ⌝ }
+{
+    let answer = unsupported_cluster(served, ClusterId(cluster), unicast != 0, request, reply);
+    *reply_used = answer.reply_len();
+    answer.number()
+}
+
+// Writes a Report Attributes frame.
+#[no_mangle]
+pub extern "C" fn hd_report(
+    store: &[u8],
+    sequence: u8,
+    ids: &[u16],
+    frame: &mut [u8],
+    frame_used: &mut usize,
+) -> u8
+    ensures { λ r. ⌜ handed r (now («frame_used» .exit)) (now (frame .exit)) noState ≡ reportLeft (now (store .entry)) sequence (now (ids .entry)) (length (now (frame .entry))) ⌝ }
+{
+    let answer = report(store, sequence, ids, frame);
+    *frame_used = answer.reply_len();
+    answer.number()
+}

@@ -1,0 +1,65 @@
+-- The loop over the ids of a report: what is left of the list, from where it stands, is the whole. Assumes nothing.
+use mathlib.Core.Path.{_≡_, refl, sym, ap, _∙_, subst}
+use mathlib.Core.List.{List, [], _∷_, _++_, append-nil}
+use Prim.Native.Nat.{ℕ, _+_, _≤_, _<_}
+use native.Mathlib.Numerals.{add-one}
+use lib.ListN.{length, getD, drop, drop-of-length-le}
+use lib.Seq.{drop-cons}
+use Rattle.frame.specs.Reply.{Shows}
+use Rattle.frame.specs.Answer.{noState, seen}
+use Rattle.frame.specs.Encoded.{encodeAll}
+use Rattle.frame.specs.declared.answer.Refusal.{Refusal}
+use Rattle.frame.specs.declared.answer.Answer.{Answer}
+use Rattle.frame.specs.declared.answer.Answer.the-variants.{Reply, Refused}
+use Rattle.frame.proofs.Outcome.{seen-reply, seen-refused}
+use Rattle.server.specs.Report.{ReportRecord, encode, Reported, all, trouble, reportFrom, reportReply}
+use Rattle.server.specs.Inside.{turnOf, More, Ends, Ways, Reports}
+
+-- where the loop stands: the records that the buffer shows behind the head, and that the rest of the list goes on from them
+pub record Going (s ids : List ℕ) (room : ℕ) (head frame : List ℕ) (i out : ℕ) : Type 0 where
+  pub records : List ReportRecord
+  pub shows : Shows frame out (head ++ encodeAll encode records)
+  pub same : reportFrom 8 s room (length head) records (drop i ids) ≡ reportFrom 8 s room (length head) [] ids
+
+pub going-first : (s ids : List ℕ) (room : ℕ) (head frame : List ℕ) (out : ℕ) → Shows frame out head → Going s ids room head frame 0 out
+unfolding encodeAll
+going-first s ids room head frame out w = record { records = []; shows = subst (Shows frame out) (sym (append-nil head)) w; same = refl }
+
+module _ (s ids : List ℕ) (room : ℕ) (head frame : List ℕ) (i out : ℕ) (g : Going s ids room head frame i out) (len : length frame ≡ room) where
+  -- no id is left
+  pub going-done : length ids ≤ i → seen (Reply out) frame noState ≡ reportReply room head (reportFrom 8 s room (length head) [] ids)
+  unfolding reportFrom reportReply
+  going-done h =
+      seen-reply room frame out (head ++ encodeAll encode (g .records)) noState (g .shows) len
+      ∙ ap (reportReply room head) (sym (ap (reportFrom 8 s room (length head) (g .records)) (drop-of-length-le ids h)) ∙ g .same)
+
+  module _ (h : i < length ids) (r : Answer) (after : List ℕ) (turn : Reports s (getD ids i 0) frame out r after) where
+    -- the next id, with the rest of the list behind it
+    next : turnOf s room (length head) (g .records) (getD ids i 0) (λ rs. reportFrom 8 s room (length head) rs (drop (i + 1) ids)) ≡ reportFrom 8 s room (length head) [] ids
+    unfolding reportFrom
+    next =
+        sym (ap (reportFrom 8 s room (length head) (g .records)) (drop-cons ids i 0 h ∙ ap (λ (k : ℕ). getD ids i 0 ∷ drop k ids) (sym (add-one i)))) ∙ g .same
+
+    way : (a : Answer) → r ≡ a → Ways s head (g .records) room (getD ids i 0) a after
+    way a q =
+        subst (λ (x : Answer). Ways s head (g .records) room (getD ids i 0) x after) q
+        (subst (λ (k : ℕ). Ways s head (g .records) k (getD ids i 0) r after) len (turn head (g .records) (g .shows)))
+
+    -- its record fits
+    pub going-more : (o : ℕ) → r ≡ Reply o → Going s ids room head after (i + 1) o
+    going-more o q =
+        let w : More s head (g .records) room (getD ids i 0) o after = way (Reply o) q in
+        record {
+          records = w .records;
+          shows = w .longer .shows;
+          same = sym (w .goes-on (λ rs. reportFrom 8 s room (length head) rs (drop (i + 1) ids))) ∙ next;
+        }
+
+    -- it ends the report
+    pub going-ends : (why : Refusal) → r ≡ Refused why → seen r after noState ≡ reportReply room head (reportFrom 8 s room (length head) [] ids)
+    unfolding reportReply
+    going-ends why q =
+        let w : Ends s head (g .records) room (getD ids i 0) why after = way (Refused why) q in
+        ap (λ (x : Answer). seen x after noState) q
+        ∙ seen-refused room after why noState (w .cleared)
+        ∙ ap (reportReply room head) (sym (w .ends (λ rs. reportFrom 8 s room (length head) rs (drop (i + 1) ids))) ∙ next)

@@ -1,0 +1,58 @@
+-- A cluster among those that are served, and the ways of the responder. Assumes nothing.
+use mathlib.Core.Path.{_≡_, refl, sym, ap, _∙_}
+use mathlib.Core.Bool.{Bool, true, false}
+use mathlib.Core.List.{List, [], _∷_}
+use Prim.Native.Nat.{ℕ, _+_, _≤_, _<_}
+use native.Mathlib.Numerals.{add-one}
+use lib.ListN.{length, getD, drop, drop-of-length-le}
+use lib.Seq.{drop-cons}
+use borrow.Author.Tests.{eq-eqb, ne-eqb}
+use Rattle.frame.specs.Answer.{Outcome, noState, refused}
+use Rattle.frame.specs.Header.{headerOf}
+use Rattle.frame.specs.declared.header.ZclHeader.{ZclHeader}
+use Rattle.frame.specs.declared.header.HeaderRead.{HeaderRead}
+use Rattle.frame.specs.declared.header.HeaderRead.the-variants.{Header, Short}
+use Rattle.frame.specs.declared.status.Status.the-variants.{UnsupportedCluster}
+use Rattle.frame.specs.declared.answer.Refusal.the-variants.{HeaderShort, NothingToSend}
+use Rattle.server.specs.DefaultResponse.{defaultResponse}
+use Rattle.server.specs.UnsupportedCluster.{among, isDefaultResponse, respond, unsupportedCluster}
+
+-- ---- the scan: what is left of the list decides as the whole does
+
+module _ (wanted : ℕ) (l : List ℕ) (i : ℕ) (so-far : among wanted (drop i l) ≡ among wanted l) where
+  pub served-here : i < length l → getD l i 0 ≡ wanted → true ≡ among wanted l
+  unfolding among
+  served-here h e = sym (rw (drop-cons l i 0 h, eq-eqb (getD l i 0) wanted e) refl) ∙ so-far
+
+  pub served-further : i < length l → (getD l i 0 ≡ wanted → ⊥) → among wanted (drop (i + 1) l) ≡ among wanted l
+  unfolding among
+  served-further h e = sym (rw (drop-cons l i 0 h, ne-eqb (getD l i 0) wanted e, add-one i) refl) ∙ so-far
+
+  pub served-nowhere : length l ≤ i → false ≡ among wanted l
+  unfolding among
+  served-nowhere h = sym (rw (drop-of-length-le l h) refl) ∙ so-far
+
+-- ---- the responder
+
+module _ (served : List ℕ) (cluster : ℕ) (unicast : Bool) (frame : List ℕ) (room : ℕ) where
+  pub respond-served : among cluster served ≡ true → refused room NothingToSend noState ≡ unsupportedCluster served cluster unicast frame room
+  unfolding unsupportedCluster
+  respond-served e = rw e
+
+  module _ (other : among cluster served ≡ false) where
+    responds : respond unicast room (headerOf frame) ≡ unsupportedCluster served cluster unicast frame room
+    unfolding unsupportedCluster
+    responds = rw other
+
+    pub respond-short : headerOf frame ≡ Short → refused room HeaderShort noState ≡ unsupportedCluster served cluster unicast frame room
+    unfolding respond
+    respond-short e = sym (ap (respond unicast room) e) ∙ responds
+
+    module _ (h : ZclHeader) (e : headerOf frame ≡ Header h) where
+      pub respond-never : isDefaultResponse h ≡ true → refused room NothingToSend noState ≡ unsupportedCluster served cluster unicast frame room
+      unfolding respond
+      respond-never q = sym (ap (respond unicast room) e ∙ rw q refl) ∙ responds
+
+      pub respond-sent : isDefaultResponse h ≡ false → defaultResponse h unicast UnsupportedCluster room ≡ unsupportedCluster served cluster unicast frame room
+      unfolding respond
+      respond-sent q = sym (ap (respond unicast room) e ∙ rw q refl) ∙ responds

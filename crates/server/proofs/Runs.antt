@@ -1,0 +1,31 @@
+-- Two runs of bytes put one behind the other, or neither of them. Assumes nothing.
+use mathlib.Core.Path.{_≡_, sym, ap, _∙_}
+use mathlib.Core.List.{List, _++_}
+use Prim.Native.Nat.{ℕ, _+_, _≤_, _<_}
+use native.Mathlib.Omega.{arith}
+use lib.ListN.{length, length-append}
+use Rattle.frame.specs.Reply.{putting, put}
+use Rattle.frame.specs.declared.reply.Put.{Put}
+use Rattle.frame.specs.declared.reply.Put.the-variants.{At, Full}
+use Rattle.frame.proofs.Buffer.{put-past, put-full}
+use Rattle.frame.proofs.Encoded.{put-two}
+
+module _ (d : List ℕ) (at : ℕ) (front back : List ℕ) where
+  -- there is no room for both
+  pub both-past : length d < at + (length front + length back) → putting Full d ≡ put d at (front ++ back)
+  both-past h =
+      let n : length (front ++ back) ≡ length front + length back = length-append front back in
+      sym (put-past d at (front ++ back) (omega arith))
+
+  -- not even for the first
+  pub both-none : (r : Put) (d₁ : List ℕ) → putting r d₁ ≡ put d at front → r ≡ Full → putting Full d₁ ≡ put d at (front ++ back)
+  both-none r d₁ p q =
+      let w = put-full d at front r d₁ p q in
+      ap (putting Full) (w .1) ∙ both-past (omega (arith, w .0))
+
+  -- there is
+  pub both-put : at + (length front + length back) ≤ length d → (r₁ : Put) (o : ℕ) (d₁ : List ℕ) (r₂ : Put) (d₂ : List ℕ) → putting r₁ d₁ ≡ put d at front
+      → r₁ ≡ At o → putting r₂ d₂ ≡ put d₁ o back → putting r₂ d₂ ≡ put d at (front ++ back)
+  both-put h r₁ o d₁ r₂ d₂ p q g =
+      let n : length (front ++ back) ≡ length front + length back = length-append front back in
+      put-two d at front back r₁ o d₁ r₂ d₂ (omega arith) p q g

@@ -1,0 +1,6 @@
+-- What a reader must believe of this crate, a file for an idea.
+pub mod DefaultResponse
+pub mod Serve  -- a request served: the order of refusals, and the commands
+pub mod UnsupportedCluster  -- the responder for clusters that are not served
+pub mod Report  -- the Report Attributes frame
+pub mod Inside  -- what only inner functions say
