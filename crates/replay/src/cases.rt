@@ -1,11 +1,10 @@
-// What ours says to the input of each kind of line, as bytes.
-ghost use mathlib.Core.Bool.{cond};
+// What ours says to a type, to a frame's header and to a value, held to what was recorded.
 ghost use mathlib.Core.Path.{_≡_};
-ghost use Rattle.replay.specs.Filled.{Holds};
-use super::hex::Filled;
-use super::stores::of_number;
-use super::stores::of_store;
-use super::stores::of_write;
+ghost use mathlib.Core.Bool.{cond};
+ghost use Prim.Native.Nat.{_%_};
+ghost use Rattle.replay.specs.Ours.{agreement, sizeByte, frameTypeByte, ofType, ofHeader, ofExtent};
+use super::bytes::rest;
+use super::bytes::same;
 use frame::header::FrameType;
 use frame::header::HeaderRead;
 use frame::header::read_header;
@@ -14,45 +13,28 @@ use types::extent::extent_at;
 use types::ids::Size;
 use types::ids::TypeId;
 
-pub enum Kind {
-    Type,
-    Header,
-    Extent,
-    // An extent in which the other program is known to differ.
-    Difference,
-    Store,
-    Number,
-    Write,
+// Whether what was recorded is what ours says to an input; or that the input is none of its kind.
+pub(crate) enum Agreement {
+    Is(bool),
+    NoInput,
 }
 
-// Puts bytes at the start of out, where they fit.
-pub fn put(bytes: &[u8], out: &mut [u8]) -> Filled
-    ensures { λ r. ⌜ Holds r (now (out .exit)) ⌝ }
-{
-    let n = bytes.len();
-    if out.len() < n {
-        return Filled::Bad;
-    }
-    let mut i = 0;
-    while i < n {
-        out[i] = bytes[i];
-        i += 1;
-    }
-    Filled::Bytes(n)
-}
-
-pub fn bit(b: bool) -> u8
+pub(crate) fn bit(b: bool) -> u8
     ensures { λ r. ⌜ r ≡ cond b 1 0 ⌝ }
 {
     if b { 1 } else { 0 }
 }
 
-fn low(n: usize) -> u8 {
+// The low byte of a number.
+pub(crate) fn low(n: usize) -> u8
+    ensures { λ r. ⌜ r ≡ n % 256 ⌝ }
+{
     (n % 256) as u8
 }
 
-fn size(id: TypeId) -> u8 {
-    let size = id.fixed_size();
+fn size_byte(size: Size) -> u8
+    ensures { λ r. ⌜ r ≡ sizeByte size ⌝ }
+{
     match size {
         Size::Bytes(w) => low(w),
         Size::Varies => 0xff,
@@ -60,18 +42,24 @@ fn size(id: TypeId) -> u8 {
 }
 
 // The size of a type as one byte, ff where it varies; whether it is analog; whether it can be reported.
-fn of_type(input: &[u8], out: &mut [u8]) -> Filled
-    ensures { λ r. ⌜ Holds r (now (out .exit)) ⌝ }
+pub(crate) fn of_type(input: &[u8], held: &[u8]) -> Agreement
+    ensures { λ r. ⌜ r ≡ agreement (ofType (now (input .entry))) (now (held .entry)) ⌝ }
 {
     if input.len() != 1 {
-        return Filled::Bad;
+        return Agreement::NoInput;
     }
     let id = TypeId(input[0]);
-    let says = [size(id), bit(id.is_analog()), bit(id.is_reportable_type())];
-    put(&says, out)
+    let says = [
+        size_byte(id.fixed_size()),
+        bit(id.is_analog()),
+        bit(id.is_reportable_type()),
+    ];
+    Agreement::Is(same(&says, held))
 }
 
-fn frame_type(t: FrameType) -> u8 {
+fn frame_type_byte(t: FrameType) -> u8
+    ensures { λ r. ⌜ r ≡ frameTypeByte t ⌝ }
+{
     match t {
         FrameType::GlobalCommand => 0,
         FrameType::ClusterCommand => 1,
@@ -81,16 +69,16 @@ fn frame_type(t: FrameType) -> u8 {
 
 // Nothing where the frame is too short for a header; else its frame type, whether it has a manufacturer code, the code,
 // the sequence number, the command, and where the body starts.
-fn of_header(input: &[u8], out: &mut [u8]) -> Filled
-    ensures { λ r. ⌜ Holds r (now (out .exit)) ⌝ }
+pub(crate) fn of_header(input: &[u8], held: &[u8]) -> Agreement
+    ensures { λ r. ⌜ r ≡ agreement (ofHeader (now (input .entry))) (now (held .entry)) ⌝ }
 {
     let HeaderRead::Header(h) = read_header(input) else {
-        return Filled::Bytes(0);
+        return Agreement::Is(held.len() == 0);
     };
     let control = h.frame_control;
     let code = h.manufacturer_code.0 as usize;
     let says = [
-        frame_type(control.frame_type()),
+        frame_type_byte(control.frame_type()),
         bit(control.is_manufacturer_specific()),
         low(code),
         low(code / 256),
@@ -98,35 +86,20 @@ fn of_header(input: &[u8], out: &mut [u8]) -> Filled
         h.command_identifier.0,
         low(h.body),
     ];
-    put(&says, out)
+    Agreement::Is(same(&says, held))
 }
 
 // A type code and bytes: 00 where no value of the type ends in them, else 01 and the end.
-fn of_extent(input: &[u8], out: &mut [u8]) -> Filled
-    ensures { λ r. ⌜ Holds r (now (out .exit)) ⌝ }
+pub(crate) fn of_extent(input: &[u8], held: &[u8]) -> Agreement
+    ensures { λ r. ⌜ r ≡ agreement (ofExtent (now (input .entry))) (now (held .entry)) ⌝ }
 {
     if input.len() == 0 {
-        return Filled::Bad;
+        return Agreement::NoInput;
     }
-    let Extent::End(end) = extent_at(&input[1..], 0, TypeId(input[0])) else {
+    let Extent::End(end) = extent_at(rest(input, 1), 0, TypeId(input[0])) else {
         let says = [0];
-        return put(&says, out);
+        return Agreement::Is(same(&says, held));
     };
     let says = [1, low(end), low(end / 256)];
-    put(&says, out)
-}
-
-// Puts the answer of ours at the start of out; bad where the input is none of its kind, or the answer does not fit.
-pub fn answer(kind: Kind, input: &[u8], out: &mut [u8]) -> Filled
-    ensures { λ r. ⌜ Holds r (now (out .exit)) ⌝ }
-{
-    match kind {
-        Kind::Type => of_type(input, out),
-        Kind::Header => of_header(input, out),
-        Kind::Extent => of_extent(input, out),
-        Kind::Difference => of_extent(input, out),
-        Kind::Store => of_store(input, out),
-        Kind::Number => of_number(input, out),
-        Kind::Write => of_write(input, out),
-    }
+    Agreement::Is(same(&says, held))
 }

@@ -1,10 +1,12 @@
 // Replays a recorded list of another program's answers, read from standard input, and says how many are ours too.
-// A kind of line has a place in cases.rt or stores.rt (what ours says), verdict.rt (its letter), tally.rt (its count)
-// and here (its row).
+// A kind of line has a place in cases.rt, stores.rt or commands.rt (what ours says), verdict.rt (its letter) and here (its
+// row).
 ghost use mathlib.Core.Path.{_≡_};
 ghost use lib.ListN.{length};
 
+mod bytes;
 mod cases;
+mod commands;
 mod hex;
 mod line;
 mod stores;
@@ -13,8 +15,8 @@ mod verdict;
 
 use libc::STDIN_FILENO;
 use libc::STDOUT_FILENO;
-use tally::Count;
 use tally::Tally;
+use tally::row_of;
 
 fn text(s: &[u8]) {
     io::write_all(STDOUT_FILENO, s);
@@ -25,26 +27,30 @@ fn number(n: usize) {
 }
 
 // A row with the count of one kind.
-fn row(name: &[u8], count: Count, rest: &[u8]) {
+fn row(name: &[u8], t: Tally, letter: u8, rest: &[u8]) {
+    let k = row_of(letter);
     text(name);
-    number(count.agree);
+    number(t.agree[k]);
     text(b" of ");
-    number(count.of);
+    number(t.of[k]);
     text(rest);
 }
 
 fn report(t: Tally, whole: bool) {
-    row(b"types: ", t.types, b" agree\n");
-    row(b"headers: ", t.headers, b" agree\n");
-    row(b"extents: ", t.extents, b" agree\n");
+    row(b"types: ", t, b't', b" agree\n");
+    row(b"headers: ", t, b'h', b" agree\n");
+    row(b"extents: ", t, b'e', b" agree\n");
+    row(b"listed differences: ", t, b'd', b" as document 01 says\n");
+    row(b"stores: ", t, b's', b" as document 01 says\n");
+    row(b"numbers: ", t, b'v', b" as document 01 says\n");
+    row(b"writes: ", t, b'w', b" as document 01 says\n");
+    row(b"commands: ", t, b'c', b" agree\n");
     row(
-        b"listed differences: ",
-        t.differences,
+        b"listed differences of commands: ",
+        t,
+        b'x',
         b" as document 01 says\n",
     );
-    row(b"stores: ", t.stores, b" as document 01 says\n");
-    row(b"numbers: ", t.numbers, b" as document 01 says\n");
-    row(b"writes: ", t.writes, b" as document 01 says\n");
     if t.first != 0 {
         text(b"first that does not agree: line ");
         number(t.first);

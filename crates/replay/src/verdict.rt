@@ -1,108 +1,137 @@
 // One line, judged: whether it agrees, or that it is the last, or that it cannot be read.
 ghost use mathlib.Core.Path.{_≡_};
-ghost use Prim.Native.Nat.{_<_};
+ghost use Prim.Native.Nat.{_≤_};
 ghost use lib.ListN.{length};
-ghost use Rattle.replay.specs.declared.verdict.Verdict.the-variants.{Unreadable};
-use super::cases::Kind;
-use super::cases::answer;
-use super::hex::Filled;
-use super::line::field;
-use super::line::fields;
+ghost use Rattle.replay.specs.Line.{split, space};
+ghost use Rattle.replay.specs.Ours.{agreement};
+ghost use Rattle.replay.specs.Verdict.{ours, recorded as recordedBy, caseOf, listed as listedBy, differenceOf, lastOf, byLetter, judged};
+use super::bytes::blank;
+use super::bytes::rest;
+use super::bytes::same;
+use super::cases::Agreement;
+use super::cases::of_extent;
+use super::cases::of_header;
+use super::cases::of_type;
+use super::commands::of_command;
+use super::hex::decode;
+use super::line::find;
+use super::line::word;
+use super::stores::of_number;
+use super::stores::of_store;
+use super::stores::of_write;
+use frame::reply::Put;
 use types::number::unsigned_at;
 
-// The most bytes that a field may have: a longer one cannot be read.
-const LONGEST: usize = 4608;
-
-// The same of a count, and of the answers of a listed difference.
-const SHORT: usize = 8;
-
-pub enum Verdict {
-    // A case of a kind, and whether it agrees.
-    Case(Kind, bool),
+pub(crate) enum Verdict {
+    // A case of the kind that a letter names, and whether it agrees.
+    Case(u8, bool),
     // The last line, with the number of lines that it says stand before it.
     Last(u64),
     Unreadable,
 }
 
-fn same(a: &[u8], b: &[u8]) -> bool {
-    if a.len() != b.len() {
-        return false;
-    }
-    let mut i = 0;
-    while i < a.len() {
-        if a[i] != b[i] {
-            return false;
-        }
-        i += 1;
-    }
-    true
-}
-
-// Whether the k-th field has just these bytes; it is read into `held`.
-fn compared(line: &[u8], k: usize, kind: Kind, bytes: &[u8], held: &mut [u8]) -> Verdict {
-    let Filled::Bytes(n) = field(line, k, held) else {
-        return Verdict::Unreadable;
-    };
-    Verdict::Case(kind, same(&held[..n], bytes))
-}
-
-// Room for a field. The `ensures` keeps its caller's proof away from so many zeros.
-fn blank() -> [u8; LONGEST]
-    ensures { λ r. ⌜ 4608 ≡ length r ⌝ }
+// What ours says to an input of the kind that a letter names, held to what was recorded.
+fn held_to_ours(letter: u8, input: &[u8], held: &[u8]) -> Agreement
+    requires { ⌜ length (now input) ≤ 4608 ⌝ }
+    ensures { λ r. ⌜ r ≡ agreement (ours letter (now (input .entry))) (now (held .entry)) ⌝ }
 {
-    [0; LONGEST]
+    match letter {
+        b't' => of_type(input, held),
+        b'h' => of_header(input, held),
+        b'e' => of_extent(input, held),
+        b'd' => of_extent(input, held),
+        b's' => of_store(input, held),
+        b'v' => of_number(input, held),
+        b'w' => of_write(input, held),
+        b'c' | b'x' => of_command(input, held),
+        _ => Agreement::NoInput,
+    }
 }
 
-// Whether the second field is what ours says to the first. The buffer of the first serves for the second again: to clear
-// one costs more than to judge a short line.
-fn recorded(line: &[u8], kind: Kind) -> Verdict {
+// Whether the second field is what ours says to the first.
+fn recorded(letter: u8, first: &[u8], second: &[u8]) -> Verdict
+    ensures { λ r. ⌜ r ≡ recordedBy letter (now (first .entry)) (now (second .entry)) ⌝ }
+{
     let mut input = blank();
-    let Filled::Bytes(n) = field(line, 1, &mut input) else {
+    let Put::At(n) = decode(first, &mut input) else {
         return Verdict::Unreadable;
     };
-    let mut ours = blank();
-    let Filled::Bytes(k) = answer(kind, &input[..n], &mut ours) else {
+    let mut held = blank();
+    let Put::At(k) = decode(second, &mut held) else {
         return Verdict::Unreadable;
     };
-    compared(line, 2, kind, &ours[..k], &mut input)
+    let Agreement::Is(agrees) = held_to_ours(letter, &input[..n], &held[..k]) else {
+        return Verdict::Unreadable;
+    };
+    Verdict::Case(letter, agrees)
 }
 
 // A line with two fields.
-fn case(line: &[u8], kind: Kind) -> Verdict {
-    if fields(line) != 2 {
+fn case(letter: u8, fields: &[u8]) -> Verdict
+    ensures { λ r. ⌜ r ≡ caseOf letter (split space (now (fields .entry))) ⌝ }
+{
+    let first = word(fields, b' ');
+    let n = first.len();
+    if n == fields.len() {
         return Verdict::Unreadable;
     }
-    recorded(line, kind)
+    let second = rest(fields, n + 1);
+    if find(second, b' ') != second.len() {
+        return Verdict::Unreadable;
+    }
+    recorded(letter, first, second)
 }
 
-// A line with three fields, of which the third is the other program's answer: where that is the same as the second,
-// there is no difference to list, and the line does not agree.
-fn difference(line: &[u8]) -> Verdict {
-    if fields(line) != 3 {
+// Whether the second field is what ours says to the first, and the third, the other program's answer, is another: where
+// it is the same there is no difference to list.
+fn listed(letter: u8, first: &[u8], second: &[u8], third: &[u8]) -> Verdict
+    ensures { λ r. ⌜ r ≡ listedBy letter (now (first .entry)) (now (second .entry)) (now (third .entry)) ⌝ }
+{
+    let mut held = blank();
+    let Put::At(n) = decode(second, &mut held) else {
+        return Verdict::Unreadable;
+    };
+    let mut other = blank();
+    let Put::At(k) = decode(third, &mut other) else {
+        return Verdict::Unreadable;
+    };
+    let Verdict::Case(kind, agrees) = recorded(letter, first, second) else {
+        return Verdict::Unreadable;
+    };
+    Verdict::Case(kind, agrees && !same(&held[..n], &other[..k]))
+}
+
+// A line with three fields.
+fn difference(letter: u8, fields: &[u8]) -> Verdict
+    ensures { λ r. ⌜ r ≡ differenceOf letter (split space (now (fields .entry))) ⌝ }
+{
+    let first = word(fields, b' ');
+    let n = first.len();
+    if n == fields.len() {
         return Verdict::Unreadable;
     }
-    let mut listed = [0u8; SHORT];
-    let Filled::Bytes(n) = field(line, 2, &mut listed) else {
+    let more = rest(fields, n + 1);
+    let second = word(more, b' ');
+    let k = second.len();
+    if k == more.len() {
         return Verdict::Unreadable;
-    };
-    let mut other = [0u8; SHORT];
-    let Verdict::Case(kind, same) = compared(line, 3, Kind::Difference, &listed[..n], &mut other)
-    else {
+    }
+    let third = rest(more, k + 1);
+    if find(third, b' ') != third.len() {
         return Verdict::Unreadable;
-    };
-    let Verdict::Case(_, agrees) = recorded(line, kind) else {
-        return Verdict::Unreadable;
-    };
-    Verdict::Case(kind, agrees && !same)
+    }
+    listed(letter, first, second, third)
 }
 
 // The line with the number of lines before it, in four bytes.
-fn last(line: &[u8]) -> Verdict {
-    if fields(line) != 1 {
+fn last(fields: &[u8]) -> Verdict
+    ensures { λ r. ⌜ r ≡ lastOf (split space (now (fields .entry))) ⌝ }
+{
+    if find(fields, b' ') != fields.len() {
         return Verdict::Unreadable;
     }
-    let mut count = [0u8; SHORT];
-    let Filled::Bytes(n) = field(line, 1, &mut count) else {
+    let mut count = [0u8; 4];
+    let Put::At(n) = decode(fields, &mut count) else {
         return Verdict::Unreadable;
     };
     if n != 4 {
@@ -112,29 +141,25 @@ fn last(line: &[u8]) -> Verdict {
 }
 
 // The letter says what the fields mean.
-fn by_letter(line: &[u8], letter: u8) -> Verdict {
+fn by_letter(letter: u8, fields: &[u8]) -> Verdict
+    ensures { λ r. ⌜ r ≡ byLetter letter (split space (now (fields .entry))) ⌝ }
+{
     match letter {
-        b't' => case(line, Kind::Type),
-        b'h' => case(line, Kind::Header),
-        b'e' => case(line, Kind::Extent),
-        b'd' => difference(line),
-        b's' => case(line, Kind::Store),
-        b'v' => case(line, Kind::Number),
-        b'w' => case(line, Kind::Write),
-        b'n' => last(line),
-        _ => Verdict::Unreadable,
+        b'n' => last(fields),
+        b'd' | b'x' => difference(letter, fields),
+        _ => case(letter, fields),
     }
 }
 
 // What is to be said of a line. Its letter is the whole first word, so it has at least two bytes.
-pub fn judge(line: &[u8]) -> Verdict
-    ensures { λ r. ⌜ (length (now (line .entry)) < 2 → r ≡ Unreadable) ⌝ }
+pub(crate) fn judge(line: &[u8]) -> Verdict
+    ensures { λ r. ⌜ r ≡ judged (now (line .entry)) ⌝ }
 {
+    if find(line, b' ') != 1 {
+        return Verdict::Unreadable;
+    }
     if line.len() < 2 {
         return Verdict::Unreadable;
     }
-    if line[1] != b' ' {
-        return Verdict::Unreadable;
-    }
-    by_letter(line, line[0])
+    by_letter(line[0], rest(line, 2))
 }

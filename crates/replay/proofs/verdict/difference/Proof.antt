@@ -1,82 +1,65 @@
--- `verdict::difference` is safe: what a field was counted to lies within its buffer. Assumes nothing.
-use Rattle.replay.proofs.Counted.{counted}
+-- The words say how many fields there are. Assumes nothing.
+use mathlib.Core.Path.{_∙_}
+use denote.Ref.{now}
+use Rattle.replay.proofs.Fields.{difference-one, difference-two, difference-more, difference-three}
 use borrow.Author.Needs.{needs}
 use Rattle.replay.proofs.verdict.difference.Statement.{statement}
 use Rattle.replay.proofs.verdict.difference.Tie as tie
 
-fields-requires : tie.Need-fields-requires
-fields-requires c κs = search needs
+word-requires : tie.Need-word-requires
+word-requires c κs = search needs
 
 returns : tie.Need-returns
-returns c = search needs
+returns c =
+    difference-one (c .before .before .before .args .letter) (now (c .before .before .before .args .fields)) _ (c .before .word .ensures) (c .if1 .taken)
 
-slice-aggregate-field : tie.Need-slice-aggregate-field
-slice-aggregate-field c = search needs
+add-rest : tie.Need-add-rest
+add-rest c = search needs
 
-field-requires : tie.Need-field-requires
-field-requires c κs = search needs
+rest-requires : tie.Need-rest-requires
+rest-requires c κs = search needs
 
-enum-known-n : tie.Need-enum-known-n
-enum-known-n c = search needs
-
-enum-told : tie.Need-enum-told
-enum-told c = search needs
+word-requires-2 : tie.Need-word-requires-2
+word-requires-2 c κs = search needs
 
 returns-2 : tie.Need-returns-2
-returns-2 c = search needs
+returns-2 c =
+    difference-two (c .before .before .before .before .before .before .args .letter) (now (c .before .before .before .before .before .before .args .fields)) _ (c .before .before .before .before .word .ensures) (c .before .before .before .if1 .left) _ (c .before .before .rest .ensures) _ (c .before .word2 .ensures) (c .if2 .taken)
 
-array-share-prefix-listed : tie.Need-array-share-prefix-listed
-array-share-prefix-listed c = counted _ _ _ (c .before .n .given .1) (c .before .before .before .before .field .ensures) .0
+add-rest-2 : tie.Need-add-rest-2
+add-rest-2 c = search needs
 
-slice-aggregate-compared : tie.Need-slice-aggregate-compared
-slice-aggregate-compared c = counted _ _ _ (c .before .before .n .given .1) (c .before .before .before .before .before .field .ensures) .1
+rest-requires-2 : tie.Need-rest-requires-2
+rest-requires-2 c κs = search needs
 
-slice-aggregate-compared-2 : tie.Need-slice-aggregate-compared-2
-slice-aggregate-compared-2 c = search needs
-
-compared-requires : tie.Need-compared-requires
-compared-requires c κs = search needs
-
-enum-known-kind : tie.Need-enum-known-kind
-enum-known-kind c = search needs
+find-requires : tie.Need-find-requires
+find-requires c κs = search needs
 
 returns-3 : tie.Need-returns-3
-returns-3 c = search needs
+returns-3 c =
+    difference-more (c .before .before .before .before .before .before .before .before .before .args .letter) (now (c .before .before .before .before .before .before .before .before .before .args .fields)) _ (c .before .before .before .before .before .before .before .word .ensures) (c .before .before .before .before .before .before .if1 .left) _ (c .before .before .before .before .before .rest .ensures) _ (c .before .before .before .before .word2 .ensures) (c .before .before .before .if2 .left) _ (c .before .before .rest2 .ensures) _ (c .before .find .ensures) (c .if3 .taken)
 
-recorded-requires : tie.Need-recorded-requires
-recorded-requires c κs = search needs
-
-enum-known-agrees : tie.Need-enum-known-agrees
-enum-known-agrees c = search needs
+listed-requires : tie.Need-listed-requires
+listed-requires c κs = search needs
 
 returns-4 : tie.Need-returns-4
-returns-4 c = search needs
-
-returns-5 : tie.Need-returns-5
-returns-5 c = search needs
-
-returns-6 : tie.Need-returns-6
-returns-6 c = search needs
+returns-4 c =
+    c .listed .ensures
+    ∙ difference-three (c .before .before .before .before .before .before .before .before .before .before .args .letter) (now (c .before .before .before .before .before .before .before .before .before .before .args .fields)) _ (c .before .before .before .before .before .before .before .before .word .ensures) (c .before .before .before .before .before .before .before .if1 .left) _ (c .before .before .before .before .before .before .rest .ensures) _ (c .before .before .before .before .before .word2 .ensures) (c .before .before .before .before .if2 .left) _ (c .before .before .before .rest2 .ensures) _ (c .before .before .find .ensures) (c .before .if3 .left)
 
 pub difference-spec : {M : Type 1} → statement M
 difference-spec =
     tie.close
     (tie.spec
-    fields-requires
+    word-requires
     returns
-    slice-aggregate-field
-    field-requires
-    enum-known-n
-    enum-told
+    add-rest
+    rest-requires
+    word-requires-2
     returns-2
-    array-share-prefix-listed
-    slice-aggregate-compared
-    slice-aggregate-compared-2
-    compared-requires
-    enum-known-kind
+    add-rest-2
+    rest-requires-2
+    find-requires
     returns-3
-    recorded-requires
-    enum-known-agrees
-    returns-4
-    returns-5
-    returns-6)
+    listed-requires
+    returns-4)
