@@ -11,7 +11,7 @@ use borrow.Author.Tests.{le-leb, lt-leb, leb-true, eq-eqb, ne-eqb}
 use Rattle.types.specs.Number.{unsignedAt}
 use Rattle.types.specs.Ids.{sizeOf, isAnalog}
 use Rattle.types.specs.declared.ids.Size.{Size}
-use Rattle.frame.specs.Walk.{Item, item, unread}
+use Rattle.frame.specs.Walk.{item, unread}
 use Rattle.frame.proofs.Walks.{Ahead}
 use Rattle.reporting.specs.declared.entry.ReportingConfig.{ReportingConfig}
 use Rattle.frame.specs.Sized.{upTo}

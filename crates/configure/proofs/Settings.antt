@@ -2,10 +2,9 @@
 -- nothing.
 use mathlib.Core.Path.{_≡_, refl, sym, ap, _∙_}
 use mathlib.Core.Bool.{Bool, true, false, cond, true≢false, false≢true}
-use mathlib.Core.List.{List, [], _∷_, _++_}
-use Prim.Native.Nat.{ℕ, _<_}
-use lib.Dec.{eqb, ltb}
-use borrow.Author.Tests.{eq-eqb, ne-eqb, lt-ltb, le-ltb}
+use mathlib.Core.List.{List, [], _∷_}
+use Prim.Native.Nat.{ℕ}
+use borrow.Author.Tests.{eq-eqb, ne-eqb}
 use types.Run.{OneOf, miss}
 use denote.Enum.Declared.{tagOf}
 use Rattle.frame.specs.declared.status.Status.{Status}
@@ -24,11 +23,11 @@ use Rattle.reporting.specs.declared.table.Change.{Change}
 use Rattle.reporting.specs.declared.table.Change.the-variants as ChangeV
 use Rattle.reporting.specs.declared.table.Changed.{Changed}
 use Rattle.reporting.specs.Entries.{acceptsL, configureL}
-use Rattle.reporting.specs.Table.{room, tableOf, holding, ChangeTold, changeTold, Outcome, outcome, doneT, fullT, configureT, clearT}
-use Rattle.reporting.specs.Events.{Event, run, Wish, clears, wrong, sets, wish, statusW, recordW, events, call, configRecord}
+use Rattle.reporting.specs.Table.{room, tableOf, holding, changeTold, Outcome, outcome, doneT, fullT, configureT, clearT}
+use Rattle.reporting.specs.Events.{Event, run, Wish, clears, sets, wish, statusW, recordW, events, configRecord}
 use Rattle.reporting.proofs.Histories.{run-append, configure-refused, call-is}
 use Rattle.configure.specs.Configure.{checked, setting}
-use Rattle.configure.specs.Inside.{Came, Comes, Left, Does, Tries}
+use Rattle.configure.specs.Inside.{Came, Comes, Tries}
 
 -- ---- the methods of the table
 

@@ -1,7 +1,7 @@
 -- One record done, the loop over the records, and the whole command. Assumes nothing.
-use mathlib.Core.Path.{_≡_, refl, sym, ap, _∙_, subst}
+use mathlib.Core.Path.{_≡_, refl, sym, ap, _∙_}
 use mathlib.Core.Bool.{Bool, true, false, cond}
-use mathlib.Core.List.{List, [], _∷_}
+use mathlib.Core.List.{List, []}
 use Prim.Native.Nat.{ℕ, _≤_, _<_}
 use native.Mathlib.Omega.{arith}
 use lib.ListN.{length}
@@ -23,7 +23,7 @@ use Rattle.frame.specs.Answer.{refusalNumber, noState, seen, refused}
 use Rattle.frame.specs.Walk.{item}
 use Rattle.frame.specs.Reply.{putting, put}
 use Rattle.frame.specs.Failures.{did, performed, noting, concludedAt}
-use Rattle.frame.specs.Passes.{TookOne, TookNone}
+use Rattle.frame.specs.Passes.{TookOne}
 use Rattle.frame.proofs.Codes.{refusal-nonzero}
 use Rattle.frame.proofs.Outcome.{refused-with}
 use Rattle.frame.proofs.Passes.{Going, going-first, going-done, going-cut, going-more, going-stop, performs, headed-past, headed-performs}
@@ -38,9 +38,9 @@ use Rattle.reporting.specs.Events.{Event}
 use Rattle.reporting.proofs.Slots.{live-length}
 use Rattle.configure.specs.Request.{keyFor, received, reported, configureAt, configures}
 use Rattle.configure.specs.Configure.{Failure, encode, checked, setting, tried, configuring, configureEvents, left, configureOf}
-use Rattle.configure.specs.Inside.{failure, Left, Tries, Took, Missed, Ran, Runs}
+use Rattle.configure.specs.Inside.{failure, Left, Tries, Took, Missed, Runs}
 use Rattle.configure.proofs.Items.{ahead}
-use Rattle.configure.proofs.Settings.{tries-as, fails-with}
+use Rattle.configure.proofs.Settings.{fails-with}
 
 -- a failure takes bytes
 pub some : (f : Failure) → 0 < length (encode f)

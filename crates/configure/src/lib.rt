@@ -3,6 +3,7 @@
 mod change;
 pub mod configuration;
 pub mod configure;
+mod key;
 mod pass;
 mod record;
 mod settle;

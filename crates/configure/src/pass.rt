@@ -90,12 +90,9 @@ fn note(reply: &mut [u8], out: usize, status: Status, direction: u8, id: Attribu
     ensures { λ r. ⌜ putting r (now (reply .exit)) ≡ noting (now (reply .entry)) out status (encode (failure status direction (id .0))) ⌝ }
 {
     let n = id.0;
-    let four = [
-        status.to_u8(),
-        direction,
-        (n % 256) as u8,
-        (n / 256 % 256) as u8,
-    ];
+    let low = (n % 256) as u8;
+    let high = (n / 256 % 256) as u8;
+    let four = [status.to_u8(), direction, low, high];
     list_failure(reply, out, status, &four)
 }
 

@@ -6,6 +6,7 @@ ghost use Rattle.reporting.specs.Events.{wish, sets};
 ghost use Rattle.configure.specs.Request.{keyFor};
 ghost use Rattle.configure.specs.Configure.{checked, setting};
 ghost use Rattle.configure.specs.Inside.{wishTold, Comes, Tries};
+use super::key::key_for;
 use frame::header::ZclHeader;
 use frame::status::Status;
 use reporting::entry::Key;
@@ -13,7 +14,6 @@ use reporting::entry::ReportingConfig;
 use reporting::table::Change;
 use reporting::table::ReportingTable;
 use store::lookup::Found;
-use store::lookup::cluster_of;
 use store::lookup::find;
 use store::lookup::is_reportable;
 use store::lookup::name_of;
@@ -126,9 +126,6 @@ pub(crate) fn configure_one(
             table,
         };
     }
-    let key = Key {
-        cluster: cluster_of(store),
-        attribute: id,
-    };
+    let key = key_for(store, request, id);
     settle(table, key, config)
 }

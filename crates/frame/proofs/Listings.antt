@@ -17,7 +17,7 @@ use Rattle.frame.specs.declared.answer.Refusal.the-variants.{ReplyTooLon
 use Rattle.frame.specs.declared.failures.Pass.{Pass}
 use Rattle.frame.specs.Status.{statusCode}
 use Rattle.frame.specs.Reply.{Putting, putting, put, Shows}
-use Rattle.frame.specs.Answer.{Outcome, noState, seen, replied, refused}
+use Rattle.frame.specs.Answer.{noState, seen, replied, refused}
 use Rattle.frame.specs.Walk.{Way}
 use Rattle.frame.specs.Encoded.{encodeAll, fits, Ways}
 use Rattle.frame.specs.Failures.{Sofar, also, encodeFailures, answered, concluded, noting, sent, concludedAt}

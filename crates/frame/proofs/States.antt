@@ -1,7 +1,7 @@
 -- The state that a command leaves which lists its failures, for any state. Assumes nothing.
-use mathlib.Core.Path.{_≡_, refl, sym, subst}
+use mathlib.Core.Path.{_≡_, refl, sym, _∙_, subst}
 use mathlib.Core.Bool.{Bool, true, false, cond}
-use mathlib.Core.List.{List, [], _++_}
+use mathlib.Core.List.{List, [], _∷_, _++_}
 use Prim.Native.Nat.{ℕ}
 use lib.ListN.{length}
 use lib.Dec.{leb}
@@ -10,7 +10,7 @@ use Rattle.frame.specs.declared.command_identifier.CommandIdentifier.{Co
 use Rattle.frame.specs.declared.answer.Refusal.the-variants.{ReplyTooLong}
 use Rattle.frame.specs.Header.{replyHead}
 use Rattle.frame.specs.Answer.{Outcome, replied, refused}
-use Rattle.frame.specs.Walk.{Records, Way, through, broken, stopped, reached}
+use Rattle.frame.specs.Walk.{Ending, done, cut, Records, Way, through, broken, stopped, walk, reached}
 use Rattle.frame.specs.Encoded.{fits}
 use Rattle.frame.specs.Failures.{Doing, Sofar, sofar, turn, passFrom, pass, encodeFailures, answered, concluded, performed, headed}
 use Rattle.frame.proofs.Walks.{All, walk-keeps}
@@ -55,3 +55,55 @@ module _ {S R F : Type 0} (doing : Doing S R F) (P : S → Type 0) (Q : R → Ty
   performed-keeps s room head h =
       let fine : List F → Bool = fits (doing .bytes) room (length head) in
       concluded-keeps room head (pass doing fine rs s) (pass-keeps fine s h)
+
+-- ---- where nothing stops a pass, its state is what the records leave, one after the other
+
+abbrev pub folded : {S R F : Type 0} → Doing S R F → S → List R → S
+folded doing s [] = s
+folded doing s (r ∷ rs) = folded doing (doing .does s r .state) rs
+
+pub folded-append : {S R F : Type 0} (doing : Doing S R F) (a b : List R) (s : S) → folded doing s (a ++ b) ≡ folded doing (folded doing s a) b
+folded-append doing [] b s = refl
+folded-append doing (r ∷ a) b s = folded-append doing a b (doing .does s r .state)
+
+abbrev pub Unstopped : {S : Type 0} → Way S → Type 0
+Unstopped (through x) = Unit {0}
+Unstopped (broken x) = Unit {0}
+Unstopped (stopped x y) = ⊥
+
+module _ {S R F : Type 0} (doing : Doing S R F) (fine : List F → Bool) where
+  abbrev goes : Sofar S F → Ending → List R → Way (Sofar S F)
+  goes x e rs = walk (turn doing) (λ y. fine (y .failures)) x e rs
+
+  walk-folded : (e : Ending) (rs : List R) (x : Sofar S F) → Unstopped (goes x e rs) → reached (goes x e rs) .state ≡ folded doing (x .state) rs
+  unfolding walk turn
+  walk-folded done [] x u = refl
+  walk-folded cut [] x u = refl
+  walk-folded e (r ∷ rs) x u = go (fine (turn doing x r .failures)) u (λ v. walk-folded e rs (turn doing x r) v)
+    where
+      go : (b : Bool) → Unstopped (cond b (goes (turn doing x r) e rs) (stopped x (turn doing x r)))
+          → (Unstopped (goes (turn doing x r) e rs) → reached (goes (turn doing x r) e rs) .state ≡ folded doing (doing .does (x .state) r .state) rs)
+          → reached (cond b (goes (turn doing x r) e rs) (stopped x (turn doing x r))) .state ≡ folded doing (doing .does (x .state) r .state) rs
+      go true u rec = rec u
+      go false u rec = absurd u
+
+-- only a stop, or a reply that does not fit, is 5
+not-five : {S F : Type 0} (bytes : F → List ℕ) (room : ℕ) (head : List ℕ) (way : Way (Sofar S F)) → (concluded bytes room head way .number ≡ 5 → ⊥) → Unstopped way
+unfolding concluded
+not-five bytes room head (through x) n = tt
+not-five bytes room head (broken x) n = tt
+not-five bytes room head (stopped x y) n = n refl
+
+-- A COMMAND THAT IS NOT REFUSED BY 5 leaves what its records leave, one after the other
+pub performed-folded : {S R F : Type 0} (doing : Doing S R F) (rs : Records R) (request : ZclHeader) (command : CommandIdentifier) (s : S) (room : ℕ)
+    → (headed request command s room (performed doing rs s room) .number ≡ 5 → ⊥) → headed request command s room (performed doing rs s room) .state ≡ folded doing s (rs .list)
+unfolding headed performed passFrom
+performed-folded doing rs request command s room n = go (leb (length (replyHead request command)) room) n
+  where
+    go : (b : Bool) → (cond b (performed doing rs s room (replyHead request command)) (refused room ReplyTooLong s) .number ≡ 5 → ⊥)
+        → cond b (performed doing rs s room (replyHead request command)) (refused room ReplyTooLong s) .state ≡ folded doing s (rs .list)
+    go true n =
+        let way = pass doing (fits (doing .bytes) room (length (replyHead request command))) rs s in
+        state-concluded room (doing .bytes) (replyHead request command) way
+        ∙ walk-folded doing (fits (doing .bytes) room (length (replyHead request command))) (rs .ending) (rs .list) (sofar s []) (not-five (doing .bytes) room (replyHead request command) way n)
+    go false n = absurd (n refl)

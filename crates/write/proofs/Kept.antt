@@ -9,7 +9,6 @@ use Rattle.frame.specs.declared.command_identifier.CommandIdentifier.the-varian
 use Rattle.frame.specs.Walk.{Way, through, broken, stopped, reached}
 use Rattle.frame.specs.Encoded.{fits}
 use Rattle.frame.specs.Failures.{Sofar, pass, always, concluded, performed}
-use Rattle.frame.proofs.Walks.{All}
 use Rattle.frame.proofs.States.{headed-keeps, pass-keeps, concluded-keeps, performed-keeps}
 use Rattle.store.specs.Contents.{nameOf, attributesOf}
 use Rattle.store.specs.Layout.{isStore}

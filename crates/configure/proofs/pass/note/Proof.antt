@@ -9,14 +9,14 @@ use borrow.Author.Needs.{needs}
 use Rattle.configure.proofs.pass.note.Statement.{statement}
 use Rattle.configure.proofs.pass.note.Tie as tie
 
+cast-low : tie.Need-cast-low
+cast-low c = search needs
+
+cast-high : tie.Need-cast-high
+cast-high c = search needs
+
 to-u8-requires : tie.Need-to-u8-requires
 to-u8-requires c κs = search needs
-
-cast-t10 : tie.Need-cast-t10
-cast-t10 c = search needs
-
-cast-t13 : tie.Need-cast-t13
-cast-t13 c = search needs
 
 slice-aggregate-list-failure : tie.Need-slice-aggregate-list-failure
 slice-aggregate-list-failure c = search needs
@@ -38,9 +38,9 @@ pub note-spec : {M : Type 1} → statement M
 note-spec =
     tie.close
     (tie.spec
+    cast-low
+    cast-high
     to-u8-requires
-    cast-t10
-    cast-t13
     slice-aggregate-list-failure
     list-failure-requires
     same-length

@@ -1,6 +1,4 @@
 -- Each way out is one law of the record at a place. Assumes nothing.
-use mathlib.Core.Path.{_≡_, sym, ap, _∙_}
-use Prim.Native.Nat.{ℕ}
 use native.Mathlib.Omega.{arith}
 use denote.Ref.{now}
 use Rattle.configure.proofs.Items.{record-short, received-is, reported-short, reported-is}

@@ -1,10 +1,9 @@
 -- The checks one after the other, and then the table. Assumes nothing.
-use mathlib.Core.Path.{_≡_, refl, sym, ap, _∙_}
+use mathlib.Core.Path.{_≡_, sym, ap, _∙_}
 use mathlib.Core.Bool.{true}
 use mathlib.Core.List.{List}
 use denote.Ref.{now}
 use borrow.Author.Tests.{not-true, not-false}
-use Prim.Native.Nat.{ℕ}
 use Rattle.frame.specs.declared.status.Status.the-variants.{UnsupportedAttribute, UnreportableAttribute, InvalidDataType}
 use Rattle.frame.specs.Failures.{Did}
 use Rattle.store.specs.declared.lookup.Found.{Found}
@@ -30,13 +29,6 @@ found c = is (c .before .before) (At (c .a .given .0 .0)) (c .a .given .1)
 
 may : (c : tie.Else1) → reportable (c .before .before .before .a .given .0 .0) ≡ true
 may c = sym (c .before .is-reportable .ensures) ∙ not-false _ (c .if1 .left)
-
--- the key that was made
-abbrev Made : tie.After-cluster-of → Key
-Made c = record { cluster = c .cluster-of .result; attribute = c .before .before .before .before .before .before .before .before .before .before .before .before .before .args .id }
-
-made : (c : tie.After-cluster-of) → Made c ≡ keyFor (now (c .before .before .before .before .before .before .before .before .before .before .before .before .before .args .store)) (c .before .before .before .before .before .before .before .before .before .before .before .before .before .args .request) (c .before .before .before .before .before .before .before .before .before .before .before .before .before .args .id .0)
-made c = ap (λ (n : ℕ). record { cluster = record { 0 = n }; attribute = c .before .before .before .before .before .before .before .before .before .before .before .before .before .args .id }) (c .cluster-of .ensures)
 
 -- what is asked of the table
 abbrev Asked : tie.Start → List Entry → List Event → Did (List Event)
@@ -72,8 +64,8 @@ returns-3 : tie.Need-returns-3
 returns-3 c =
     fails-with (Want (c .before .before .before .before .before .before .before .before .before .before .before .before)) InvalidDataType (λ l es. checked-other _ (c .before .before .before .before .before .before .before .before .before .before .before .before .args .type-id .0) es (Asked (c .before .before .before .before .before .before .before .before .before .before .before .before) l es) (c .before .before .before .before .before .before .before .a .given .0 .0) (found (c .before .before .before .before .before .before .before)) (may (c .before .before .before .before)) (c .if2 .taken)) (c .before .before .before .before .before .before .before .before .before .before .before .before .args .table)
 
-cluster-of-requires : tie.Need-cluster-of-requires
-cluster-of-requires c κs = search needs
+key-for-requires : tie.Need-key-for-requires
+key-for-requires c κs = search needs
 
 settle-requires : tie.Need-settle-requires
 settle-requires c κs = search needs
@@ -82,8 +74,8 @@ returns-4 : tie.Need-returns-4
 returns-4 c =
     let a = c .before .before .before .before .before .before .before .before .before .before .before .before .before .before .args in
     let x = c .settle in
-    tries-as (Want (c .before .before .before .before .before .before .before .before .before .before .before .before .before .before)) (λ l es. setting room l (Made (c .before)) (a .config) es)
-    (λ l es. ap (λ (k : Key). setting room l k (a .config) es) (made (c .before)) ∙ checked-fine _ (a .type-id .0) es (Asked (c .before .before .before .before .before .before .before .before .before .before .before .before .before .before) l es) (c .before .before .before .before .before .before .before .before .before .a .given .0 .0) (found (c .before .before .before .before .before .before .before .before .before)) (may (c .before .before .before .before .before .before)) (c .before .before .if2 .left))
+    tries-as (Want (c .before .before .before .before .before .before .before .before .before .before .before .before .before .before)) (λ l es. setting room l (c .before .key-for .result) (a .config) es)
+    (λ l es. ap (λ (k : Key). setting room l k (a .config) es) (c .before .key-for .ensures) ∙ checked-fine _ (a .type-id .0) es (Asked (c .before .before .before .before .before .before .before .before .before .before .before .before .before .before) l es) (c .before .before .before .before .before .before .before .before .before .a .given .0 .0) (found (c .before .before .before .before .before .before .before .before .before)) (may (c .before .before .before .before .before .before)) (c .before .before .if2 .left))
     (a .table) (x .result .table) (x .result .status) (x .ensures)
 
 pub configure-one-spec : {M : Type 1} → statement M
@@ -98,6 +90,6 @@ configure-one-spec =
     is-reportable-requires
     returns-2
     returns-3
-    cluster-of-requires
+    key-for-requires
     settle-requires
     returns-4)

@@ -1,7 +1,5 @@
 -- Failures are listed, or one 00 is put behind the header. Assumes nothing.
 use mathlib.Core.Path.{sym, ap, _∙_}
-use mathlib.Core.List.{List}
-use Prim.Native.Nat.{ℕ}
 use denote.Ref.{now}
 use Rattle.frame.specs.declared.reply.Put.{Put}
 use Rattle.frame.specs.Failures.{sent}
