@@ -6,3 +6,11 @@ pub mod Turns  -- one id of a report
 pub mod Going  -- the loop over the ids of a report
 pub mod Whole  -- a report: the store, the header, the list, its ids
 pub mod Dispatch  -- the way of a request to its command
+pub mod Cases  -- one case split for each of the server's definitions
+pub mod Sees  -- what a command sees of a request's header
+pub mod Indifferent  -- what does not affect an answer
+pub mod Shapes  -- the shape of every command's outcome
+pub mod Refusals  -- what every answer leaves
+pub mod Stays  -- a store stays a store
+pub mod Unique  -- no second answer fits
+pub mod Starred  -- the starred bench frames

@@ -1,0 +1,36 @@
+-- A store stays a store under every request: of the same length, with the same contents. Assumes nothing.
+use mathlib.Core.Path.{_≡_, refl}
+use mathlib.Core.Bool.{Bool, true}
+use mathlib.Core.List.{List}
+use Prim.Native.Nat.{ℕ, _≤_}
+use Rattle.frame.specs.declared.header.ZclHeader.{ZclHeader}
+use Rattle.frame.specs.declared.command_identifier.CommandIdentifier.{CommandIdentifier}
+use Rattle.store.specs.Layout.{isStore}
+use Rattle.reporting.specs.Table.{Table, sound}
+use Rattle.write.proofs.Kept.{Alike, write-keeps}
+use Rattle.server.specs.Serve.{commanded, serve}
+use Rattle.server.proofs.Cases.{commanded-case, serve-case}
+
+module _ (form limit : ℕ) (s : List ℕ) (wide : 8 ≤ form) (is : isStore form s ≡ true) (unicast : Bool) (room : ℕ) where
+  -- a command that is none of the three leaves the store itself
+  itself : Alike form s s
+  itself = record { still = is; same-length = refl; same-contents = refl }
+
+  commanded-stays : (t : Table) (h : ZclHeader) (body : List ℕ) (c : CommandIdentifier) → Alike form s (commanded form limit s t unicast h body room c .state .store)
+  commanded-stays t h body =
+      commanded-case form limit s t unicast body room (λ f. Alike form s (f h .state .store))
+      (record {
+        read = itself;
+        write = write-keeps form s h body room wide is .by-write;
+        undivided = write-keeps form s h body room wide is .by-undivided;
+        silently = write-keeps form s h body room wide is .by-silent;
+        configure = itself;
+        configuration = itself;
+        discover = itself;
+        other = itself;
+      })
+
+  -- A STORE STAYS A STORE
+  pub store-stays : (cluster : ℕ) (frame : List ℕ) (t : Table) → Alike form s (serve form limit s t cluster unicast frame room .state .store)
+  store-stays =
+      serve-case form limit s unicast room (λ t o. Alike form s (o .state .store)) (λ t why e. itself) (λ n l h body c. commanded-stays (sound n l) h body c)
