@@ -4,7 +4,6 @@ use mathlib.Core.Path.{_≡_, refl, sym, _∙_, subst}
 use mathlib.Core.Bool.{Bool, true, false, cond}
 use mathlib.Core.List.{List}
 use Prim.Native.Nat.{ℕ}
-use lib.ListN.{drop}
 use lib.Dec.{eqb}
 use Rattle.frame.specs.declared.header.ZclHeader.{ZclHeader}
 use Rattle.frame.specs.declared.header.HeaderRead.{HeaderRead}
@@ -15,7 +14,7 @@ use Rattle.frame.specs.declared.command_identifier.CommandIdentifier.{CommandId
 use Rattle.frame.specs.declared.command_identifier.CommandIdentifier.the-variants.{ReadAttributes, ReadAttributesResponse, WriteAttributes, WriteAttributesUndivided, WriteAttributesResponse, WriteAttributesNoResponse, ConfigureReporting, ConfigureReportingResponse, ReadReportingConfiguration, ReadReportingConfigurationResponse, ReportAttributes, DefaultResponse, DiscoverAttributes, DiscoverAttributesResponse, Other}
 use Rattle.frame.specs.declared.answer.Refusal.{Refusal}
 use Rattle.frame.specs.declared.answer.Refusal.the-variants.{OtherCluster, HeaderShort, ReservedFrameType, RecordCut, ReplyTooLong, NothingToSend, NotAStore, NotATable, NoNumber, NotSuchAReply, EmptyReport, NotReportable}
-use Rattle.frame.specs.Header.{frameTypeOf, headerOf}
+use Rattle.frame.specs.Header.{headerOf}
 use Rattle.frame.specs.CommandIdentifier.{commandOf}
 use Rattle.frame.specs.Answer.{Outcome, refused}
 use Rattle.store.specs.Contents.{clusterOf}
@@ -107,7 +106,7 @@ module _ (form limit : ℕ) (s : List ℕ) (unicast : Bool) (room : ℕ) (Q : Ta
 
   headed-case : (n : ℕ) (l : List Entry) (frame : List ℕ) (r : HeaderRead) → Q (sound n l) (headed form limit s (sound n l) unicast frame room r)
   unfolding headed
-  headed-case n l frame (Header h) = typed-case n l h (drop (h .body) frame) (frameTypeOf (h .«frame_control» .0))
+  headed-case n l frame (Header h) = typed-case n l h _ _
   headed-case n l frame Short = early (sound n l) HeaderShort refl
 
   either : (t : Table) (b : Bool) (x : Outcome State) (why : Refusal) → Early why → Q t x → Q t (cond b x (refused room why (state s t)))

@@ -10,7 +10,6 @@ use borrow.Author.Tests.{eq-eqb, ne-eqb}
 use types.Run.{OneOf, miss}
 use denote.Enum.Declared.{tagOf}
 use Rattle.frame.specs.declared.header.ZclHeader.{ZclHeader}
-use Rattle.frame.specs.declared.header.HeaderRead.{HeaderRead}
 use Rattle.frame.specs.declared.header.HeaderRead.the-variants.{Header, Short}
 use Rattle.frame.specs.declared.answer.Refusal.{Refusal}
 use Rattle.frame.specs.declared.answer.Refusal.the-variants.{OtherCluster, HeaderShort, NotAStore, NotATable}
@@ -24,7 +23,7 @@ use Rattle.store.specs.Contents.{clusterOf}
 use Rattle.store.specs.Layout.{isStore}
 use Rattle.reporting.specs.declared.table.Length.the-variants.{Entries, Refused}
 use Rattle.reporting.specs.Table.{Table, sound, bad, LengthTold, lengthTold, lengthT}
-use Rattle.server.specs.Serve.{State, state, unsupported, commanded, typed, headed, tabled, serve}
+use Rattle.server.specs.Serve.{state, unsupported, commanded, typed, headed, tabled, serve}
 
 -- ---- the command's number
 

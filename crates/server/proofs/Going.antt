@@ -12,7 +12,7 @@ use Rattle.frame.specs.declared.answer.Refusal.{Refusal}
 use Rattle.frame.specs.declared.answer.Answer.{Answer}
 use Rattle.frame.specs.declared.answer.Answer.the-variants.{Reply, Refused}
 use Rattle.frame.proofs.Outcome.{seen-reply, seen-refused}
-use Rattle.server.specs.Report.{ReportRecord, encode, Reported, all, trouble, reportFrom, reportReply}
+use Rattle.server.specs.Report.{ReportRecord, encode, reportFrom, reportReply}
 use Rattle.server.specs.Inside.{turnOf, More, Ends, Ways, Reports}
 
 -- where the loop stands: the records that the buffer shows behind the head, and that the rest of the list goes on from them

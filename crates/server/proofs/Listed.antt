@@ -1,16 +1,15 @@
 -- A cluster among those that are served, and the ways of the responder. Assumes nothing.
 use mathlib.Core.Path.{_≡_, refl, sym, ap, _∙_}
 use mathlib.Core.Bool.{Bool, true, false}
-use mathlib.Core.List.{List, [], _∷_}
+use mathlib.Core.List.{List}
 use Prim.Native.Nat.{ℕ, _+_, _≤_, _<_}
 use native.Mathlib.Numerals.{add-one}
 use lib.ListN.{length, getD, drop, drop-of-length-le}
 use lib.Seq.{drop-cons}
 use borrow.Author.Tests.{eq-eqb, ne-eqb}
-use Rattle.frame.specs.Answer.{Outcome, noState, refused}
+use Rattle.frame.specs.Answer.{noState, refused}
 use Rattle.frame.specs.Header.{headerOf}
 use Rattle.frame.specs.declared.header.ZclHeader.{ZclHeader}
-use Rattle.frame.specs.declared.header.HeaderRead.{HeaderRead}
 use Rattle.frame.specs.declared.header.HeaderRead.the-variants.{Header, Short}
 use Rattle.frame.specs.declared.status.Status.the-variants.{UnsupportedCluster}
 use Rattle.frame.specs.declared.answer.Refusal.the-variants.{HeaderShort, NothingToSend}

@@ -31,10 +31,11 @@ serve-ways form limit s unicast room =
 abbrev number : Outcome State → ℕ
 number o = o .number
 
-abbrev cleared : ℕ → Outcome State → Type 0
-cleared room o = (o .reply ≡ zeros room) × (o .size ≡ 0)
+-- nothing of a reply is left
+abbrev Cleared : ℕ → Outcome State → Type 0
+Cleared room o = (o .reply ≡ zeros room) × (o .size ≡ 0)
 
-is-cleared : (room : ℕ) (o : Outcome State) (why : Refusal) (x : State) → o ≡ refused room why x → cleared room o
+is-cleared : (room : ℕ) (o : Outcome State) (why : Refusal) (x : State) → o ≡ refused room why x → Cleared room o
 is-cleared room o why x e = (ap (λ (y : Outcome State). y .reply) e, ap (λ (y : Outcome State). y .size) e)
 
 -- a refusal's number is not a reply's
@@ -42,8 +43,8 @@ no-reply : (room : ℕ) (o : Outcome State) (why : Refusal) (x : State) → o �
 no-reply room o why x e k = absurd (omega (arith, refusal-nonzero why, ap number e, k))
 
 module _ (room : ℕ) (s : List ℕ) (t : Table) (o : Outcome State) where
-  -- a refusal leaves nothing of a reply
-  clears : Ways room s t o → (o .number ≡ 0 → ⊥) → cleared room o
+  -- a refusal leaves that
+  clears : Ways room s t o → (o .number ≡ 0 → ⊥) → Cleared room o
   clears (first why h e) k = is-cleared room o why _ e
   clears (then (replies out h e)) k = absurd (k (ap number e))
   clears (then (refuses why h e)) k = is-cleared room o why _ e

@@ -37,6 +37,7 @@ use Rattle.server.specs.DefaultResponse.{silences, defaultReply, default
 use Rattle.server.specs.Serve.{state, within, commanded}
 use Rattle.server.proofs.Cases.{Own, commanded-case}
 
+-- what may have changed is left open: it is told of apart (Refusals, Stays)
 pub data Shape {S : Type 0} (room : ℕ) (o : Outcome S) : Type 0 where
   replies : (out : List ℕ) → length out ≤ room → o ≡ replied room out (o .state) → Shape room o
   refuses : (why : Refusal) → Own why → o ≡ refused room why (o .state) → Shape room o

@@ -17,11 +17,10 @@ use Rattle.frame.specs.declared.answer.Answer.the-variants.{Reply, Refused}
 use Rattle.frame.proofs.Encoded.{put-record}
 use Rattle.frame.proofs.Outcome.{seen-same}
 use Rattle.store.specs.declared.lookup.Attribute.{Attribute}
-use Rattle.store.specs.declared.lookup.Found.{Found}
 use Rattle.store.specs.declared.lookup.Found.the-variants.{At, Nothing}
 use Rattle.store.specs.Contents.{nameOf, findOf, reportable}
 use Rattle.server.specs.Report.{ReportRecord, encode, recordOf, Reported, trouble, more, reportBy}
-use Rattle.server.specs.Inside.{turnOf, More, Ends, Ways, Reports}
+use Rattle.server.specs.Inside.{turnOf, Ways, Reports}
 
 -- an id that ends the report: the buffer was cleared
 module _ (s : List ℕ) (id : ℕ) (d : List ℕ) (out : ℕ) (why : Refusal) (r : Answer) (room : ℕ) (after : List ℕ) (g : seen r after noState ≡ refused room why noState)
