@@ -4,7 +4,7 @@
 # Proves what the replay program stands on, builds it and runs it: how many recorded answers ours agree with.
 run:
 	rt check replay
-	target/bin/replay < crates/replay/stdin
+	.ci/x86-64 target/bin/replay < crates/replay/stdin
 
 # The gate.
 test:

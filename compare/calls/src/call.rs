@@ -21,12 +21,34 @@ pub struct Answer {
     pub written: [u64; 4],
 }
 
+impl Call {
+    /// The call on ours, which is lent these bytes.
+    pub fn on(&self, table: &[u8]) -> ours::Call {
+        match *self {
+            Self::Configure(key, config) => ours::Call::configure(table, key, config),
+            Self::Clear(key) => ours::Call::clear(table, key),
+            Self::Configuration(key) => ours::Call::configuration(table, key),
+            Self::Ask(key, now, value) => ours::Call::ask(table, key, now, value),
+            Self::Mark(key, now, value) => ours::Call::mark(table, key, now, value),
+        }
+    }
+}
+
 impl Answer {
     pub const DONE: Self = Self::new(0, [0; 4]);
     pub const NO_TABLE: Self = Self::new(8, [0; 4]);
 
     pub const fn new(number: u8, written: [u64; 4]) -> Self {
         Self { number, written }
+    }
+
+    /// The answer of ours, which leaves these bytes.
+    pub fn leaving(self, table: &[u8]) -> ours::Answer {
+        ours::Answer {
+            number: self.number,
+            results: self.written,
+            lent: vec![table.to_vec()],
+        }
     }
 
     pub fn yes(yes: bool) -> Self {

@@ -2,17 +2,18 @@
 //! every function refuses them with 8 and leaves them alone, or, where they
 //! are a table all the same, does with it what the Rust does.
 
-use cases::{Lent, Random, hex};
+use cases::Random;
+use ours::Held;
 use reading::table::{SIZE, SLOT, entries};
 
-use crate::call::{Answer, Call};
+use crate::call::Answer;
 use crate::histories::History;
 use crate::kinds::{self, Kinds};
-use crate::ours;
-use crate::pair::{Pair, list};
+use crate::table::Table;
 
-/// Tries some damaged copies of `table`.
-pub fn tried(table: &[u8], random: &mut Random, kinds: &mut Kinds) -> Result<(), String> {
+/// Calls on some damaged copies of `table`.
+pub fn calls(table: &[u8], random: &mut Random, kinds: &mut Kinds) -> Result<Vec<Held>, String> {
+    let mut held = Vec::new();
     for _ in 0..8 {
         let mut changed = table.to_vec();
         let at = place(table, random);
@@ -25,16 +26,16 @@ pub fn tried(table: &[u8], random: &mut Random, kinds: &mut Kinds) -> Result<(),
         if changed == table {
             changed[at] ^= 0x80;
         }
-        every_call(&changed, random, kinds)?;
+        held.extend(every_call(&changed, random, kinds)?);
     }
     let used = 1 + SLOT * usize::from(table[0]);
     let other = random.below(2 * SIZE);
     for length in [random.of(&[0, 1, SLOT, used]), SIZE - 1, SIZE + 1, other] {
         let mut changed = table.to_vec();
         changed.resize(length, 0);
-        every_call(&changed, random, kinds)?;
+        held.extend(every_call(&changed, random, kinds)?);
     }
-    Ok(())
+    Ok(held)
 }
 
 /// The count, a slot's flag, time or value, the slot past the count, or any.
@@ -50,59 +51,31 @@ fn place(table: &[u8], random: &mut Random) -> usize {
     }
 }
 
-fn every_call(bytes: &[u8], random: &mut Random, kinds: &mut Kinds) -> Result<(), String> {
+fn every_call(bytes: &[u8], random: &mut Random, kinds: &mut Kinds) -> Result<Vec<Held>, String> {
     let read = entries(bytes);
     kinds.count(kinds::of_damaged(&read));
-    table_new(bytes).map_err(|trouble| said(bytes, "table_new", &trouble))?;
 
     let held = read.clone().unwrap_or_default();
-    for call in History::new(random).every_call(random, &held) {
-        let outcome = match &read {
-            Ok(held) => Pair::of(bytes, held.clone()).give(&call).map(|_| ()),
-            Err(_) => refused(bytes, &call),
-        };
-        outcome.map_err(|trouble| said(bytes, &call.to_string(), &trouble))?;
-    }
-    Ok(())
-}
-
-fn refused(bytes: &[u8], call: &Call) -> Result<(), String> {
-    let mut lent = Lent::new(bytes);
-    let answer = ours::call(&mut lent, call);
-    held_to(&lent, &answer, bytes, &Answer::NO_TABLE)
+    let calls = History::new(random).every_call(random, &held);
+    let each = calls.iter().map(|call| match &read {
+        Ok(held) => Ok(Table::of(bytes, held.clone()).give(call)?.held),
+        Err(_) => Ok(Held {
+            call: call.on(bytes),
+            answer: Answer::NO_TABLE.leaving(bytes),
+        }),
+    });
+    [Ok(table_new(bytes))].into_iter().chain(each).collect()
 }
 
 /// A new table can be made in any bytes of its length, and in no others.
-fn table_new(bytes: &[u8]) -> Result<(), String> {
-    let mut lent = Lent::new(bytes);
-    let answer = ours::table_new(&mut lent);
-    if bytes.len() == SIZE {
-        held_to(&lent, &answer, &[0; SIZE], &Answer::DONE)
+pub fn table_new(bytes: &[u8]) -> Held {
+    let answer = if bytes.len() == SIZE {
+        Answer::DONE.leaving(&[0; SIZE])
     } else {
-        held_to(&lent, &answer, bytes, &Answer::NO_TABLE)
-    }
-}
-
-fn held_to(lent: &Lent, answer: &Answer, bytes: &[u8], expected: &Answer) -> Result<(), String> {
-    if answer != expected {
-        Err(format!("ours: {answer:?}, and not {expected:?}"))
-    } else if lent.bytes() != bytes {
-        Err(format!("ours left other bytes: {}", hex(lent.bytes())))
-    } else if !lent.walls_stand() {
-        Err("ours wrote outside of its bytes".to_owned())
-    } else {
-        Ok(())
-    }
-}
-
-fn said(bytes: &[u8], call: &str, trouble: &str) -> String {
-    let read = match entries(bytes) {
-        Ok(entries) => format!("a table\n{}", list(&entries)),
-        Err(broken) => format!("no table ({broken:?})\n"),
+        Answer::NO_TABLE.leaving(bytes)
     };
-    format!(
-        "a disagreement on {} bytes, by their layout {read}{}\n{call}\n{trouble}",
-        bytes.len(),
-        hex(bytes)
-    )
+    Held {
+        call: ours::Call::table_new(bytes),
+        answer,
+    }
 }

@@ -71,7 +71,7 @@ impl Kinds {
 }
 
 /// The kind of a call on a table of these entries, which was answered so. An
-/// ask's answer is the reason's: `Pair::give` has seen to that.
+/// ask's answer is the reason's: `Table::give` has seen to that.
 pub fn of(entries: &[Entry], call: &Call, answer: &Answer) -> &'static str {
     let yes = answer.written[0] == 1;
     match *call {

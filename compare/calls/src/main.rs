@@ -10,10 +10,9 @@ mod call;
 mod damaged;
 mod histories;
 mod kinds;
-mod ours;
-mod pair;
 mod rust;
 mod speed;
+mod table;
 
 use std::fmt::Write;
 use std::process::ExitCode;
@@ -23,7 +22,9 @@ use call::Call;
 use cases::{Random, shorter};
 use histories::History;
 use kinds::Kinds;
-use pair::{Pair, list};
+use ours::Driver;
+use reading::table::SIZE;
+use table::{Table, list};
 
 /// A run makes at least this many, besides those on damaged tables.
 const CALLS: usize = 1_000_000;
@@ -43,36 +44,44 @@ fn main() -> ExitCode {
 
 fn run() -> Result<(), String> {
     let start = Instant::now();
+    let driver = &mut Driver::start()?;
     let random = &mut Random::new(0x6869_6e67_6564_7269);
     let kinds = &mut Kinds::new();
     let (mut calls, mut histories) = (0, 0);
     let mut kept = Vec::new();
+    driver.agree(&[damaged::table_new(&[0x5a; SIZE])])?;
     while calls < CALLS {
-        calls += history(random, kinds, &mut kept)?;
+        calls += history(driver, random, kinds, &mut kept)?;
         histories += 1;
     }
     for table in &kept {
-        damaged::tried(table, random, kinds)?;
+        driver.agree(&damaged::calls(table, random, kinds)?)?;
     }
     let seconds = start.elapsed().as_secs_f64();
     println!("calls: {calls} in {histories} histories agree, {seconds:.1} s");
     print!("{}", kinds.list());
+    println!("{:9}  calls of ours, with those on damaged tables", driver.made());
     let missing = kinds.missing();
     if !missing.is_empty() {
         return Err(format!("never reached: {}", missing.join("; ")));
     }
-    let speed = speed::measured(random)?;
-    println!(
-        "an ask of a full table: {:.0} ns, the Rust {:.0} ns, ratio {:.1}",
-        speed.ours,
-        speed.rust,
-        speed.ours / speed.rust
-    );
+    let speed = speed::measured(driver, random)?;
+    if cfg!(target_arch = "x86_64") {
+        println!(
+            "an ask of a full table: {:.0} ns, the Rust {:.0} ns, ratio {:.1}",
+            speed.ours,
+            speed.rust,
+            speed.ours / speed.rust
+        );
+    } else {
+        println!("no speeds: here an emulator runs ours");
+    }
     Ok(())
 }
 
 /// One history from an empty table; says how many calls it had.
 fn history(
+    driver: &mut Driver,
     random: &mut Random,
     kinds: &mut Kinds,
     kept: &mut Vec<Vec<u8>>,
@@ -81,27 +90,33 @@ fn history(
     let length = 1 + random.below(most);
     let mut history = History::new(random);
     let mut calls = Vec::with_capacity(length);
-    let mut pair = Pair::new()?;
+    let mut held = Vec::with_capacity(length);
+    let mut table = Table::new();
     for _ in 0..length {
-        let call = history.call(random, pair.entries());
+        let call = history.call(random, table.entries());
         calls.push(call);
-        let (before, answer) = pair.give(&call).map_err(|_| disagreement(&calls))?;
-        kinds.count(kinds::of(&before, &call, &answer));
+        let Ok(given) = table.give(&call) else {
+            return Err(disagreement(driver, &calls));
+        };
+        kinds.count(kinds::of(&given.before, &call, &given.answer));
+        held.push(given.held);
         if random.one_in(KEPT) {
-            kept.push(pair.bytes().to_vec());
+            kept.push(table.bytes().to_vec());
         }
+    }
+    if driver.first_wrong(&held)?.is_some() {
+        return Err(disagreement(driver, &calls));
     }
     Ok(length)
 }
 
-/// The history that went wrong at its last call, as short as may be.
-fn disagreement(calls: &[Call]) -> String {
-    let short = shorter(calls, |calls| replayed(calls).err().map(|wrong| wrong.at));
-    let length = calls.len();
-    match replayed(&short) {
-        Ok(()) => format!("a disagreement after {length} calls that does not come again"),
+/// The history that went wrong, as short as may be.
+fn disagreement(driver: &mut Driver, calls: &[Call]) -> String {
+    let short = shorter(calls, |calls| Some(replayed(driver, calls).err()?.at));
+    match replayed(driver, &short) {
+        Ok(()) => format!("a disagreement in {} calls that does not come again", calls.len()),
         Err(wrong) => {
-            let mut said = format!("a disagreement after {length} calls; these are enough:\n");
+            let mut said = format!("a disagreement; of {} calls these are enough:\n", calls.len());
             for call in &short {
                 let _ = writeln!(said, "  {call}");
             }
@@ -118,17 +133,26 @@ struct Wrong {
 }
 
 /// The calls once more, from an empty table.
-fn replayed(calls: &[Call]) -> Result<(), Wrong> {
-    let wrong = |at, before: &[_], trouble| Wrong {
-        at,
-        before: list(before),
-        trouble,
-    };
-    let mut pair = Pair::new().map_err(|trouble| wrong(0, &[], trouble))?;
+fn replayed(driver: &mut Driver, calls: &[Call]) -> Result<(), Wrong> {
+    let mut table = Table::new();
+    let (mut befores, mut held) = (Vec::new(), Vec::new());
     for (at, call) in calls.iter().enumerate() {
-        if let Err(trouble) = pair.give(call) {
-            return Err(wrong(at, pair.entries(), trouble));
-        }
+        let given = table.give(call).map_err(|trouble| Wrong {
+            at,
+            before: list(table.entries()),
+            trouble,
+        })?;
+        befores.push(given.before);
+        held.push(given.held);
     }
-    Ok(())
+    let last = calls.len().saturating_sub(1);
+    let wrong = driver.first_wrong(&held);
+    match wrong.unwrap_or_else(|trouble| Some((last, trouble))) {
+        None => Ok(()),
+        Some((at, trouble)) => Err(Wrong {
+            at,
+            before: list(&befores[at]),
+            trouble,
+        }),
+    }
 }

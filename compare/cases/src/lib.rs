@@ -4,7 +4,6 @@
 mod conditions;
 mod hex;
 pub mod kinds;
-mod lent;
 mod random;
 mod records;
 pub mod requests;
@@ -14,7 +13,6 @@ pub mod values;
 
 pub use conditions::Condition;
 pub use hex::{hex, unhex};
-pub use lent::{BEFORE, Lent};
 pub use random::Random;
 pub use records::{End, Record, body_of, records};
 pub use shorter::shorter;

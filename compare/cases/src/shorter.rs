@@ -3,7 +3,7 @@
 
 /// The history without every call that it goes wrong without. `wrong` says at
 /// which call a history goes wrong, if it does.
-pub fn shorter<T: Clone>(history: &[T], wrong: impl Fn(&[T]) -> Option<usize>) -> Vec<T> {
+pub fn shorter<T: Clone>(history: &[T], mut wrong: impl FnMut(&[T]) -> Option<usize>) -> Vec<T> {
     let mut history = history.to_vec();
     let mut size = history.len();
     while size > 0 {
