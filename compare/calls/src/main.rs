@@ -60,7 +60,10 @@ fn run() -> Result<(), String> {
     let seconds = start.elapsed().as_secs_f64();
     println!("calls: {calls} in {histories} histories agree, {seconds:.1} s");
     print!("{}", kinds.list());
-    println!("{:9}  calls of ours, with those on damaged tables", driver.made());
+    println!(
+        "{:9}  calls of ours, with those on damaged tables",
+        driver.made()
+    );
     let missing = kinds.missing();
     if !missing.is_empty() {
         return Err(format!("never reached: {}", missing.join("; ")));
@@ -114,9 +117,15 @@ fn history(
 fn disagreement(driver: &mut Driver, calls: &[Call]) -> String {
     let short = shorter(calls, |calls| Some(replayed(driver, calls).err()?.at));
     match replayed(driver, &short) {
-        Ok(()) => format!("a disagreement in {} calls that does not come again", calls.len()),
+        Ok(()) => format!(
+            "a disagreement in {} calls that does not come again",
+            calls.len()
+        ),
         Err(wrong) => {
-            let mut said = format!("a disagreement; of {} calls these are enough:\n", calls.len());
+            let mut said = format!(
+                "a disagreement; of {} calls these are enough:\n",
+                calls.len()
+            );
             for call in &short {
                 let _ = writeln!(said, "  {call}");
             }

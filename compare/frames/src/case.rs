@@ -3,6 +3,7 @@
 use std::fmt;
 
 use cases::hex;
+use ours::{Answer, Call, Held};
 use reading::table::entries;
 
 #[derive(Debug, Clone, PartialEq, Eq)]
@@ -27,6 +28,28 @@ pub struct Seen {
     pub buffer: Vec<u8>,
     pub store: Vec<u8>,
     pub table: Vec<u8>,
+}
+
+impl Case {
+    /// Ours is held to all that is seen.
+    pub fn held_to(&self, seen: &Seen) -> Held {
+        let lent = [&seen.store, &seen.table, &self.request, &seen.buffer];
+        Held {
+            call: Call::handle_request(
+                &self.store,
+                &self.table,
+                self.cluster,
+                self.unicast,
+                &self.request,
+                self.room,
+            ),
+            answer: Answer {
+                number: seen.number,
+                results: [seen.used as u64, 0, 0, 0],
+                lent: lent.map(Vec::clone).to_vec(),
+            },
+        }
+    }
 }
 
 impl fmt::Display for Case {

@@ -1,4 +1,4 @@
-//! One frame given to all sides.
+//! One frame given to the Rust and to the reading of document 01.
 
 use cases::kinds::{self, Call, Kind};
 use oracle::Oracle;
@@ -7,8 +7,6 @@ use reading::store::{attributes, is_store};
 use reading::table::entries;
 
 use crate::case::{Case, Seen};
-#[cfg(not(feature = "alone"))]
-use crate::ours;
 use crate::sides::{self, Stands};
 
 /// What came of it.
@@ -17,17 +15,9 @@ pub struct Compared {
     pub rust: Stands,
 }
 
-/// Holds the Rust to document 01's answer but for the listed differences, and
-/// ours to it always.
+/// Holds the Rust to document 01's answer but for the listed differences.
 pub fn compare(oracle: &mut Oracle, case: &Case) -> Result<Compared, String> {
     let seen = sides::document(case);
-    #[cfg(not(feature = "alone"))]
-    {
-        let ours = ours::handle_request(case)?;
-        if ours != seen {
-            return Err(format!("document 01:\n{seen}ours:\n{ours}"));
-        }
-    }
     let rust = sides::rust(oracle, case, &seen)?;
     // the store that the Rust is given is the reading's: what it keeps to is
     // looked at here

@@ -7,15 +7,13 @@
 //! It prints how often each answer came, and fails at the first disagreement,
 //! with as short a case as it finds; where document 01 allows an answer that
 //! never came; and where fewer than a million frames were compared with the
-//! Rust. With the feature `alone` our archive is left out.
+//! Rust.
 
 mod case;
 mod compare;
 mod counted;
 mod given;
 mod others;
-#[cfg(not(feature = "alone"))]
-mod ours;
 mod shorten;
 mod sides;
 mod stores;
@@ -27,14 +25,19 @@ use std::time::Instant;
 use cases::Random;
 use cases::kinds::{Kinds, OTHERS, SERVED};
 use oracle::Oracle;
+use ours::Driver;
 
 use case::Case;
 use compare::{Compared, compare};
 use counted::Counted;
 use given::Given;
 
-/// So many frames are made.
-const FRAMES: usize = 1_150_000;
+/// So many frames are made,
+const FRAMES: usize = BATCHES * BATCH;
+
+/// so many of them at a time by ours, which is called over a pipe.
+const BATCH: usize = 1000;
+const BATCHES: usize = 1150;
 
 fn main() -> ExitCode {
     match run() {
@@ -48,14 +51,16 @@ fn main() -> ExitCode {
 
 fn run() -> Result<(), String> {
     let start = Instant::now();
+    let driver = &mut Driver::start()?;
     let random = &mut Random::new(0x6672_616d_6573);
     let kinds = &mut Kinds::default();
-    let stands = served(random, kinds)?;
-    others::compare(random, kinds)?;
+    let stands = served(driver, random, kinds)?;
+    others::compare(driver, random, kinds)?;
     let seconds = start.elapsed().as_secs_f64();
     print!("{}", kinds.list(&SERVED));
     print!("{}", kinds.list(&OTHERS));
     print!("{}", stands.list());
+    println!("{:9}  calls of ours", driver.made());
     println!(
         "frames: {FRAMES}, {} agree with the Rust, {seconds:.1} s",
         stands.agreed
@@ -68,26 +73,39 @@ fn run() -> Result<(), String> {
     stands.enough()
 }
 
-fn served(random: &mut Random, kinds: &mut Kinds) -> Result<Counted, String> {
+fn served(driver: &mut Driver, random: &mut Random, kinds: &mut Kinds) -> Result<Counted, String> {
     let mut counted = Counted::default();
     let mut oracle = Oracle::default();
     let mut given = Given::new();
-    for _ in 0..FRAMES {
-        let case = given.next(random);
-        let Compared { seen, rust } =
-            compare(&mut oracle, &case).map_err(|_| disagreement(&case))?;
-        kinds
-            .count(&compare::kinds(&case, &seen))
-            .map_err(|trouble| format!("{trouble}\n{case}"))?;
-        counted.count(rust);
-        given.go_on(&seen);
+    for _ in 0..BATCHES {
+        let mut cases = Vec::with_capacity(BATCH);
+        let mut held = Vec::with_capacity(BATCH);
+        for _ in 0..BATCH {
+            let case = given.next(random);
+            let Ok(Compared { seen, rust }) = compare(&mut oracle, &case) else {
+                return Err(disagreement(driver, &case));
+            };
+            kinds
+                .count(&compare::kinds(&case, &seen))
+                .map_err(|trouble| format!("{trouble}\n{case}"))?;
+            counted.count(rust);
+            given.go_on(&seen);
+            held.push(case.held_to(&seen));
+            cases.push(case);
+        }
+        if let Some((at, _)) = driver.first_wrong(&held)? {
+            return Err(disagreement(driver, &cases[at]));
+        }
     }
     Ok(counted)
 }
 
 /// The case that went wrong, as short as may be, and both answers.
-fn disagreement(case: &Case) -> String {
-    let wrong = |case: &Case| compare(&mut Oracle::default(), case).err();
+fn disagreement(driver: &mut Driver, case: &Case) -> String {
+    let mut wrong = |case: &Case| match compare(&mut Oracle::default(), case) {
+        Ok(Compared { seen, .. }) => driver.agree(&[case.held_to(&seen)]).err(),
+        Err(trouble) => Some(trouble),
+    };
     let short = shorten::shorten(case, |case| wrong(case).is_some());
     match wrong(&short) {
         Some(trouble) => format!("a disagreement on\n{short}{trouble}"),

@@ -7,17 +7,43 @@ mod responder;
 
 use cases::Random;
 use cases::kinds::Kinds;
+use ours::{Answer, Driver};
 
-/// So many of each.
+/// So many of each,
 const CALLS: usize = 20_000;
 
-pub fn compare(random: &mut Random, kinds: &mut Kinds) -> Result<(), String> {
-    for _ in 0..CALLS {
-        responder::one(random, kinds)?;
-        reports::one(random, kinds)?;
-        numbers::one(random, kinds)?;
+/// so many of each at a time by ours.
+const BATCH: usize = 1000;
+
+pub fn compare(driver: &mut Driver, random: &mut Random, kinds: &mut Kinds) -> Result<(), String> {
+    for _ in 0..CALLS / BATCH {
+        let mut held = Vec::with_capacity(3 * BATCH);
+        for _ in 0..BATCH {
+            held.push(responder::one(random, kinds)?);
+            held.push(reports::one(random, kinds)?);
+            held.push(numbers::one(random, kinds)?);
+        }
+        driver.agree(&held)?;
     }
     Ok(())
+}
+
+/// Document 01's answer as ours is held to it: with the whole buffer, and with
+/// what it was lent before that.
+fn held_to(answer: &reading::commands::Answer, room: usize, lent: [&[u8]; 2]) -> Answer {
+    let [first, second] = lent.map(<[u8]>::to_vec);
+    Answer {
+        number: answer.number,
+        results: [answer.reply.len() as u64, 0, 0, 0],
+        lent: vec![first, second, answer.buffer(room)],
+    }
+}
+
+/// A list as it is lent.
+fn bytes(list: &[u16]) -> Vec<u8> {
+    list.iter()
+        .flat_map(|number| number.to_le_bytes())
+        .collect()
 }
 
 /// A room, mostly small.

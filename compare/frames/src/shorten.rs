@@ -9,17 +9,17 @@ use crate::case::Case;
 
 /// The case without what it goes wrong without: entries, attributes, bytes of
 /// the request, and room.
-pub fn shorten(case: &Case, wrong: impl Fn(&Case) -> bool) -> Case {
+pub fn shorten(case: &Case, mut wrong: impl FnMut(&Case) -> bool) -> Case {
     let mut case = case.clone();
     if let Ok(held) = entries(&case.table) {
-        case = fewest(&held, |held| with_entries(&case, held), &wrong);
+        case = fewest(&held, |held| with_entries(&case, held), &mut wrong);
     }
     if is_store(&case.store) {
         let parts = parts(&case.store);
-        case = fewest(&parts, |parts| with_parts(&case, parts), &wrong);
+        case = fewest(&parts, |parts| with_parts(&case, parts), &mut wrong);
     }
     let bytes = case.request.clone();
-    case = fewest(&bytes, |request| with_request(&case, request), &wrong);
+    case = fewest(&bytes, |request| with_request(&case, request), &mut wrong);
     let smaller = |room| Case {
         room,
         ..case.clone()
@@ -29,7 +29,11 @@ pub fn shorten(case: &Case, wrong: impl Fn(&Case) -> bool) -> Case {
 }
 
 /// The case with as few of these as it goes wrong with.
-fn fewest<T: Clone>(all: &[T], with: impl Fn(&[T]) -> Case, wrong: impl Fn(&Case) -> bool) -> Case {
+fn fewest<T: Clone>(
+    all: &[T],
+    with: impl Fn(&[T]) -> Case,
+    mut wrong: impl FnMut(&Case) -> bool,
+) -> Case {
     let none = with(&[]);
     if wrong(&none) {
         return none;

@@ -138,7 +138,11 @@ mod tests {
         for at in 0..5 * 8 + (16 + 8 + 16) + 3 * 32 {
             let changed = answered(|bytes| bytes[at] ^= 1);
             assert_ne!(changed, whole, "at {at}");
-            assert_eq!(changed.is_err(), at > 0 && !(8..16).contains(&at), "at {at}");
+            assert_eq!(
+                changed.is_err(),
+                at > 0 && !(8..16).contains(&at),
+                "at {at}"
+            );
         }
     }
 }

@@ -4,9 +4,9 @@ use std::env;
 use std::io::{self, BufReader, BufWriter, Write};
 use std::process::{Child, ChildStdin, ChildStdout, Command, Stdio};
 
+use crate::Held;
 use crate::answer::Answer;
 use crate::call::{Call, END};
-use crate::Held;
 
 /// Names the command that starts it.
 const VARIABLE: &str = "HINGEDRIFT_DRIVER";
@@ -108,7 +108,9 @@ impl Driver {
     ) -> io::Result<()> {
         let mut written = 0;
         let mut waiting = Vec::new();
-        while written < BATCH && let Some(call) = calls.next() {
+        while written < BATCH
+            && let Some(call) = calls.next()
+        {
             let bytes = call.bytes();
             written += bytes.len();
             self.calls.write_all(&bytes)?;
@@ -125,7 +127,10 @@ impl Driver {
     /// What is said where the pipe is broken.
     fn ended(&mut self, trouble: &io::Error) -> String {
         let status = self.process.try_wait();
-        let status = status.map_or_else(|trouble| trouble.to_string(), |status| format!("{status:?}"));
+        let status = status.map_or_else(
+            |trouble| trouble.to_string(),
+            |status| format!("{status:?}"),
+        );
         format!("the driver does not answer: {trouble} ({status})")
     }
 }

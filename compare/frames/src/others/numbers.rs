@@ -2,20 +2,23 @@
 
 use cases::kinds::{Kinds, of_number};
 use cases::{Random, hex};
+use ours::{Answer, Call, Held};
 
 use crate::stores;
 
-pub fn one(random: &mut Random, kinds: &mut Kinds) -> Result<(), String> {
+pub fn one(random: &mut Random, kinds: &mut Kinds) -> Result<Held, String> {
     let store = stores::any(random);
     let id = super::id(random, &store);
     let answer = reading::store::number(&store, id);
     let named = |trouble: String| format!("{trouble}, number of {id:04x} over {}", hex(&store));
-    #[cfg(not(feature = "alone"))]
-    {
-        let ours = crate::ours::number(&store, id).map_err(named)?;
-        if ours != answer {
-            return Err(named(format!("document 01 {answer:?}, ours {ours:?}")));
-        }
-    }
-    kinds.count(&of_number(&store, id, answer)).map_err(named)
+    kinds.count(&of_number(&store, id, answer)).map_err(named)?;
+    let (number, value) = answer.map_or_else(|refusal| (refusal, 0), |value| (0, value));
+    Ok(Held {
+        call: Call::number(&store, id),
+        answer: Answer {
+            number,
+            results: [value.cast_unsigned(), 0, 0, 0],
+            lent: vec![store],
+        },
+    })
 }

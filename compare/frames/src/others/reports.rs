@@ -2,10 +2,11 @@
 
 use cases::kinds::{Kinds, of_report};
 use cases::{Random, hex};
+use ours::{Call, Held};
 
 use crate::stores;
 
-pub fn one(random: &mut Random, kinds: &mut Kinds) -> Result<(), String> {
+pub fn one(random: &mut Random, kinds: &mut Kinds) -> Result<Held, String> {
     let store = stores::any(random);
     let many = random.of(&[0, 1, 1, 2, 3, 6]);
     let ids: Vec<u16> = (0..many).map(|_| super::id(random, &store)).collect();
@@ -23,10 +24,10 @@ pub fn one(random: &mut Random, kinds: &mut Kinds) -> Result<(), String> {
             return Err(named(format!("document 01 {answer:?}, the Rust {rust:?}")));
         }
     }
-    #[cfg(not(feature = "alone"))]
-    crate::ours::report(&store, sequence, &ids, room)
-        .and_then(|ours| ours.held_to(&answer, room))
-        .map_err(named)?;
     let counted = of_report(&store, &ids, room, &answer);
-    kinds.count(&counted).map_err(named)
+    kinds.count(&counted).map_err(named)?;
+    Ok(Held {
+        call: Call::report(&store, sequence, &ids, room),
+        answer: super::held_to(&answer, room, [&store, &super::bytes(&ids)]),
+    })
 }

@@ -4,10 +4,11 @@ use cases::kinds::{Kinds, of_unsupported};
 use cases::requests::header;
 use cases::{Random, hex};
 use oracle::Request;
+use ours::{Call, Held};
 
 use crate::stores::CLUSTERS;
 
-pub fn one(random: &mut Random, kinds: &mut Kinds) -> Result<(), String> {
+pub fn one(random: &mut Random, kinds: &mut Kinds) -> Result<Held, String> {
     let many = random.below(5);
     let served: Vec<u16> = (0..many).map(|_| random.of(&CLUSTERS)).collect();
     let cluster = random.of(&[0xfc21, 0x0006, 0x0600, 0x1234]);
@@ -33,12 +34,12 @@ pub fn one(random: &mut Random, kinds: &mut Kinds) -> Result<(), String> {
     if rust != (answer.number == 0).then(|| answer.reply.clone()) {
         return Err(named(format!("document 01 {answer:?}, the Rust {rust:?}")));
     }
-    #[cfg(not(feature = "alone"))]
-    crate::ours::unsupported_cluster(&served, cluster, unicast, &request, room)
-        .and_then(|ours| ours.held_to(&answer, room))
-        .map_err(named)?;
     let counted = of_unsupported(&served, cluster, &request, room, &answer);
-    kinds.count(&counted).map_err(named)
+    kinds.count(&counted).map_err(named)?;
+    Ok(Held {
+        call: Call::unsupported_cluster(&served, cluster, unicast, &request, room),
+        answer: super::held_to(&answer, room, [&super::bytes(&served), &request]),
+    })
 }
 
 /// A frame of any kind, cut at times.
