@@ -44,11 +44,7 @@ impl Answer {
 
     /// The answer of ours, which leaves these bytes.
     pub fn leaving(self, table: &[u8]) -> ours::Answer {
-        ours::Answer {
-            number: self.number,
-            results: self.written,
-            lent: vec![table.to_vec()],
-        }
+        ours::Answer::new(self.number, &self.written, &[table])
     }
 
     pub fn yes(yes: bool) -> Self {

@@ -33,22 +33,17 @@ pub struct Seen {
 impl Case {
     /// Ours is held to all that is seen.
     pub fn held_to(&self, seen: &Seen) -> Held {
+        let call = Call::handle_request(
+            &self.store,
+            &self.table,
+            self.cluster,
+            self.unicast,
+            &self.request,
+            self.room,
+        );
         let lent = [&seen.store, &seen.table, &self.request, &seen.buffer];
-        Held {
-            call: Call::handle_request(
-                &self.store,
-                &self.table,
-                self.cluster,
-                self.unicast,
-                &self.request,
-                self.room,
-            ),
-            answer: Answer {
-                number: seen.number,
-                results: [seen.used as u64, 0, 0, 0],
-                lent: lent.map(Vec::clone).to_vec(),
-            },
-        }
+        let answer = Answer::new(seen.number, &[seen.used as u64], &lent.map(Vec::as_slice));
+        Held { call, answer }
     }
 }
 

@@ -103,7 +103,10 @@ fn served(driver: &mut Driver, random: &mut Random, kinds: &mut Kinds) -> Result
 /// The case that went wrong, as short as may be, and both answers.
 fn disagreement(driver: &mut Driver, case: &Case) -> String {
     let mut wrong = |case: &Case| match compare(&mut Oracle::default(), case) {
-        Ok(Compared { seen, .. }) => driver.agree(&[case.held_to(&seen)]).err(),
+        Ok(Compared { seen, .. }) => {
+            let wrong = driver.first_wrong(&[case.held_to(&seen)]);
+            wrong.map_or_else(Some, |wrong| Some(wrong?.1))
+        }
         Err(trouble) => Some(trouble),
     };
     let short = shorten::shorten(case, |case| wrong(case).is_some());

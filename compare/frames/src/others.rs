@@ -31,12 +31,13 @@ pub fn compare(driver: &mut Driver, random: &mut Random, kinds: &mut Kinds) -> R
 /// Document 01's answer as ours is held to it: with the whole buffer, and with
 /// what it was lent before that.
 fn held_to(answer: &reading::commands::Answer, room: usize, lent: [&[u8]; 2]) -> Answer {
-    let [first, second] = lent.map(<[u8]>::to_vec);
-    Answer {
-        number: answer.number,
-        results: [answer.reply.len() as u64, 0, 0, 0],
-        lent: vec![first, second, answer.buffer(room)],
-    }
+    let [first, second] = lent;
+    let results = [answer.reply.len() as u64];
+    Answer::new(
+        answer.number,
+        &results,
+        &[first, second, &answer.buffer(room)],
+    )
 }
 
 /// A list as it is lent.

@@ -6,20 +6,27 @@ use std::io::{self, Read};
 use cases::hex;
 
 use crate::call::{Call, Lent};
-use crate::{BEFORE, BUFFERS, RESULTS, WALL};
+use crate::{BEFORE, BUFFERS, RESULTS, WALL, padded};
 
 /// All that can be seen of a call afterwards.
 #[derive(Debug, Clone, PartialEq, Eq)]
 pub struct Answer {
     pub number: u8,
-    /// What was written through the pointers to results, in their order; 0
-    /// where the function has fewer.
+    /// What was written through the pointers to results, in their order.
     pub results: [u64; RESULTS],
     /// The buffers, whole.
-    pub lent: Vec<Vec<u8>>,
+    lent: [Vec<u8>; BUFFERS],
 }
 
 impl Answer {
+    pub fn new(number: u8, results: &[u64], lent: &[&[u8]]) -> Self {
+        Self {
+            number,
+            results: padded(results.iter().copied()),
+            lent: padded(lent.iter().map(|bytes| bytes.to_vec())),
+        }
+    }
+
     /// Takes the answer to a call from the pipe. An error inside where ours
     /// wrote what it is not to write.
     pub(crate) fn read(call: &Call, pipe: &mut impl Read) -> io::Result<Result<Self, String>> {
@@ -27,44 +34,33 @@ impl Answer {
         for number in &mut head {
             pipe.read_exact(number)?;
         }
-        let [number, results @ ..] = head;
-        let mut taken = Vec::with_capacity(BUFFERS);
-        for lent in 0..BUFFERS {
-            let length = call.lent.get(lent).map_or(0, |lent| lent.bytes.len());
-            let mut bytes = vec![0; WALL + length.next_multiple_of(8) + WALL];
-            pipe.read_exact(&mut bytes)?;
-            taken.push(bytes);
+        let mut walled = [const { Vec::new() }; BUFFERS];
+        for (walled, lent) in walled.iter_mut().zip(&call.lent) {
+            walled.resize(WALL + lent.bytes.len().next_multiple_of(8) + WALL, 0);
+            pipe.read_exact(walled)?;
         }
-        Ok(Self::of(call, number, results, taken))
+        Ok(Self::of(call, head, walled))
     }
 
     fn of(
         call: &Call,
-        number: [u8; 8],
-        written: [[u8; 8]; RESULTS],
-        taken: Vec<Vec<u8>>,
+        head: [[u8; 8]; 1 + RESULTS],
+        walled: [Vec<u8>; BUFFERS],
     ) -> Result<Self, String> {
-        let mut results = [0; RESULTS];
-        for (at, bytes) in written.into_iter().enumerate() {
-            let width = call.results.get(at).copied().unwrap_or(0);
-            results[at] = result(bytes, width)?;
-        }
-        let nothing = Lent {
-            bytes: Vec::new(),
-            open: false,
+        let [number, results @ ..] = head;
+        let number = u64::from_le_bytes(number);
+        let mut answer = Self {
+            number: u8::try_from(number).map_err(|_| format!("no answer: {number:x}"))?,
+            results: [0; RESULTS],
+            lent: walled,
         };
-        let mut lent = Vec::with_capacity(call.lent.len());
-        for (at, bytes) in taken.into_iter().enumerate() {
-            let inside = inside(call.lent.get(at).unwrap_or(&nothing), bytes)?;
-            if at < call.lent.len() {
-                lent.push(inside);
-            }
+        for (at, bytes) in results.into_iter().enumerate() {
+            answer.results[at] = result(bytes, call.results[at])?;
         }
-        Ok(Self {
-            number: u8::try_from(u64::from_le_bytes(number)).map_err(|_| "no number".to_owned())?,
-            results,
-            lent,
-        })
+        for (bytes, lent) in answer.lent.iter_mut().zip(&call.lent) {
+            unwall(bytes, lent)?;
+        }
+        Ok(answer)
     }
 }
 
@@ -77,28 +73,32 @@ fn result(mut bytes: [u8; 8], width: usize) -> Result<u64, String> {
     Ok(u64::from_le_bytes(bytes))
 }
 
-/// A buffer without its walls, which stand as they did.
-fn inside(lent: &Lent, mut bytes: Vec<u8>) -> Result<Vec<u8>, String> {
-    let end = WALL + lent.bytes.len();
-    let walls = bytes[..WALL].iter().chain(&bytes[end..]);
-    if walls.into_iter().any(|&byte| byte != BEFORE) {
-        let whole = hex(&bytes);
-        return Err(format!("ours wrote outside of what it was lent: {whole}"));
+/// Takes a buffer out of its walls, which stand as they did.
+fn unwall(bytes: &mut Vec<u8>, lent: &Lent) -> Result<(), String> {
+    let behind = bytes.split_off(WALL + lent.bytes.len());
+    let before: Vec<u8> = bytes.drain(..WALL).collect();
+    if [&before, &behind]
+        .into_iter()
+        .flatten()
+        .any(|&byte| byte != BEFORE)
+    {
+        let (before, inside, behind) = (hex(&before), hex(bytes), hex(&behind));
+        return Err(format!(
+            "ours wrote outside of what it was lent: {before} {inside} {behind}"
+        ));
     }
-    bytes.truncate(end);
-    bytes.drain(..WALL);
-    if !lent.open && bytes != lent.bytes {
-        let left = hex(&bytes);
+    if !lent.open && *bytes != lent.bytes {
+        let left = hex(bytes);
         return Err(format!("ours wrote to what it may only read: {left}"));
     }
-    Ok(bytes)
+    Ok(())
 }
 
 impl fmt::Display for Answer {
     fn fmt(&self, f: &mut fmt::Formatter<'_>) -> fmt::Result {
         writeln!(f, "  number   {}", self.number)?;
         writeln!(f, "  results  {:x?}", self.results)?;
-        for bytes in &self.lent {
+        for bytes in self.lent.iter().filter(|bytes| !bytes.is_empty()) {
             writeln!(f, "  left     {}", hex(bytes))?;
         }
         Ok(())
@@ -123,11 +123,7 @@ mod tests {
 
     #[test]
     fn whole() {
-        let expected = Answer {
-            number: 9,
-            results: [0; 4],
-            lent: vec![vec![1, 2, 3]],
-        };
+        let expected = Answer::new(9, &[0], &[&[1, 2, 3]]);
         assert_eq!(answered(|_| ()), Ok(expected));
     }
 

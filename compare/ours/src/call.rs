@@ -5,10 +5,10 @@ use std::fmt;
 use cases::hex;
 use reading::table::{Config, Key};
 
-use crate::{ARGUMENTS, BEFORE, BUFFERS};
+use crate::{ARGUMENTS, BEFORE, BUFFERS, RESULTS, padded};
 
 /// A buffer that a call is lent.
-#[derive(Debug, Clone)]
+#[derive(Debug, Clone, Default)]
 pub(crate) struct Lent {
     pub(crate) bytes: Vec<u8>,
     /// Whether the function may write to it.
@@ -20,48 +20,51 @@ pub struct Call {
     name: &'static str,
     /// Its number on the pipe.
     function: u64,
-    arguments: Vec<u64>,
-    pub(crate) lent: Vec<Lent>,
-    /// The bytes of each result.
-    pub(crate) results: &'static [usize],
+    arguments: [u64; ARGUMENTS],
+    pub(crate) lent: [Lent; BUFFERS],
+    /// The bytes of each result, 0 where the function has fewer.
+    pub(crate) results: [usize; RESULTS],
 }
+
+const NONE: [usize; RESULTS] = [0; RESULTS];
+const BYTE: [usize; RESULTS] = [1, 0, 0, 0];
+const LONG: [usize; RESULTS] = [8, 0, 0, 0];
 
 impl Call {
     pub fn table_new(table: &[u8]) -> Self {
-        Self::new("table_new", 1, &[], vec![open(table)], &[])
+        Self::new("table_new", 1, &[], [open(table)], NONE)
     }
 
     pub fn configure(table: &[u8], key: Key, config: Config) -> Self {
         let [cluster, attribute] = numbers(key);
         let (minimum, maximum) = (config.minimum.into(), config.maximum.into());
         let arguments = [cluster, attribute, minimum, maximum, config.change];
-        Self::new("configure", 2, &arguments, vec![open(table)], &[1])
+        Self::new("configure", 2, &arguments, [open(table)], BYTE)
     }
 
     pub fn clear(table: &[u8], key: Key) -> Self {
-        Self::new("clear", 3, &numbers(key), vec![open(table)], &[])
+        Self::new("clear", 3, &numbers(key), [open(table)], NONE)
     }
 
     pub fn configuration(table: &[u8], key: Key) -> Self {
-        let lent = vec![closed(table)];
-        Self::new("configuration", 4, &numbers(key), lent, &[1, 2, 2, 8])
+        let results = [1, 2, 2, 8];
+        Self::new("configuration", 4, &numbers(key), [closed(table)], results)
     }
 
     pub fn ask(table: &[u8], key: Key, now: u32, value: i64) -> Self {
         let [cluster, attribute] = numbers(key);
         let arguments = [cluster, attribute, now.into(), value.cast_unsigned()];
-        Self::new("ask", 5, &arguments, vec![closed(table)], &[1])
+        Self::new("ask", 5, &arguments, [closed(table)], BYTE)
     }
 
     pub fn mark(table: &[u8], key: Key, now: u32, value: i64) -> Self {
         let [cluster, attribute] = numbers(key);
         let arguments = [cluster, attribute, now.into(), value.cast_unsigned()];
-        Self::new("mark", 6, &arguments, vec![open(table)], &[])
+        Self::new("mark", 6, &arguments, [open(table)], NONE)
     }
 
     pub fn number(store: &[u8], attribute: u16) -> Self {
-        let lent = vec![closed(store)];
-        Self::new("number", 7, &[attribute.into()], lent, &[8])
+        Self::new("number", 7, &[attribute.into()], [closed(store)], LONG)
     }
 
     pub fn handle_request(
@@ -73,8 +76,8 @@ impl Call {
         room: usize,
     ) -> Self {
         let arguments = [cluster.into(), unicast.into()];
-        let lent = vec![open(store), open(table), closed(request), reply(room)];
-        Self::new("handle_request", 8, &arguments, lent, &[8])
+        let lent = [open(store), open(table), closed(request), reply(room)];
+        Self::new("handle_request", 8, &arguments, lent, LONG)
     }
 
     pub fn unsupported_cluster(
@@ -85,13 +88,13 @@ impl Call {
         room: usize,
     ) -> Self {
         let arguments = [cluster.into(), unicast.into()];
-        let lent = vec![list(served), closed(request), reply(room)];
-        Self::new("unsupported_cluster", 9, &arguments, lent, &[8])
+        let lent = [list(served), closed(request), reply(room)];
+        Self::new("unsupported_cluster", 9, &arguments, lent, LONG)
     }
 
     pub fn report(store: &[u8], sequence: u8, ids: &[u16], room: usize) -> Self {
-        let lent = vec![closed(store), list(ids), reply(room)];
-        Self::new("report", 10, &[sequence.into()], lent, &[8])
+        let lent = [closed(store), list(ids), reply(room)];
+        Self::new("report", 10, &[sequence.into()], lent, LONG)
     }
 
     /// Asks, one after the other. The results are how many were due, and how
@@ -104,35 +107,31 @@ impl Call {
             row.extend(now.to_le_bytes());
             row.extend(value.to_le_bytes());
         }
-        let lent = vec![closed(table), closed(&row)];
-        Self::new("timed asks", 11, &[], lent, &[8, 8])
+        let lent = [closed(table), closed(&row)];
+        Self::new("timed asks", 11, &[], lent, [8, 8, 0, 0])
     }
 
-    fn new(
+    fn new<const N: usize>(
         name: &'static str,
         function: u64,
         arguments: &[u64],
-        lent: Vec<Lent>,
-        results: &'static [usize],
+        lent: [Lent; N],
+        results: [usize; RESULTS],
     ) -> Self {
         Self {
             name,
             function,
-            arguments: arguments.to_vec(),
-            lent,
+            arguments: padded(arguments.iter().copied()),
+            lent: padded(lent),
             results,
         }
     }
 
     /// As it goes over the pipe.
     pub(crate) fn bytes(&self) -> Vec<u8> {
-        let mut head = [0; 1 + ARGUMENTS + BUFFERS];
-        head[0] = self.function;
-        head[1..=self.arguments.len()].copy_from_slice(&self.arguments);
-        for (length, lent) in head[1 + ARGUMENTS..].iter_mut().zip(&self.lent) {
-            *length = lent.bytes.len() as u64;
-        }
-        let mut bytes: Vec<u8> = head.into_iter().flat_map(u64::to_le_bytes).collect();
+        let lengths = self.lent.iter().map(|lent| lent.bytes.len() as u64);
+        let head = [self.function].into_iter().chain(self.arguments);
+        let mut bytes: Vec<u8> = head.chain(lengths).flat_map(u64::to_le_bytes).collect();
         for lent in &self.lent {
             bytes.extend(&lent.bytes);
         }
@@ -170,7 +169,7 @@ fn numbers(key: Key) -> [u64; 2] {
 impl fmt::Display for Call {
     fn fmt(&self, f: &mut fmt::Formatter<'_>) -> fmt::Result {
         writeln!(f, "  {} {:x?}", self.name, self.arguments)?;
-        for lent in &self.lent {
+        for lent in self.lent.iter().filter(|lent| !lent.bytes.is_empty()) {
             writeln!(f, "  lent     {}", hex(&lent.bytes))?;
         }
         Ok(())

@@ -30,3 +30,11 @@ const WALL: usize = 16;
 const ARGUMENTS: usize = 5;
 const RESULTS: usize = 4;
 const BUFFERS: usize = 4;
+
+/// These, and defaults behind them.
+fn padded<T: Default, const N: usize>(some: impl IntoIterator<Item = T>) -> [T; N] {
+    let mut some = some.into_iter();
+    let all = std::array::from_fn(|_| some.next().unwrap_or_default());
+    assert!(some.next().is_none(), "there are no more than {N}");
+    all
+}

@@ -15,10 +15,6 @@ pub fn one(random: &mut Random, kinds: &mut Kinds) -> Result<Held, String> {
     let (number, value) = answer.map_or_else(|refusal| (refusal, 0), |value| (0, value));
     Ok(Held {
         call: Call::number(&store, id),
-        answer: Answer {
-            number,
-            results: [value.cast_unsigned(), 0, 0, 0],
-            lent: vec![store],
-        },
+        answer: Answer::new(number, &[value.cast_unsigned()], &[&store]),
     })
 }
