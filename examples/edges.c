@@ -5,6 +5,7 @@
 #include <stdio.h>
 #include <string.h>
 
+#include "check.h"
 #include "hingedrift.h"
 
 /* docs/TABLE.md: the count, then slots; the places of a slot's flag, time and value. */
@@ -12,17 +13,6 @@ enum { SLOT = 29, FLAG = 16, TIME = 17, VALUE = 21, ROOM = 16 };
 
 /* More bytes than a table has, so that a write past the length shows. */
 enum { LENT = HD_TABLE_BYTES + 47 };
-
-static unsigned checks, failures;
-
-static void check(int right, const char *what, const char *which)
-{
-    checks++;
-    if (!right) {
-        failures++;
-        printf("wrong: %s: %s\n", what, which);
-    }
-}
 
 static uint8_t *slot(uint8_t *table, unsigned i)
 {

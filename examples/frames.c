@@ -5,23 +5,13 @@
 #include <stdio.h>
 #include <string.h>
 
+#include "check.h"
 #include "hingedrift.h"
 
 enum { CLUSTER = 0xfc21, LEVEL = 40, MOST = 64 };
 
 /* Store T: a counter with its top bit set, a level, a temperature, a name. */
 static const char T[] = "21fc0400" "0000230224000400" "0100200128000100" "0500290329000200" "070042012b000500" "00000080" "07" "38ff" "0254560000";
-
-static unsigned checks, failures;
-
-static void check(int right, const char *what, const char *which)
-{
-    checks++;
-    if (!right) {
-        failures++;
-        printf("wrong: %s: %s\n", what, which);
-    }
-}
 
 static unsigned digit(char c)
 {
@@ -164,6 +154,6 @@ int main(void)
     numbers();
     damages();
     others();
-    printf("frames: %u checks, %u wrong\n", checks, failures);
-    return failures == 0 ? 0 : 1;
+    printf("frames: %u checks, %u failed\n", checks, failures);
+    return failures != 0;
 }
