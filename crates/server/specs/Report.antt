@@ -54,7 +54,7 @@ reportBy s room head id rs rest Nothing = trouble NotReportable
 
 unfoldable pub reportFrom : ℕ → List ℕ → ℕ → ℕ → List ReportRecord → List ℕ → Reported
 reportFrom form s room head rs [] = all rs
-reportFrom form s room head rs (id ∷ ids) = reportBy s room head id rs (λ more. reportFrom form s room head more ids) (findOf form s (nameOf 0 id))
+reportFrom form s room head rs (id ∷ ids) = reportBy s room head id rs (λ longer. reportFrom form s room head longer ids) (findOf form s (nameOf 0 id))
 
 unfoldable pub reportReply : ℕ → List ℕ → Reported → Outcome (Unit {0})
 reportReply room head (all rs) = replied room (head ++ encodeAll encode rs) noState
