@@ -13,4 +13,5 @@ pub mod Shapes  -- the shape of every command's outcome
 pub mod Refusals  -- what every answer leaves
 pub mod Stays  -- a store stays a store
 pub mod Unique  -- no second answer fits
+pub mod Histories  -- a request is its events
 pub mod Starred  -- the starred bench frames

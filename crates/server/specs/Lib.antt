@@ -3,5 +3,7 @@ pub mod DefaultResponse
 pub mod Serve  -- a request served: the order of refusals, and the commands
 pub mod UnsupportedCluster  -- the responder for clusters that are not served
 pub mod Report  -- the Report Attributes frame
+pub mod History  -- requests and direct calls, as the events of a reporting table
+pub mod Demand3  -- demand 3 with frames
 pub mod Bench  -- the starred bench frames, as one list under one claim
 pub mod Inside  -- what only inner functions say
