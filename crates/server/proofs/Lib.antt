@@ -14,4 +14,5 @@ pub mod Refusals  -- what every answer leaves
 pub mod Stays  -- a store stays a store
 pub mod Unique  -- no second answer fits
 pub mod Histories  -- a request is its events
+pub mod Frames  -- demand 3 with frames
 pub mod Starred  -- the starred bench frames
