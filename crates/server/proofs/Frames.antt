@@ -25,7 +25,7 @@ use Rattle.configure.specs.Request.{keyFor, ConfigureRecord, received, reported
 use Rattle.configure.specs.Configure.{setting, tried, configuring, configureEvents}
 use Rattle.configure.proofs.History.{checked-either}
 use Rattle.server.specs.UnsupportedCluster.{isGlobal}
-use Rattle.server.specs.History.{Request, requested, headedEvents, requestEvents, Use, uses, served}
+use Rattle.server.specs.History.{Request, requested, headedEvents, requestEvents, uses, served}
 use Rattle.server.specs.Demand3.{laterOf, Demand3OfFrames}
 use Rattle.server.proofs.Histories.{request-is, uses-are-events}
 
@@ -102,9 +102,12 @@ module _ (limit : ℕ) (r : Request) (l : List Entry) where
 -- ---- demand 3
 
 -- events cut open inside a part of them
-cut-open : (A : List Event) (B : List Event) (C : List Event) (earlier : List Event) (e : Event) (rest : List Event) → B ≡ earlier ++ (e ∷ rest)
+cut-open : (A B C earlier : List Event) (e : Event) (rest : List Event) → B ≡ earlier ++ (e ∷ rest)
     → A ++ (B ++ C) ≡ (A ++ earlier) ++ (e ∷ (rest ++ C))
-cut-open A B C earlier e rest p = ap (λ (x : List Event). A ++ (x ++ C)) p ∙ ap (λ (x : List Event). A ++ x) (append-assoc earlier (e ∷ rest) C) ∙ sym (append-assoc A earlier (e ∷ (rest ++ C)))
+cut-open A B C earlier e rest p =
+    ap (λ (x : List Event). A ++ (x ++ C)) p
+    ∙ ap (λ (x : List Event). A ++ x) (append-assoc earlier (e ∷ rest) C)
+    ∙ sym (append-assoc A earlier (e ∷ (rest ++ C)))
 
 pub demand-3-of-frames : Demand3OfFrames
 demand-3-of-frames limit before r k g earlier rest G after p low high s =
@@ -113,7 +116,8 @@ demand-3-of-frames limit before r k g earlier rest G after p low high s =
     let A : List Event = served limit before [] in
     let B : List Event = requestEvents limit r l in
     let C : List Event = served limit after m in
-    let whole = leads-then limit A (B ++ C) [] l (uses limit after m) (uses-are-events limit before []) (leads-then limit B C l m (uses limit after m) (request-is limit r l) (uses-are-events limit after m)) in
+    let behind = leads-then limit B C l m (uses limit after m) (request-is limit r l) (uses-are-events limit after m) in
+    let whole = leads-then limit A (B ++ C) [] l (uses limit after m) (uses-are-events limit before []) behind in
     demand-3 limit (A ++ earlier) k g G (laterOf limit rest after m)
     (subst (λ (es : List Event). Honest limit es []) (cut-open A B C earlier (configured k g) rest p) (whole .honest))
     (record { rule = ruled-at earlier k g rest (subst Ruled p (request-ruled limit r l)); one = low }) s

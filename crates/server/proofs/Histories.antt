@@ -1,4 +1,5 @@
--- A served request is its events, and so are requests and direct calls one after the other. Assumes nothing.
+-- A served request is its events, and leaves a table of entries again; so requests and direct calls, one after the other, are their events.
+-- Assumes nothing.
 use mathlib.Core.Path.{_≡_, refl, sym, ap, _∙_, subst}
 use mathlib.Core.Bool.{Bool, true, false, cond, _&&_}
 use mathlib.Core.List.{List, [], _∷_}
@@ -24,7 +25,7 @@ use Rattle.frame.proofs.Codes.{code-of, of-code}
 use Rattle.store.specs.Contents.{clusterOf}
 use Rattle.store.specs.Layout.{isStore}
 use Rattle.reporting.specs.declared.entry.Entry.{Entry}
-use Rattle.reporting.specs.Table.{holding}
+use Rattle.reporting.specs.Table.{Table, sound, holding}
 use Rattle.reporting.specs.Events.{Event, Leads}
 use Rattle.reporting.proofs.Histories.{call-is, leads-then}
 use Rattle.configure.specs.Configure.{configureEvents, configureOf}
@@ -32,6 +33,7 @@ use Rattle.configure.proofs.History.{configure-leads}
 use Rattle.server.specs.Serve.{state, commanded, typed, headed, tabled, serve}
 use Rattle.server.specs.UnsupportedCluster.{isGlobal}
 use Rattle.server.specs.History.{Request, entriesOf, requested, headedEvents, requestEvents, Use, request, direct, used, useEvents, uses, served, UsesAreEvents}
+use Rattle.server.proofs.Cases.{commanded-case, serve-case}
 
 -- no events leave the entries
 nothing : (limit : ℕ) (l : List Entry) → Leads limit [] l l
@@ -48,7 +50,7 @@ module _ (limit : ℕ) (r : Request) (l : List Entry) where
     -- only Configure Reporting changes the table, and only it has the code 06
     by-command : (c : CommandIdentifier) → commandOf (commandCode c) ≡ c
         → Leads limit (cond (eqb (commandCode c) (commandCode ConfigureReporting)) own []) l
-            (entriesOf (commanded 8 limit (r .store) (holding l) (r .unicast) h (drop (h .body) (r .frame)) (r .room) c .state .table))
+        (entriesOf (commanded 8 limit (r .store) (holding l) (r .unicast) h (drop (h .body) (r .frame)) (r .room) c .state .table))
     unfolding commanded configureOf commandOf
     by-command ReadAttributes e = nothing limit l
     by-command ReadAttributesResponse e = nothing limit l
@@ -71,13 +73,13 @@ module _ (limit : ℕ) (r : Request) (l : List Entry) where
 
     by-type : (k : FrameType)
         → Leads limit (cond (isGlobal k && eqb (h .«command_identifier» .0) (commandCode ConfigureReporting)) own []) l
-            (entriesOf (typed 8 limit (r .store) (holding l) (r .unicast) h (drop (h .body) (r .frame)) (r .room) k .state .table))
+        (entriesOf (typed 8 limit (r .store) (holding l) (r .unicast) h (drop (h .body) (r .frame)) (r .room) k .state .table))
     unfolding typed
     by-type GlobalCommand =
         let b : ℕ = h .«command_identifier» .0 in
         subst
         (λ (n : ℕ). Leads limit (cond (eqb n (commandCode ConfigureReporting)) own []) l
-            (entriesOf (commanded 8 limit (r .store) (holding l) (r .unicast) h (drop (h .body) (r .frame)) (r .room) (commandOf b) .state .table)))
+        (entriesOf (commanded 8 limit (r .store) (holding l) (r .unicast) h (drop (h .body) (r .frame)) (r .room) (commandOf b) .state .table)))
         (code-of b) (by-command (commandOf b) (of-code b))
     by-type ClusterCommand = nothing limit l
     by-type Reserved = nothing limit l
@@ -94,13 +96,40 @@ module _ (limit : ℕ) (r : Request) (l : List Entry) where
     where
       go : (a b : Bool)
           → Leads limit (cond (a && b) (headedEvents limit r l (headerOf (r .frame))) []) l
-              (entriesOf
-                (cond a
-                  (cond b (headed 8 limit (r .store) (holding l) (r .unicast) (r .frame) (r .room) (headerOf (r .frame))) (refused (r .room) OtherCluster (state (r .store) (holding l))))
-                  (refused (r .room) NotAStore (state (r .store) (holding l))) .state .table))
+          (entriesOf
+          (cond a
+          (cond b (headed 8 limit (r .store) (holding l) (r .unicast) (r .frame) (r .room) (headerOf (r .frame))) (refused (r .room) OtherCluster (state (r .store) (holding l))))
+          (refused (r .room) NotAStore (state (r .store) (holding l))) .state .table))
       go true true = by-header (headerOf (r .frame))
       go true false = nothing limit l
       go false b = nothing limit l
+
+-- ---- what a request leaves is again a table of entries, so that the next use starts from it
+
+abbrev Held : Table → Type 0
+Held t = t ≡ holding (entriesOf t)
+
+module _ (limit : ℕ) (r : Request) where
+  commanded-held : (n : ℕ) (l : List Entry) (h : ZclHeader) (body : List ℕ) (c : CommandIdentifier) → Held (sound n l)
+      → Held (commanded 8 limit (r .store) (sound n l) (r .unicast) h body (r .room) c .state .table)
+  unfolding configureOf
+  commanded-held n l h body =
+      commanded-case 8 limit (r .store) (sound n l) (r .unicast) body (r .room) (λ f. Held (sound n l) → Held (f h .state .table))
+      (record {
+        read = λ e. e;
+        write = λ e. e;
+        undivided = λ e. e;
+        silently = λ e. e;
+        configure = λ e. refl;
+        configuration = λ e. e;
+        discover = λ e. e;
+        other = λ e. e;
+      })
+
+  pub request-holds : (l : List Entry) → serve 8 limit (r .store) (holding l) (r .cluster) (r .unicast) (r .frame) (r .room) .state .table ≡ holding (requested limit r l)
+  unfolding requested
+  request-holds l =
+      serve-case 8 limit (r .store) (r .unicast) (r .room) (λ t o. Held t → Held (o .state .table)) (λ t why e h. h) commanded-held (r .cluster) (r .frame) (holding l) refl
 
 -- ---- uses
 

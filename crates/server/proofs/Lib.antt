@@ -15,4 +15,5 @@ pub mod Stays  -- a store stays a store
 pub mod Unique  -- no second answer fits
 pub mod Histories  -- a request is its events
 pub mod Frames  -- demand 3 with frames
+pub mod WorkedFrames  -- a served history that meets its suppositions
 pub mod Starred  -- the starred bench frames

@@ -10,7 +10,7 @@ use Rattle.reporting.specs.declared.entry.ReportingConfig.{ReportingConfig}
 use Rattle.reporting.specs.declared.entry.Entry.{Entry}
 use Rattle.reporting.specs.Events.{Event, configured}
 use Rattle.reporting.specs.Demand3.{Supposed, Promised, asksOf}
-use Rattle.server.specs.History.{Request, requestEvents, requested, Use, request, uses, served}
+use Rattle.server.specs.History.{Request, requestEvents, requested, Use, uses, served}
 
 -- what comes after the accepted record: the rest of its frame, also of one that ends in 4 or 5, and then any uses
 abbrev pub laterOf : ℕ → List Event → List Use → List Entry → List Event
