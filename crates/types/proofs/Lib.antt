@@ -14,3 +14,4 @@ pub mod Stable  -- bytes behind or in front make no difference
 pub mod Back  -- a value that ends within a part is the part's
 pub mod Settled  -- some bytes behind settle any cut value
 pub mod Worked  -- worked values
+pub mod Unique  -- no second answer fits a contract, function after function
