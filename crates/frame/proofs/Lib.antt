@@ -23,3 +23,5 @@ pub mod Listings
 pub mod Passes
 -- the state that a command leaves
 pub mod States
+-- no second answer fits a contract, function after function
+pub mod Unique
