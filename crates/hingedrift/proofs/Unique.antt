@@ -1,10 +1,94 @@
--- No second outcome fits a contract: one call leaves one number, one table and one result. Assumes nothing.
+-- No second outcome fits a contract: at the same entry values one call leaves one number and, through what was lent, one value each. An entry
+-- value that a contract does not mention is left out. Assumes nothing.
 use Prim.Native.Nat.{ℕ}
 use mathlib.Core.Path.{_≡_, sym, ap, _∙_}
 use mathlib.Core.List.{List}
-use Rattle.hingedrift.specs.Tables.{Left, left}
+use lib.ListN.{length}
+use lib.IntN.{ℤ}
+use Rattle.frame.specs.Answer.{Outcome, noState}
+use Rattle.store.specs.Value.{Telling}
+use Rattle.hingedrift.specs.Tables.{keyOf, configOf, Left, left, noResult, Configuration, configurationAs, newLeft, configureLeft, clearLeft, markLeft, askLeft, configurationLeft}
+use Rattle.hingedrift.specs.Serving.{handed, numberHanded, Lent, lent, numberLeft, unsupportedLeft, reportLeft, handleLeft}
+
+-- ---- what is seen of a call tells all that it left
 
 pub one-outcome : {R : Type 0} (o : Left R) (m n : ℕ) (bs cs : List ℕ) (x y : R) → left m bs x ≡ o → left n cs y ≡ o → (m ≡ n) × ((bs ≡ cs) × (x ≡ y))
 one-outcome {R} o m n bs cs x y p q =
     let e = p ∙ sym q in
     (ap (λ (z : Left R). z .number) e, (ap (λ (z : Left R). z .table) e, ap (λ (z : Left R). z .result) e))
+
+pub one-handed : {S : Type 0} (o : Outcome S) (r q m n : ℕ) (x y : List ℕ) (s t : S) → handed r m x s ≡ o → handed q n y t ≡ o → (r ≡ q) × ((m ≡ n) × ((x ≡ y) × (s ≡ t)))
+one-handed {S} o r q m n x y s t e f =
+    let p = e ∙ sym f in
+    (ap (λ (z : Outcome S). z .number) p, (ap (λ (z : Outcome S). z .size) p, (ap (λ (z : Outcome S). z .reply) p, ap (λ (z : Outcome S). z .state) p)))
+
+-- a call that leaves a table and no result
+pub one-table : (o : Left (Unit {0})) (r q : ℕ) (bs cs : List ℕ) → left r bs noResult ≡ o → left q cs noResult ≡ o → (r ≡ q) × (bs ≡ cs)
+one-table o r q bs cs e f = let w = one-outcome o r q bs cs noResult noResult e f in (w .0, w .1 .0)
+
+-- a call that changes no more than a reply
+pub one-reply : (o : Outcome (Unit {0})) (r q m n : ℕ) (x y : List ℕ) → handed r m x noState ≡ o → handed q n y noState ≡ o → (r ≡ q) × ((m ≡ n) × (x ≡ y))
+one-reply o r q m n x y e f = let w = one-handed o r q m n x y noState noState e f in (w .0, (w .1 .0, w .1 .1 .0))
+
+-- src/serving.rt
+
+pub hd-number-once : (store : List ℕ) (attribute r q : ℕ) (x y : ℤ) → numberHanded r x ≡ numberLeft store attribute → numberHanded q y ≡ numberLeft store attribute → (r ≡ q) × (x ≡ y)
+hd-number-once store attribute r q x y e f = let p = e ∙ sym f in (ap (λ (z : Telling). z .answer) p, ap (λ (z : Telling). z .value) p)
+
+pub hd-handle-request-once : (store table : List ℕ) (cluster unicast : ℕ) (request reply : List ℕ) (r q m n : ℕ) (x y s u bs cs : List ℕ)
+    → handed r m x (lent s bs) ≡ handleLeft store table cluster unicast request (length reply)
+    → handed q n y (lent u cs) ≡ handleLeft store table cluster unicast request (length reply)
+    → (r ≡ q) × ((m ≡ n) × ((x ≡ y) × ((s ≡ u) × (bs ≡ cs))))
+hd-handle-request-once store table cluster unicast request reply r q m n x y s u bs cs e f =
+    let w = one-handed (handleLeft store table cluster unicast request (length reply)) r q m n x y (lent s bs) (lent u cs) e f in
+    (w .0, (w .1 .0, (w .1 .1 .0, (ap (λ (z : Lent). z .store) (w .1 .1 .1), ap (λ (z : Lent). z .table) (w .1 .1 .1)))))
+
+pub hd-unsupported-cluster-once : (served : List ℕ) (cluster unicast : ℕ) (request reply : List ℕ) (r q m n : ℕ) (x y : List ℕ)
+    → handed r m x noState ≡ unsupportedLeft served cluster unicast request (length reply)
+    → handed q n y noState ≡ unsupportedLeft served cluster unicast request (length reply)
+    → (r ≡ q) × ((m ≡ n) × (x ≡ y))
+hd-unsupported-cluster-once served cluster unicast request reply r q m n x y e f = one-reply (unsupportedLeft served cluster unicast request (length reply)) r q m n x y e f
+
+pub hd-report-once : (store : List ℕ) (sequence : ℕ) (ids frame : List ℕ) (r q m n : ℕ) (x y : List ℕ)
+    → handed r m x noState ≡ reportLeft store sequence ids (length frame)
+    → handed q n y noState ≡ reportLeft store sequence ids (length frame)
+    → (r ≡ q) × ((m ≡ n) × (x ≡ y))
+hd-report-once store sequence ids frame r q m n x y e f = one-reply (reportLeft store sequence ids (length frame)) r q m n x y e f
+
+-- src/table.rt
+
+pub hd-table-new-once : (table : List ℕ) (r q : ℕ) (bs cs : List ℕ) → left r bs noResult ≡ newLeft table → left q cs noResult ≡ newLeft table → (r ≡ q) × (bs ≡ cs)
+hd-table-new-once table r q bs cs e f = one-table (newLeft table) r q bs cs e f
+
+pub hd-configure-once : (table : List ℕ) (cluster attribute minimum maximum change r q : ℕ) (bs cs : List ℕ) (x y : ℕ)
+    → left r bs x ≡ configureLeft table (keyOf cluster attribute) (configOf minimum maximum change)
+    → left q cs y ≡ configureLeft table (keyOf cluster attribute) (configOf minimum maximum change)
+    → (r ≡ q) × ((bs ≡ cs) × (x ≡ y))
+hd-configure-once table cluster attribute minimum maximum change r q bs cs x y e f = one-outcome (configureLeft table (keyOf cluster attribute) (configOf minimum maximum change)) r q bs cs x y e f
+
+pub hd-clear-once : (table : List ℕ) (cluster attribute r q : ℕ) (bs cs : List ℕ)
+    → left r bs noResult ≡ clearLeft table (keyOf cluster attribute)
+    → left q cs noResult ≡ clearLeft table (keyOf cluster attribute)
+    → (r ≡ q) × (bs ≡ cs)
+hd-clear-once table cluster attribute r q bs cs e f = one-table (clearLeft table (keyOf cluster attribute)) r q bs cs e f
+
+pub hd-configuration-once : (table : List ℕ) (cluster attribute r q a b k l m n x y : ℕ)
+    → left r table (configurationAs a k m x) ≡ configurationLeft table (keyOf cluster attribute)
+    → left q table (configurationAs b l n y) ≡ configurationLeft table (keyOf cluster attribute)
+    → (r ≡ q) × ((a ≡ b) × ((k ≡ l) × ((m ≡ n) × (x ≡ y))))
+hd-configuration-once table cluster attribute r q a b k l m n x y e f =
+    let w = one-outcome (configurationLeft table (keyOf cluster attribute)) r q table table (configurationAs a k m x) (configurationAs b l n y) e f in
+    let c = w .1 .1 in
+    (w .0, (ap (λ (z : Configuration). z .found) c, (ap (λ (z : Configuration). z .minimum) c, (ap (λ (z : Configuration). z .maximum) c, ap (λ (z : Configuration). z .change) c))))
+
+pub hd-ask-once : (table : List ℕ) (cluster attribute now : ℕ) (value : ℤ) (r q x y : ℕ)
+    → left r table x ≡ askLeft table (keyOf cluster attribute) now value
+    → left q table y ≡ askLeft table (keyOf cluster attribute) now value
+    → (r ≡ q) × (x ≡ y)
+hd-ask-once table cluster attribute now value r q x y e f = let w = one-outcome (askLeft table (keyOf cluster attribute) now value) r q table table x y e f in (w .0, w .1 .1)
+
+pub hd-mark-once : (table : List ℕ) (cluster attribute now : ℕ) (value : ℤ) (r q : ℕ) (bs cs : List ℕ)
+    → left r bs noResult ≡ markLeft table (keyOf cluster attribute) now value
+    → left q cs noResult ≡ markLeft table (keyOf cluster attribute) now value
+    → (r ≡ q) × (bs ≡ cs)
+hd-mark-once table cluster attribute now value r q bs cs e f = one-table (markLeft table (keyOf cluster attribute) now value) r q bs cs e f
