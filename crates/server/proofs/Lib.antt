@@ -16,4 +16,5 @@ pub mod Unique  -- no second answer fits
 pub mod Histories  -- a request is its events
 pub mod Frames  -- demand 3 with frames
 pub mod WorkedFrames  -- a served history that meets its suppositions
+pub mod Logged  -- demand 3 of what the code answered
 pub mod Starred  -- the starred bench frames

@@ -5,5 +5,6 @@ pub mod UnsupportedCluster  -- the responder for clusters that are not served
 pub mod Report  -- the Report Attributes frame
 pub mod History  -- requests and direct calls, as the events of a reporting table
 pub mod Demand3  -- demand 3 with frames
+pub mod Log  -- what the code answered, and demand 3 of it
 pub mod Bench  -- the starred bench frames, as one list under one claim
 pub mod Inside  -- what only inner functions say

@@ -1,0 +1,126 @@
+-- What the code of the server and of the table gave back, by its contracts, is what the uses of the table that were made leave and tell; so demand 3
+-- holds of it. Assumes nothing.
+use mathlib.Core.Path.{_≡_, refl, sym, ap, _∙_, subst}
+use mathlib.Core.Bool.{Bool, true, false, cond}
+use mathlib.Core.List.{List, [], _∷_, _++_, map}
+use Prim.Native.Nat.{ℕ}
+use Rattle.frame.specs.declared.header.ZclHeader.{ZclHeader}
+use Rattle.frame.specs.declared.command_identifier.CommandIdentifier.{CommandIdentifier}
+use Rattle.frame.specs.Answer.{Outcome}
+use Rattle.reporting.specs.declared.entry.Key.{Key}
+use Rattle.reporting.specs.declared.entry.ReportingConfig.{ReportingConfig}
+use Rattle.reporting.specs.declared.entry.Entry.{Entry}
+use Rattle.reporting.specs.declared.table.ReportingTable.{ReportingTable}
+use Rattle.reporting.specs.declared.table.Changed.{Changed}
+use Rattle.reporting.specs.Entries.{acceptsL, configureL}
+use Rattle.reporting.specs.Table.{room, Table, sound, tableOf, holding, changeTold, reportTold, Outcome as Left, outcome, doneT, fullT, configureT, clearT, markT, askT}
+use Rattle.reporting.specs.Events.{Event, configured, cleared, asked, marked, after}
+use Rattle.reporting.specs.Events as Event
+use Rattle.reporting.specs.Demand3.{Supposed, Promised, asksOf}
+use Rattle.reporting.specs.Log.{ifAccepted, ifAnswered}
+use Rattle.reporting.specs.Log as Method
+use Rattle.reporting.proofs.Histories.{configure-refused}
+use Rattle.configure.specs.Configure.{configureOf}
+use Rattle.server.specs.Serve.{State, commanded, serve}
+use Rattle.server.specs.History.{Request, entriesOf, requested, requestEvents, Use, direct, used, useEvents, uses, served}
+use Rattle.server.specs.History as History
+use Rattle.server.specs.Log.{Made, request, method, Contract, next, last, Log, eventsOf, allEventsOf, Demand3OfServer}
+use Rattle.server.proofs.Cases.{commanded-case, serve-case}
+use Rattle.server.proofs.Frames.{demand-3-of-frames}
+
+-- ---- a request leaves a table whose count is that of its entries
+
+abbrev Tight : Table → Type 0
+Tight t = t ≡ holding (entriesOf t)
+
+module _ (s : List ℕ) (unicast : Bool) (size : ℕ) where
+  commanded-tight : (n : ℕ) (l : List Entry) (h : ZclHeader) (body : List ℕ) (c : CommandIdentifier) → Tight (sound n l)
+      → Tight (commanded 8 room s (sound n l) unicast h body size c .state .table)
+  unfolding configureOf
+  commanded-tight n l h body c d =
+      commanded-case 8 room s (sound n l) unicast body size (λ f. Tight (f h .state .table))
+      (record { read = d; write = d; undivided = d; silently = d; configure = refl; configuration = d; discover = d; other = d }) c
+
+  pub serve-tight : (cluster : ℕ) (frame : List ℕ) (t : Table) → Tight t → Tight (serve 8 room s t cluster unicast frame size .state .table)
+  serve-tight = serve-case 8 room s unicast size (λ t o. Tight t → Tight (o .state .table)) (λ t why e d. d) commanded-tight
+
+-- ---- a call is a use
+
+pub useOf : Made → Use
+useOf (request q r reply store) = History.request q
+useOf (method (Method.configure k g r)) = direct (Event.configure k g)
+useOf (method (Method.clear k r)) = direct (Event.clear k)
+useOf (method (Method.mark k now v r)) = direct (Event.mark k now v)
+useOf (method (Method.ask k now v r)) = direct (Event.ask k now v)
+useOf (method (Method.configuration k r)) = direct (Event.configuration k)
+useOf (method (Method.len r)) = direct Event.len
+
+-- events es that leave the table t are the use's, from the entries l on
+record Is (u : Use) (l : List Entry) (es : List Event) (t : ReportingTable) : Type 0 where
+  events : es ≡ useEvents room u l
+  table : tableOf t ≡ holding (used room u l)
+
+configure-is : (k : Key) (g : ReportingConfig) (r : Changed) (l : List Entry) → outcome r ≡ configureT room k g (holding l)
+    → Is (direct (Event.configure k g)) l (ifAccepted (changeTold (r .answer)) (configured k g)) (r .table)
+configure-is k g r l q = go (acceptsL room k l) refl q
+  where
+    go : (b : Bool) → acceptsL room k l ≡ b → outcome r ≡ cond b (doneT (configureL room k g l)) (fullT l)
+        → Is (direct (Event.configure k g)) l (ifAccepted (changeTold (r .answer)) (configured k g)) (r .table)
+    go true e q = record {
+      events = ap (λ (o : Left). ifAccepted (o .told) (configured k g)) q ∙ ap (λ (b : Bool). cond b (configured k g ∷ []) []) (sym e);
+      table = ap (λ (o : Left). o .table) q;
+    }
+    go false e q = record {
+      events = ap (λ (o : Left). ifAccepted (o .told) (configured k g)) q ∙ ap (λ (b : Bool). cond b (configured k g ∷ []) []) (sym e);
+      table = ap (λ (o : Left). o .table) q ∙ ap holding (sym (configure-refused room k g l e));
+    }
+
+call-is : (c : Made) (t : ReportingTable) (l : List Entry) → tableOf t ≡ holding l → Contract c t → Is (useOf c) l (eventsOf c t) (next c t)
+unfolding useOf requested
+call-is (request q r reply store) t l e h =
+    let o = h ∙ ap (λ (x : Table). serve 8 room (q .store) x (q .cluster) (q .unicast) (q .frame) (q .room)) e in
+    record {
+      events = ap (λ (x : Table). requestEvents room q (entriesOf x)) e;
+      table =
+          ap (λ (x : Outcome State). x .state .table) o
+          ∙ serve-tight (q .store) (q .unicast) (q .room) (q .cluster) (q .frame) (holding l) refl;
+    }
+call-is (method (Method.configure k g r)) t l e h = configure-is k g r l (h ∙ ap (configureT room k g) e)
+call-is (method (Method.clear k r)) t l e h =
+    let o = h ∙ ap (clearT k) e in
+    record { events = ap (λ (x : Left). ifAccepted (x .told) (cleared k)) o; table = ap (λ (x : Left). x .table) o }
+call-is (method (Method.mark k now v r)) t l e h =
+    let o = h ∙ ap (markT k now v) e in
+    record { events = ap (λ (x : Left). ifAccepted (x .told) (marked k now v)) o; table = ap (λ (x : Left). x .table) o }
+call-is (method (Method.ask k now v r)) t l e h = record { events = ap (ifAnswered k now v) (h ∙ ap (askT k now v) e); table = e }
+call-is (method (Method.configuration k r)) t l e h = record { events = refl; table = e }
+call-is (method (Method.len r)) t l e h = record { events = refl; table = e }
+
+-- ---- and so a log is uses
+
+record AllIs (us : List Use) (l : List Entry) (es : List Event) (t : ReportingTable) : Type 0 where
+  events : es ≡ served room us l
+  table : tableOf t ≡ holding (uses room us l)
+
+log-is : (log : List Made) (t : ReportingTable) (l : List Entry) → tableOf t ≡ holding l → Log t log → AllIs (map useOf log) l (allEventsOf log t) (last log t)
+log-is [] t l e h = record { events = refl; table = e }
+log-is (c ∷ log) t l e h =
+    let one = call-is c t l e (h .0) in
+    let more = log-is log (next c t) (used room (useOf c) l) (one .table) (h .1) in
+    record { events = λ i. one .events i ++ more .events i; table = more .table }
+
+-- a log cut in two
+log-cut : (before after : List Made) (t : ReportingTable) → Log t (before ++ after) → Log t before × Log (last before t) after
+log-cut [] after t h = (tt, h)
+log-cut (c ∷ before) after t h = let w = log-cut before after (next c t) (h .1) in ((h .0, w .0), w .1)
+
+pub demand-3-of-server : Demand3OfServer
+unfolding useOf
+demand-3-of-server t before q r reply store after earlier k g rest G e h p low high s =
+    let cut = log-cut before (request q r reply store ∷ after) t h in
+    let l : List Entry = uses room (map useOf before) [] in
+    let this = call-is (request q r reply store) (last before t) l (log-is before t [] e (cut .0) .table) (cut .1 .0) in
+    let more = log-is after (r .table) (requested room q l) (this .table) (cut .1 .1) in
+    subst (λ (es : List Event). Promised g G (asksOf k (rest ++ es))) (sym (more .events))
+    (demand-3-of-frames room (map useOf before) q k g earlier rest G (map useOf after) (sym (this .events) ∙ p) low high
+      (subst (λ (es : List Event). Supposed k G (rest ++ es)) (more .events) s))
