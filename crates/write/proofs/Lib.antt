@@ -4,3 +4,4 @@ pub mod Append  -- the records of one body and then another
 pub mod Turns  -- one record done, and the loop that lists nothing
 pub mod Undivided  -- the two passes of an undivided write
 pub mod Kept  -- what the commands keep of a store
+pub mod Unique  -- no second answer fits
