@@ -2,3 +2,4 @@
 pub mod Choice  -- which attributes are listed, and when these are all
 pub mod Going  -- the loop that puts the records
 pub mod Whole  -- the body, the header, the complete byte, and the records
+pub mod Unique  -- no second answer fits
