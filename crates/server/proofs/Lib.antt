@@ -17,4 +17,5 @@ pub mod Histories  -- a request is its events
 pub mod Frames  -- demand 3 with frames
 pub mod WorkedFrames  -- a served history that meets its suppositions
 pub mod Logged  -- demand 3 of what the code answered
+pub mod Fitting  -- what a request configures is within the widths of a table's bytes
 pub mod Starred  -- the starred bench frames

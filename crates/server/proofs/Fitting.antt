@@ -1,0 +1,160 @@
+-- What a request made of bytes configures is within the widths of a table's bytes. Assumes nothing.
+use mathlib.Core.Path.{_≡_, refl, subst}
+use mathlib.Core.Bool.{Bool, true, false, cond, _&&_}
+use mathlib.Core.List.{List, [], _∷_, _++_}
+use Prim.Native.Nat.{ℕ, min, _+_, _-_, _*_, _^_, _≤_, _<_}
+use native.Mathlib.Omega.{arith}
+use lib.ListN.{length, getD, drop}
+use lib.Dec.{leb, eqb}
+use lib.IntN.{natAbs}
+use lib.Pow.{pow-mono}
+use lib.Signed.{mag}
+use Rattle.types.specs.declared.ids.Size.{Size}
+use Rattle.types.specs.declared.ids.Size.the-variants as SizeV
+use Rattle.types.specs.Number.{unsignedAt, signedAt}
+use Rattle.types.specs.Ids.{sizeOf, isAnalog, isSigned, isFloat}
+use Rattle.types.specs.Value.{changeBy, changeAt}
+use Rattle.types.proofs.Numbers.{Bytes, bytes-drop, unsigned-below}
+use Rattle.types.proofs.Readings.{magnitude-within}
+use Rattle.frame.specs.declared.header.ZclHeader.{ZclHeader}
+use Rattle.frame.specs.declared.header.HeaderRead.{HeaderRead}
+use Rattle.frame.specs.declared.header.HeaderRead.the-variants.{Header, Short}
+use Rattle.frame.specs.declared.command_identifier.CommandIdentifier.the-variants.{ConfigureReporting, ConfigureReportingResponse}
+use Rattle.frame.specs.Header.{frameTypeOf, headerOf}
+use Rattle.frame.specs.CommandIdentifier.{commandCode}
+use Rattle.frame.specs.Walk.{Item, item, unread, recordsFrom}
+use Rattle.frame.proofs.Walks.{All, records-all}
+use Rattle.frame.proofs.States.{headed-keeps, performed-keeps}
+use Rattle.store.specs.Contents.{nameOf, findOf, clusterOf}
+use Rattle.store.specs.Layout.{isStore}
+use Rattle.reporting.specs.declared.entry.Key.{Key}
+use Rattle.reporting.specs.declared.entry.ReportingConfig.{ReportingConfig}
+use Rattle.reporting.specs.declared.entry.Entry.{Entry}
+use Rattle.reporting.specs.Entries.{fresh}
+use Rattle.reporting.specs.Carried.{Clean}
+use Rattle.reporting.specs.Events.{Event, configured, cleared, asked, marked, run, Wish, clears, wrong, sets, wish, eventsW, events, configRecord}
+use Rattle.configure.specs.Request.{keyFor, ConfigureRecord, received, reported, configAt, configureAt, configures, changeWidth}
+use Rattle.configure.specs.Configure.{setting, tried, configuring, configureEvents}
+use Rattle.configure.proofs.History.{checked-either}
+use Rattle.server.specs.UnsupportedCluster.{isGlobal}
+use Rattle.server.specs.History.{Request, headedEvents, requestEvents}
+
+-- ---- what an event puts into a table is within its width
+
+abbrev pub Fits : Event → Type 0
+Fits (configured k g) = Clean (fresh k g)
+Fits (cleared k) = Unit {0}
+Fits (asked k now v a) = Unit {0}
+Fits (marked k now v) = (now < 2 ^ 32) × (mag v < 2 ^ 63)
+
+abbrev pub AllFit : List Event → Type 0
+AllFit [] = Unit {0}
+AllFit (e ∷ es) = Fits e × AllFit es
+
+fit-append : (es fs : List Event) → AllFit es → AllFit fs → AllFit (es ++ fs)
+fit-append [] fs h k = k
+fit-append (e ∷ es) fs h k = (h .0, fit-append es fs (h .1) k)
+
+pub fit-either : (b : Bool) (es : List Event) → AllFit es → AllFit (cond b es [])
+fit-either true es h = h
+fit-either false es h = tt
+
+-- ---- a record's numbers
+
+change-by : (x : Size) (signed float : Bool) (s : List ℕ) (p : ℕ) → Bytes s → changeBy x signed float s p < 2 ^ 64
+change-by (SizeV.Bytes w) true float s p h =
+    let m = magnitude-within s p (min w 8) h in
+    let q : 2 ^ (8 * min w 8 - 1) ≤ 2 ^ 63 = pow-mono {i = 8 * min w 8 - 1} {j = 63} (omega arith) in
+    omega arith
+change-by (SizeV.Bytes w) false true s p h = omega arith
+change-by (SizeV.Bytes w) false false s p h =
+    let m = unsigned-below s p (min w 8) h in
+    let q : 2 ^ (8 * min w 8) ≤ 2 ^ 64 = pow-mono {i = 8 * min w 8} {j = 64} (omega arith) in
+    omega arith
+change-by SizeV.Varies signed float s p h = omega arith
+
+change-below : (s : List ℕ) (p t : ℕ) → Bytes s → cond (isAnalog t) (changeAt s p t) 0 < 2 ^ 64
+unfolding changeAt
+change-below s p t h = go (isAnalog t)
+  where
+    go : (b : Bool) → cond b (changeBy (sizeOf t) (isSigned t) (isFloat t) s p) 0 < 2 ^ 64
+    go true = change-by (sizeOf t) (isSigned t) (isFloat t) s p h
+    go false = omega arith
+
+-- ---- of a record, a frame and a request
+
+module _ (s : List ℕ) (store : Bytes s) (h : ZclHeader) where
+  abbrev Fitting : ConfigureRecord → Type 0
+  Fitting (received direction id) = Unit {0}
+  Fitting (reported id t g) = Clean (fresh (keyFor s h id) g)
+
+  abbrev FittingItem : Item ConfigureRecord → Type 0
+  FittingItem (item r q) = Fitting r
+  FittingItem unread = Unit {0}
+
+  reported-fits : (body : List ℕ) (p id-at t : ℕ) → Bytes body → Fitting (reported (unsignedAt body id-at 2) t (configAt body p t))
+  reported-fits body p id-at t b = record {
+    cluster = unsigned-below s 0 2 store;
+    attribute = unsigned-below body id-at 2 b;
+    minimum = unsigned-below body p 2 b;
+    maximum = unsigned-below body (p + 2) 2 b;
+    change = change-below body (p + 4) t b;
+    time = omega arith;
+    value = omega arith;
+    quiet = λ e. (refl, refl);
+  }
+
+  item-fits : (body : List ℕ) (p : ℕ) → Bytes body → FittingItem (configureAt body p)
+  unfolding configureAt
+  item-fits body p b =
+      let t : ℕ = getD body (p + 3) 0 in
+      go (eqb (getD body p 0) 0) (leb (p + (8 + changeWidth t)) (length body)) (leb (p + 5) (length body))
+    where
+      go : (a c d : Bool)
+          → FittingItem
+              (cond a
+                (cond c (item (reported (unsignedAt body (p + 1) 2) (getD body (p + 3) 0) (configAt body (p + 4) (getD body (p + 3) 0))) (p + (8 + changeWidth (getD body (p + 3) 0)))) unread)
+                (cond d (item (received (getD body p 0) (unsignedAt body (p + 1) 2)) (p + 5)) unread))
+      go true true d = reported-fits body (p + 4) (p + 1) (getD body (p + 3) 0) b
+      go true false d = tt
+      go false c true = tt
+      go false c false = tt
+
+  records-fit : (body : List ℕ) → Bytes body → All Fitting (configures body .list)
+  unfolding recordsFrom
+  records-fit body b = records-all (configureAt body) (length body) Fitting (λ p r q e. subst FittingItem e (item-fits body p b)) _ 0
+
+  record-fits : (k : Key) (g : ReportingConfig) (w : Wish) (accepted : Bool) → Clean (fresh k g) → AllFit (eventsW w accepted k g)
+  record-fits k g clears accepted c = (tt, tt)
+  record-fits k g wrong accepted c = tt
+  record-fits k g sets true c = (c, tt)
+  record-fits k g sets false c = tt
+
+  module _ (limit : ℕ) (l : List Entry) where
+    setting-fits : (k : Key) (g : ReportingConfig) (es : List Event) → AllFit es → Clean (fresh k g) → AllFit (setting limit l k g es .state)
+    unfolding setting
+    setting-fits k g es d c = fit-append es (events limit (configRecord k g) (run limit es l)) d (record-fits k g (wish g) _ c)
+
+    tried-fits : (es : List Event) (r : ConfigureRecord) → AllFit es → Fitting r → AllFit (tried 8 limit s h l es r .state)
+    unfolding tried
+    tried-fits es (received direction id) d c = d
+    tried-fits es (reported id t g) d c =
+        checked-either AllFit (findOf 8 s (nameOf (h .«manufacturer_code» .0) id)) t es (setting limit l (keyFor s h id) g es) d
+        (setting-fits (keyFor s h id) g es d c)
+
+    configure-fits : (body : List ℕ) (room : ℕ) → Bytes body → AllFit (configureEvents 8 limit s l h body room .state)
+    unfolding configureEvents
+    configure-fits body room b =
+        headed-keeps AllFit h ConfigureReportingResponse [] room _ tt
+        (λ head. performed-keeps (configuring 8 limit s h l) AllFit Fitting tried-fits (configures body) (records-fit body b) [] room head tt)
+
+module _ (limit : ℕ) (r : Request) (l : List Entry) (store : Bytes (r .store)) (frame : Bytes (r .frame)) where
+  headed-fits : (x : HeaderRead) → AllFit (headedEvents limit r l x)
+  headed-fits Short = tt
+  headed-fits (Header h) =
+      fit-either (isGlobal (frameTypeOf (h .«frame_control» .0)) && eqb (h .«command_identifier» .0) (commandCode ConfigureReporting)) _
+      (configure-fits (r .store) store h limit l (drop (h .body) (r .frame)) (r .room) (bytes-drop (r .frame) (h .body) frame))
+
+  pub request-fits : AllFit (requestEvents limit r l)
+  unfolding requestEvents
+  request-fits = fit-either (isStore 8 (r .store) && eqb (r .cluster) (clusterOf (r .store))) _ (headed-fits (headerOf (r .frame)))
