@@ -4,3 +4,7 @@ pub mod Bridge
 -- from what the functions of crate `server` ensure to what C has after a call
 pub mod Handed
 pub mod Unique
+-- entries that fit a table's bytes, after events
+pub mod Kept
+-- demand 3 of what the functions left
+pub mod Logged

@@ -1,3 +1,4 @@
 -- What a reader must believe of this crate, a file for an idea.
 pub mod Tables  -- the reporting table through its bytes
 pub mod Serving  -- the server, a number and a report frame
+pub mod Log  -- what the functions left, and demand 3 of it
