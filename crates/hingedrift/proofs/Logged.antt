@@ -56,8 +56,8 @@ module _ (bs : List ℕ) (l : List Entry) (h : Held bs l) where
   on-request q =
       ap
       (λ (b : Bool).
-          cond b (within (carried bs) (serve 8 room (q .store) (holding (tableIn bs)) (q .cluster) (isUnicast (q .unicast)) (q .frame) (q .size)))
-            (refused (q .size) (cond (isStore 8 (q .store)) NotATable NotAStore) (lent (q .store) bs)))
+      cond b (within (carried bs) (serve 8 room (q .store) (holding (tableIn bs)) (q .cluster) (isUnicast (q .unicast)) (q .frame) (q .size)))
+      (refused (q .size) (cond (isStore 8 (q .store)) NotATable NotAStore) (lent (q .store) bs)))
       is-one
       ∙ ap (λ (m : List Entry). within (carried bs) (serve 8 room (q .store) (holding m) (q .cluster) (isUnicast (q .unicast)) (q .frame) (q .size))) are-back
 
@@ -79,17 +79,19 @@ useOf (handle h) = History.request (requestOf h)
 use-fits : (c : Made) (l : List Entry) → Typed c → AllFit (useEvents room (useOf c) l)
 unfolding useOf
 use-fits (configure a g number accepted table) l d =
-    fit-either (acceptsL room (keyAt a) l) (configured (keyAt a) (configAs g) ∷ [])
-    (record {
-      cluster = d .0;
-      attribute = d .1;
-      minimum = d .2;
-      maximum = d .3;
-      change = d .4;
-      time = omega arith;
-      value = omega arith;
-      quiet = λ e. (refl, refl);
-    }, tt)
+    fit-either (acceptsL room (keyAt a) l) (configured (keyAt a) (configAs g) ∷ []) (
+      record {
+        cluster = d .0;
+        attribute = d .1;
+        minimum = d .2;
+        maximum = d .3;
+        change = d .4;
+        time = omega arith;
+        value = omega arith;
+        quiet = λ e. (refl, refl);
+      },
+      tt,
+    )
 use-fits (clear a number table) l d = (tt, tt)
 use-fits (mark a x number table) l d = (d, tt)
 use-fits (ask a x number due) l d = (tt, tt)
@@ -183,4 +185,4 @@ demand-3-of-bytes was bs before h after earlier k g rest G new p q low high s =
     let more = log-is after (h .table-after) (requested room (requestOf h) l) (call-held (handle h) (last before bs) l held (cut .1 .0) (cut .1 .1)) (cut .1 .2) in
     subst (λ (es : List Event). Promised g G (asksOf k (rest ++ es))) (sym (more .events))
     (demand-3-of-frames room (map useOf before) (requestOf h) k g earlier rest G (map useOf after) (sym (this .events) ∙ q) low high
-      (subst (λ (es : List Event). Supposed k G (rest ++ es)) (more .events) s))
+    (subst (λ (es : List Event). Supposed k G (rest ++ es)) (more .events) s))

@@ -112,9 +112,9 @@ module _ (s : List ℕ) (store : Bytes s) (h : ZclHeader) where
     where
       go : (a c d : Bool)
           → FittingItem
-              (cond a
-                (cond c (item (reported (unsignedAt body (p + 1) 2) (getD body (p + 3) 0) (configAt body (p + 4) (getD body (p + 3) 0))) (p + (8 + changeWidth (getD body (p + 3) 0)))) unread)
-                (cond d (item (received (getD body p 0) (unsignedAt body (p + 1) 2)) (p + 5)) unread))
+          (cond a
+          (cond c (item (reported (unsignedAt body (p + 1) 2) (getD body (p + 3) 0) (configAt body (p + 4) (getD body (p + 3) 0))) (p + (8 + changeWidth (getD body (p + 3) 0)))) unread)
+          (cond d (item (received (getD body p 0) (unsignedAt body (p + 1) 2)) (p + 5)) unread))
       go true true d = reported-fits body (p + 4) (p + 1) (getD body (p + 3) 0) b
       go true false d = tt
       go false c true = tt

@@ -123,4 +123,4 @@ demand-3-of-server t before q r reply store after earlier k g rest G e h p low h
     let more = log-is after (r .table) (requested room q l) (this .table) (cut .1 .1) in
     subst (λ (es : List Event). Promised g G (asksOf k (rest ++ es))) (sym (more .events))
     (demand-3-of-frames room (map useOf before) q k g earlier rest G (map useOf after) (sym (this .events) ∙ p) low high
-      (subst (λ (es : List Event). Supposed k G (rest ++ es)) (more .events) s))
+    (subst (λ (es : List Event). Supposed k G (rest ++ es)) (more .events) s))
