@@ -41,11 +41,7 @@ numbers-right : AllSay (λ s t. numberAt s 0 t) numbers
 unfolding numberAt sizeOf isSigned unsignedAt signedAt signedOf le
 numbers-right = (refl, (refl, (refl, (refl, (refl, (refl, (refl, (refl, tt))))))))
 
--- without its sign, Int8's least has 128 and Int64's 2^63
-least-int8 : natAbs (signedAt (0x80 ∷ []) 0 1) ≡ 128
-unfolding signedAt signedOf unsignedAt le
-least-int8 = refl
-
+-- without its sign, Int64's least is 2^63
 least-int64 : natAbs (signedAt (0x00 ∷ 0x00 ∷ 0x00 ∷ 0x00 ∷ 0x00 ∷ 0x00 ∷ 0x00 ∷ 0x80 ∷ []) 0 8) ≡ 9223372036854775808
 unfolding signedAt signedOf unsignedAt le
 least-int64 = refl
