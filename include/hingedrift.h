@@ -6,8 +6,9 @@
  * hd_table_new makes them one, and docs/TABLE.md has the layout. A store's layout is that of document 01.
  *
  * Every function returns one of the numbers below. A refusal, any number but HD_OK, writes 0 through every pointer to a result and
- * zeros to the whole reply buffer. Store and table are then as they were, but where HD_RECORD_CUT, HD_TOO_LONG or
- * HD_NOTHING_TO_SEND is returned by hd_handle_request: what the records before it did stays done.
+ * zeros to the whole reply buffer. Store and table are then as they were, with three exceptions of hd_handle_request: after HD_RECORD_CUT
+ * what the earlier records did stays done, after HD_TOO_LONG what the records up to there did, and after HD_NOTHING_TO_SEND all that the
+ * command did.
  *
  * No pointer may be null. Between the buffers and results of one call no byte may be shared.
  */
