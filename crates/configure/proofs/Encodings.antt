@@ -6,9 +6,10 @@ use native.Mathlib.Omega.{arith}
 use lib.ListN.{length, getD, take}
 use lib.Seq.{take-append-add}
 use Rattle.types.specs.Number.{bytesOf}
+use Rattle.types.proofs.Numbers.{bytes-cut}
 use Rattle.reporting.specs.declared.entry.ReportingConfig.{ReportingConfig}
 use Rattle.configure.specs.Request.{changeWidth}
-use Rattle.configure.specs.Configuration.{setting, encode}
+use Rattle.configure.specs.Configuration.{setting, encode, sentAs}
 use Rattle.configure.proofs.Widths.{width-least}
 
 -- the first bytes of a number are the number cut to fewer
@@ -41,13 +42,14 @@ unfolding bytesOf
 eight-bytes n = refl
 
 module _ (direction id t : ℕ) (g : ReportingConfig) where
-  encode-setting : nine direction id t g ++ bytesOf (changeWidth t) (g .«reportable_change») ≡ encode (setting direction id t g)
+  -- a change that is cut twice is the change cut once
+  encode-setting : nine direction id t g ++ bytesOf (changeWidth t) (g .«reportable_change») ≡ encode (setting direction id t (sentAs t g))
   unfolding encode bytesOf
-  encode-setting = refl
+  encode-setting = ap (λ (b : List ℕ). nine direction id t g ++ b) (sym (bytes-cut (changeWidth t) (g .«reportable_change»)))
 
   -- that many bytes of the nine and the eight are the record
   pub setting-bytes : (change : List ℕ) (end : ℕ) → change ≡ bytesOf 8 (g .«reportable_change») → end ≡ 9 + changeWidth t
-      → take end (nine direction id t g ++ eight change) ≡ encode (setting direction id t g)
+      → take end (nine direction id t g ++ eight change) ≡ encode (setting direction id t (sentAs t g))
   setting-bytes change end e n =
       ap (λ (k : ℕ). take k (nine direction id t g ++ eight change)) n
       ∙ take-append-add (nine direction id t g) (eight change) (changeWidth t)

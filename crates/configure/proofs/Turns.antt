@@ -18,6 +18,7 @@ use Rattle.frame.specs.declared.answer.Answer.{Answer}
 use Rattle.frame.specs.declared.answer.Refusal.{Refusal}
 use Rattle.frame.specs.declared.answer.Refusal.the-variants.{NotATable, ReplyTooLong}
 use Rattle.frame.specs.declared.command_identifier.CommandIdentifier.the-variants.{ConfigureReportingResponse}
+use Rattle.frame.specs.Status.{statusCode}
 use Rattle.frame.specs.Header.{replyHead}
 use Rattle.frame.specs.Answer.{refusalNumber, noState, seen, refused}
 use Rattle.frame.specs.Walk.{item}
@@ -37,8 +38,8 @@ use Rattle.reporting.specs.Table.{room, Table, sound, bad, live, tableOf, holdi
 use Rattle.reporting.specs.Events.{Event}
 use Rattle.reporting.proofs.Slots.{live-length}
 use Rattle.configure.specs.Request.{keyFor, received, reported, configureAt, configures}
-use Rattle.configure.specs.Configure.{Failure, encode, checked, setting, tried, configuring, configureEvents, left, configureOf}
-use Rattle.configure.specs.Inside.{failure, Left, Tries, Took, Missed, Runs}
+use Rattle.configure.specs.Configure.{Failure, failure, encode, checked, setting, tried, configuring, configureEvents, left, configureOf}
+use Rattle.configure.specs.Inside.{Left, Tries, Took, Missed, Runs}
 use Rattle.configure.proofs.Items.{ahead}
 use Rattle.configure.proofs.Settings.{fails-with}
 
@@ -49,14 +50,14 @@ some f = omega arith
 -- ---- one record
 
 module _ (s : List ℕ) (request : ZclHeader) (body : List ℕ) (at end : ℕ) (t : ReportingTable) where
-  pub took-received : (direction id : ℕ) → configureAt body at ≡ item (received direction id) end → Took s request body at end t UnreportableAttribute (failure UnreportableAttribute direction id) t
+  pub took-received : (direction id : ℕ) → configureAt body at ≡ item (received direction id) end → Took s request body at end t UnreportableAttribute (failure (statusCode UnreportableAttribute) direction id) t
   unfolding tried
   took-received direction id e =
       record { taken = received direction id; is = e; named = refl; does = fails-with (λ l es. tried 8 room s request l es (received direction id)) UnreportableAttribute (λ l es. refl) t }
 
   pub took-reported : (id kind : ℕ) (g : ReportingConfig) (status : Status) (u : ReportingTable) → configureAt body at ≡ item (reported id kind g) end
       → Tries (λ l es. checked (findOf 8 s (nameOf (request .«manufacturer_code» .0) id)) kind es (setting room l (keyFor s request id) g es)) t status u
-      → Took s request body at end t status (failure status 0 id) u
+      → Took s request body at end t status (failure (statusCode status) 0 id) u
   unfolding tried
   took-reported id kind g status u e c = record { taken = reported id kind g; is = e; named = refl; does = c }
 

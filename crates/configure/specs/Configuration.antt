@@ -1,6 +1,6 @@
 -- Read Reporting Configuration (document 01, "Commands, step by step", Read configuration; ZCL 2.5.9, 2.5.10). Assumes nothing: these are
 -- definitions.
-use Prim.Native.Nat.{ℕ}
+use Prim.Native.Nat.{ℕ, _*_, _%_, _^_}
 use mathlib.Core.Bool.{cond}
 use mathlib.Core.List.{List, [], _∷_, _++_}
 use mathlib.Core.Option.{Option, none, some}
@@ -8,7 +8,6 @@ use lib.Dec.{eqb}
 use Rattle.types.specs.Number.{bytesOf}
 use Rattle.frame.specs.declared.header.ZclHeader.{ZclHeader}
 use Rattle.frame.specs.declared.command_identifier.CommandIdentifier.the-variants.{ReadReportingConfigurationResponse}
-use Rattle.frame.specs.declared.status.Status.{Status}
 use Rattle.frame.specs.declared.status.Status.the-variants.{UnsupportedAttribute, UnreportableAttribute, NotFound}
 use Rattle.frame.specs.declared.answer.Refusal.the-variants.{NotATable}
 use Rattle.frame.specs.Status.{statusCode}
@@ -28,29 +27,38 @@ use Rattle.configure.specs.Request.{Asked, askedFrom, changeWidth, keyFo
 -- ---- the reply: a record for each that was asked
 
 pub data SettingRecord : Type 0 where
-  setting : ℕ → ℕ → ℕ → ReportingConfig → SettingRecord  -- direction, id, type, and what is configured
-  failure : Status → ℕ → ℕ → SettingRecord  -- status, direction, id
+  setting : ℕ → ℕ → ℕ → ReportingConfig → SettingRecord  -- direction, id, type, and what is configured as it is sent
+  failure : ℕ → ℕ → ℕ → SettingRecord  -- status as its byte, direction, id
 
 -- status (1), direction (1), id (2), and on success type (1), minimum (2), maximum (2) and, if analog, the change cut to its width
 unfoldable pub encode : SettingRecord → List ℕ
 encode (setting direction id t g) =
     0x00 ∷ direction ∷ bytesOf 2 id ++ t ∷ bytesOf 2 (g .«min_interval») ++ bytesOf 2 (g .«max_interval») ++ bytesOf (changeWidth t) (g .«reportable_change»)
-encode (failure why direction id) = statusCode why ∷ direction ∷ bytesOf 2 id
+encode (failure why direction id) = why ∷ direction ∷ bytesOf 2 id
 
 -- ---- one that was asked
 
+-- what is sent of a configuration beside a type: its change cut to the width that the type has, to 0 where there is no change field
+abbrev pub sentAs : ℕ → ReportingConfig → ReportingConfig
+sentAs t g =
+    record {
+      «min_interval» = g .«min_interval»;
+      «max_interval» = g .«max_interval»;
+      «reportable_change» = g .«reportable_change» % 2 ^ (8 * changeWidth t);
+    }
+
 -- no entry 8b
 abbrev pub settingBy : Option Entry → Asked → ℕ → SettingRecord
-settingBy none r t = failure NotFound (r .direction) (r .id)
-settingBy (some e) r t = setting (r .direction) (r .id) t (e .config)
+settingBy none r t = failure (statusCode NotFound) (r .direction) (r .id)
+settingBy (some e) r t = setting (r .direction) (r .id) t (sentAs t (e .config))
 
 -- not found 86; direction not 0, 8c; not reportable 8c
 unfoldable pub recordBy : List Entry → Key → Asked → Found → SettingRecord
-recordBy l k r Nothing = failure UnsupportedAttribute (r .direction) (r .id)
+recordBy l k r Nothing = failure (statusCode UnsupportedAttribute) (r .direction) (r .id)
 recordBy l k r (At a) =
     cond (eqb (r .direction) 0)
-    (cond (reportable a) (settingBy (lookupL k l) r (a .«type_id» .0)) (failure UnreportableAttribute (r .direction) (r .id)))
-    (failure UnreportableAttribute (r .direction) (r .id))
+    (cond (reportable a) (settingBy (lookupL k l) r (a .«type_id» .0)) (failure (statusCode UnreportableAttribute) (r .direction) (r .id)))
+    (failure (statusCode UnreportableAttribute) (r .direction) (r .id))
 
 unfoldable pub recordFor : ℕ → List ℕ → List Entry → ZclHeader → Asked → SettingRecord
 recordFor form s l request r = recordBy l (keyFor s request (r .id)) r (findOf form s (nameOf (request .«manufacturer_code» .0) (r .id)))

@@ -26,17 +26,20 @@ use Rattle.configure.specs.Request.{keyFor, ConfigureRecord, received, r
 -- ---- the reply: failures
 
 pub record Failure : Type 0 where
-  pub status : Status
+  pub status : ℕ  -- its byte
   pub direction : ℕ
   pub id : ℕ
 
+abbrev pub failure : ℕ → ℕ → ℕ → Failure
+failure why direction id = record { status = why; direction = direction; id = id }
+
 abbrev pub failing : Status → ConfigureRecord → Failure
-failing why (received direction id) = record { status = why; direction = direction; id = id }
-failing why (reported id t g) = record { status = why; direction = 0; id = id }
+failing why (received direction id) = failure (statusCode why) direction id
+failing why (reported id t g) = failure (statusCode why) 0 id
 
 -- status (1), direction (1), id (2)
 abbrev pub encode : Failure → List ℕ
-encode f = statusCode (f .status) ∷ f .direction ∷ bytesOf 2 (f .id)
+encode f = f .status ∷ f .direction ∷ bytesOf 2 (f .id)
 
 -- ---- a record: its status, and the events so far with its own behind them
 

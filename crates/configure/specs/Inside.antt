@@ -5,6 +5,7 @@ use mathlib.Core.List.{List, []}
 use Rattle.frame.specs.declared.header.ZclHeader.{ZclHeader}
 use Rattle.frame.specs.declared.status.Status.{Status}
 use Rattle.frame.specs.declared.failures.Pass.{Pass}
+use Rattle.frame.specs.Status.{statusCode}
 use Rattle.frame.specs.Walk.{Item, item, unread}
 use Rattle.frame.specs.Failures.{Did}
 use Rattle.frame.specs.Passes.{Passed}
@@ -18,7 +19,7 @@ use Rattle.reporting.specs.Events.{Event, run, Wish, clears, wrong, sets, statu
 use Rattle.configure.specs.declared.record.Next.{Next}
 use Rattle.configure.specs.declared.pass.Step.{Step}
 use Rattle.configure.specs.Request.{ConfigureRecord, received, reported, configureAt, configures, Asked, asked, askedAt}
-use Rattle.configure.specs.Configure.{Failure, failing, tried, configuring}
+use Rattle.configure.specs.Configure.{Failure, failure, failing, tried, configuring}
 use lib.ListN.{length}
 use Rattle.frame.specs.declared.answer.Answer.{Answer}
 use Rattle.frame.specs.declared.reply.Put.{Put}
@@ -35,9 +36,6 @@ abbrev pub itemOf : Next → Item ConfigureRecord
 itemOf (Next.Received direction id end) = item (received direction (id .0)) end
 itemOf (Next.Reported id t config end) = item (reported (id .0) (t .0) config) end
 itemOf Next.Cut = unread
-
-abbrev pub failure : Status → ℕ → ℕ → Failure
-failure why direction id = record { status = why; direction = direction; id = id }
 
 -- ---- a configuration and the table
 
@@ -81,7 +79,7 @@ pub record Missed (body : List ℕ) (at : ℕ) (t u : ReportingTable) : Type 0 w
   pub same : u ≡ t
 
 abbrev pub Steps : List ℕ → ZclHeader → List ℕ → ℕ → ReportingTable → Step → ReportingTable → Type 0
-Steps s request body at t (Step.Done end status direction id) u = Took s request body at end t status (failure status direction (id .0)) u
+Steps s request body at t (Step.Done end status direction id) u = Took s request body at end t status (failure (statusCode status) direction (id .0)) u
 Steps s request body at t Step.Cut u = Missed body at t u
 
 -- every record was done, in a table of these entries and behind whatever head the buffer showed

@@ -1,11 +1,12 @@
 // Read Reporting Configuration: a record of the reply for each that was asked, as long as they fit.
 ghost use mathlib.Core.Path.{_≡_};
 ghost use lib.ListN.{length};
+ghost use Rattle.frame.specs.Status.{statusCode};
 ghost use Rattle.frame.specs.Answer.{seen, noState};
 ghost use Rattle.frame.specs.Reply.{putting, put};
 ghost use Rattle.reporting.specs.Table.{tableOf};
 ghost use Rattle.configure.specs.Request.{askedAt};
-ghost use Rattle.configure.specs.Configuration.{setting, failure, encode, configurationOf};
+ghost use Rattle.configure.specs.Configuration.{setting, failure, encode, sentAs, configurationOf};
 ghost use Rattle.configure.specs.Inside.{askedItem, Answered, AllAnswered};
 use super::change::change_width;
 use frame::answer::Answer;
@@ -56,7 +57,7 @@ fn next_asked(body: &[u8], at: usize) -> NextAsked
 
 // Puts status, direction and id.
 fn put_failure(reply: &mut [u8], out: usize, why: Status, direction: u8, id: AttributeId) -> Put
-    ensures { λ r. ⌜ putting r (now (reply .exit)) ≡ put (now (reply .entry)) out (encode (failure why direction (id .0))) ⌝ }
+    ensures { λ r. ⌜ putting r (now (reply .exit)) ≡ put (now (reply .entry)) out (encode (failure (statusCode why) direction (id .0))) ⌝ }
 {
     let n = id.0;
     let four = [
@@ -77,7 +78,7 @@ fn put_setting(
     type_id: TypeId,
     config: ReportingConfig,
 ) -> Put
-    ensures { λ r. ⌜ putting r (now (reply .exit)) ≡ put (now (reply .entry)) out (encode (setting direction (id .0) («type_id» .0) config)) ⌝ }
+    ensures { λ r. ⌜ putting r (now (reply .exit)) ≡ put (now (reply .entry)) out (encode (setting direction (id .0) («type_id» .0) (sentAs («type_id» .0) config))) ⌝ }
 {
     let n = id.0;
     let min = config.min_interval;

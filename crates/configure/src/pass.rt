@@ -1,9 +1,10 @@
 // One pass over the records of a request: each is done, and its failure is listed in the reply.
 ghost use mathlib.Core.Path.{_≡_};
+ghost use Rattle.frame.specs.Status.{statusCode};
 ghost use Rattle.frame.specs.Reply.{putting};
 ghost use Rattle.frame.specs.Failures.{noting};
-ghost use Rattle.configure.specs.Configure.{encode};
-ghost use Rattle.configure.specs.Inside.{failure, Steps, Runs};
+ghost use Rattle.configure.specs.Configure.{failure, encode};
+ghost use Rattle.configure.specs.Inside.{Steps, Runs};
 use super::record::Next;
 use super::record::next_record;
 use super::settle::configure_one;
@@ -87,7 +88,7 @@ fn configure_turn(
 
 // Lists a failure: status, direction, id.
 fn note(reply: &mut [u8], out: usize, status: Status, direction: u8, id: AttributeId) -> Put
-    ensures { λ r. ⌜ putting r (now (reply .exit)) ≡ noting (now (reply .entry)) out status (encode (failure status direction (id .0))) ⌝ }
+    ensures { λ r. ⌜ putting r (now (reply .exit)) ≡ noting (now (reply .entry)) out status (encode (failure (statusCode status) direction (id .0))) ⌝ }
 {
     let n = id.0;
     let low = (n % 256) as u8;

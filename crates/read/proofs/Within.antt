@@ -3,6 +3,7 @@ use mathlib.Core.Path.{_≡_, refl}
 use mathlib.Core.Bool.{Bool, true, false, cond}
 use mathlib.Core.List.{List, [], map}
 use Prim.Native.Nat.{ℕ, _≤_}
+use Rattle.frame.specs.Status.{statusCode}
 use Rattle.frame.specs.Header.{replyHead}
 use Rattle.frame.specs.Shortened.{shortenedFrom}
 use Rattle.frame.specs.declared.header.ZclHeader.{ZclHeader}
@@ -25,7 +26,7 @@ unfolding recordBy
 record-id s fit id Nothing = refl
 record-id s fit id (At a) = go (fit (value id (a .«type_id» .0) (valueOf s a)))
   where
-    go : (b : Bool) → idOf (cond b (value id (a .«type_id» .0) (valueOf s a)) (failure id InsufficientSpace)) ≡ id
+    go : (b : Bool) → idOf (cond b (value id (a .«type_id» .0) (valueOf s a)) (failure id (statusCode InsufficientSpace))) ≡ id
     go true = refl
     go false = refl
 

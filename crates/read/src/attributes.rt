@@ -1,6 +1,7 @@
 // Read Attributes: an id at a time, a record of the reply for each, as long as they fit.
 ghost use mathlib.Core.Path.{_≡_};
 ghost use lib.ListN.{length};
+ghost use Rattle.frame.specs.Status.{statusCode};
 ghost use Rattle.frame.specs.Answer.{seen, noState};
 ghost use Rattle.frame.specs.Reply.{putting, put};
 ghost use Rattle.frame.specs.Shortened.{Turned, Walked};
@@ -44,7 +45,7 @@ fn next_id(body: &[u8], at: usize) -> NextId
 
 // Puts id and status.
 fn put_failure(reply: &mut [u8], out: usize, id: AttributeId, why: Status) -> Put
-    ensures { λ r. ⌜ putting r (now (reply .exit)) ≡ put (now (reply .entry)) out (encode (failure (id .0) why)) ⌝ }
+    ensures { λ r. ⌜ putting r (now (reply .exit)) ≡ put (now (reply .entry)) out (encode (failure (id .0) (statusCode why))) ⌝ }
 {
     let n = id.0;
     let three = [(n % 256) as u8, (n / 256 % 256) as u8, why.to_u8()];

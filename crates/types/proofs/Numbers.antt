@@ -92,12 +92,25 @@ le-room s at m i h p b =
     let q : 2 ^ (8 * (m - i)) ≤ 2 ^ 56 = pow-mono {i = 8 * (m - i)} {j = 56} (omega arith) in
     omega arith
 
+-- a number cut to one byte more: its low byte, and the rest of it cut
+cut-step : (w n : ℕ) → n % 2 ^ (8 * suc w) ≡ 256 * (n / 256 % 2 ^ (8 * w)) + n % 256
+cut-step w n = rw (pow-byte w, mul-comm 256 (2 ^ (8 * w)), mod-mul n (pow-pos (8 * w)) (pow-pos 8)) (omega arith)
+
 -- READING WHAT WAS WRITTEN gives the number cut to the width
 pub le-bytes : (w n : ℕ) → le (bytesOf w n) ≡ n % 2 ^ (8 * w)
 unfolding le bytesOf
 le-bytes zero n = sym (mod-one n)
-le-bytes (suc w) n =
-    rw (le-bytes w (n / 256), pow-byte w, mul-comm 256 (2 ^ (8 * w)), mod-mul n (pow-pos (8 * w)) (pow-pos 8)) (omega arith)
+le-bytes (suc w) n = rw (le-bytes w (n / 256), cut-step w n) (omega arith)
+
+-- the bytes of a number are those of the number cut to their width
+pub bytes-cut : (w n : ℕ) → bytesOf w (n % 2 ^ (8 * w)) ≡ bytesOf w n
+unfolding bytesOf
+bytes-cut zero n = refl
+bytes-cut (suc w) n =
+    let m : ℕ = n % 2 ^ (8 * suc w) in
+    let low : m % 256 ≡ n % 256 = omega (arith, cut-step w n) in
+    let high : m / 256 ≡ n / 256 % 2 ^ (8 * w) = omega (arith, cut-step w n) in
+    (λ i. low i ∷ bytesOf w (high i)) ∙ ap (λ (l : List ℕ). n % 256 ∷ l) (bytes-cut w (n / 256))
 
 -- the two ways of a signed reading
 sub-below : (n m : ℕ) → n < m → pos n -ℤ pos m ≡ negsuc (m - suc n)

@@ -6,6 +6,7 @@ use native.Mathlib.Omega.{arith}
 use lib.ListN.{length}
 use Rattle.frame.specs.declared.status.Status.{Status}
 use Rattle.frame.specs.declared.header.ZclHeader.{ZclHeader}
+use Rattle.frame.specs.Status.{statusCode}
 use Rattle.frame.specs.Walk.{item, Way, reached}
 use Rattle.frame.specs.Failures.{did, Doing, Sofar, sofar, also, passFrom, pass, always}
 use Rattle.frame.specs.Passes.{TookOne, TookNone}
@@ -43,7 +44,7 @@ by-task Task.Write form request s r = refl
 
 pub took-one : (task : Task) (form : ℕ) (request : ZclHeader) (s body : List ℕ) (at end : ℕ) (r : WriteRecord) (name : ℕ) (status : Status) (t : List ℕ)
     → recordAt body at ≡ item r end → name ≡ nameOf (request .«manufacturer_code» .0) (r .id) → wrote status t ≡ taskOf task form s name (r .type) (r .value)
-    → TookOne (doingOf task form request) (recordAt body) s at end status (failure status (r .id)) t
+    → TookOne (doingOf task form request) (recordAt body) s at end status (failure (statusCode status) (r .id)) t
 took-one task form request s body at end r name status t is named does = record {
   taken = r;
   is = is;

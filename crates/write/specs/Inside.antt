@@ -6,6 +6,7 @@ use lib.ListN.{take, drop}
 use lib.Dec.{eqb}
 use Rattle.frame.specs.declared.header.ZclHeader.{ZclHeader}
 use Rattle.frame.specs.declared.failures.Pass.{Pass}
+use Rattle.frame.specs.Status.{statusCode}
 use Rattle.frame.specs.Walk.{Item, item, unread}
 use Rattle.frame.specs.Failures.{Doing}
 use Rattle.frame.specs.Passes.{TookOne, TookNone}
@@ -36,7 +37,7 @@ doingOf task form request = listing (wroteBy task form request)
 
 -- the record at a place was read and done, or none could be read
 abbrev pub Took : Doing (List ℕ) WriteRecord Failure → List ℕ → List ℕ → ℕ → Step → List ℕ → Type 0
-Took doing s body at (Step.Done end status id) t = TookOne doing (recordAt body) s at end status (failure status (id .0)) t
+Took doing s body at (Step.Done end status id) t = TookOne doing (recordAt body) s at end status (failure (statusCode status) (id .0)) t
 Took doing s body at Step.Cut t = TookNone (recordAt body) s at t
 
 -- a pass took every record and listed none

@@ -1,5 +1,6 @@
 // One pass over the records of a request: each is written, or only checked, and its failure is listed in the reply.
 ghost use mathlib.Core.Path.{_≡_};
+ghost use Rattle.frame.specs.Status.{statusCode};
 ghost use Rattle.frame.specs.Walk.{reached};
 ghost use Rattle.frame.specs.Reply.{putting};
 ghost use Rattle.frame.specs.Failures.{pass, always, noting};
@@ -78,7 +79,7 @@ fn record_turn(store: &mut [u8], task: Task, request: ZclHeader, body: &[u8], at
 
 // Lists a failure: its status and the attribute.
 fn note(reply: &mut [u8], out: usize, status: Status, id: AttributeId) -> Put
-    ensures { λ r. ⌜ putting r (now (reply .exit)) ≡ noting (now (reply .entry)) out status (encode (failure status (id .0))) ⌝ }
+    ensures { λ r. ⌜ putting r (now (reply .exit)) ≡ noting (now (reply .entry)) out status (encode (failure (statusCode status) (id .0))) ⌝ }
 {
     let n = id.0;
     let three = [status.to_u8(), (n % 256) as u8, (n / 256 % 256) as u8];

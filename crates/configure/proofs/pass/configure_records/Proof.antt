@@ -5,9 +5,10 @@ use Prim.Native.Nat.{ℕ, _-_}
 use native.Mathlib.Omega.{arith}
 use lib.ListN.{length}
 use denote.Ref.{now}
+use Rattle.frame.specs.Status.{statusCode}
 use Rattle.configure.specs.declared.pass.Step.{Step}
-use Rattle.configure.specs.Configure.{Failure}
-use Rattle.configure.specs.Inside.{failure, Took, Steps}
+use Rattle.configure.specs.Configure.{Failure, failure}
+use Rattle.configure.specs.Inside.{Took, Steps}
 use Rattle.configure.proofs.Items.{ahead}
 use Rattle.configure.proofs.Turns.{Goes, goes-first, goes-done, goes-cut, goes-more, goes-stop}
 use Rattle.configure.proofs.pass.configure_records.Statement.{statement}
@@ -31,7 +32,7 @@ abbrev End : tie.After-step Inv-loop μ-loop → ℕ
 End c = c .step .given .0 .0
 
 abbrev Fails : tie.After-step Inv-loop μ-loop → Failure
-Fails c = failure (c .step .given .0 .1 .0) (c .step .given .0 .1 .1 .0) (c .step .given .0 .1 .1 .1 .0 .0)
+Fails c = failure (statusCode (c .step .given .0 .1 .0)) (c .step .given .0 .1 .1 .0) (c .step .given .0 .1 .1 .1 .0 .0)
 
 took : (c : tie.After-step Inv-loop μ-loop) → Took (now (c .before .before .before .before .before .before .before .before .before .args .store)) (c .before .before .before .before .before .before .before .before .before .args .request) (now (c .before .before .before .before .before .before .before .before .before .args .body)) (c .before .before .before .before .before .loop .at) (End c) (c .before .before .before .before .before .loop .kept) (c .step .given .0 .1 .0) (Fails c) (c .before .before .before .configure-turn .result .table)
 took c = did (c .before .before) (Step.Done (End c) (c .step .given .0 .1 .0) (c .step .given .0 .1 .1 .0) (c .step .given .0 .1 .1 .1 .0)) (c .step .given .1)

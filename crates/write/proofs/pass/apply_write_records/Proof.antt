@@ -5,6 +5,7 @@ use native.Mathlib.Omega.{arith}
 use lib.ListN.{length}
 use denote.Ref.{now}
 use borrow.Author.Needs.{needs}
+use Rattle.frame.specs.Status.{statusCode}
 use Rattle.frame.specs.Passes.{TookOne}
 use Rattle.frame.proofs.Passes.{took-ahead}
 use Rattle.write.specs.declared.pass.Step.{Step}
@@ -35,7 +36,7 @@ abbrev End : tie.After-end Inv-loop μ-loop → ℕ
 End c = c .end .given .0 .0
 
 abbrev Fails : tie.After-end Inv-loop μ-loop → Failure
-Fails c = failure (c .end .given .0 .1 .0) (c .end .given .0 .1 .1 .0 .0)
+Fails c = failure (statusCode (c .end .given .0 .1 .0)) (c .end .given .0 .1 .1 .0 .0)
 
 took : (c : tie.After-end Inv-loop μ-loop) → TookOne (writing 8 (c .before .before .before .before .before .before .before .before .before .before .args .request)) (recordAt (now (c .before .before .before .before .before .before .before .before .before .before .args .body))) (c .before .before .before .before .before .before .before .loop .store) (c .before .before .before .before .before .before .before .loop .at) (End c) (c .end .given .0 .1 .0) (Fails c) (c .before .before .before .before .record-turn .last .0)
 took c = did (c .before .before) (Step.Done (End c) (c .end .given .0 .1 .0) (c .end .given .0 .1 .1 .0)) (c .end .given .1)
