@@ -29,7 +29,8 @@ use Rattle.configure.specs.Configuration.{SettingRecord, setting, failur
 
 module _ (r : Asked) (t : ℕ) where
   -- it gives a configuration: the record has it, as it is sent
-  setting-given : (o : Option Entry) (g : ReportingConfig) → settingTold (SettingV.Given g) ≡ settingO o → settingBy o r t ≡ setting (r .direction) (r .id) t (sentAs t g)
+  setting-given : (o : Option Entry) (g : ReportingConfig) → settingTold (SettingV.Given g) ≡ settingO o
+      → settingBy o r t ≡ setting (r .direction) (r .id) t (sentAs t g)
   setting-given none g e = absurd (true≢false (ap (λ (y : SettingTold). y .found) e))
   setting-given (some x) g e = ap (λ (y : ReportingConfig). setting (r .direction) (r .id) t (sentAs t y)) (sym (ap (λ (y : SettingTold). y .configuration) e))
 

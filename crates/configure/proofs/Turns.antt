@@ -50,7 +50,8 @@ some f = omega arith
 -- ---- one record
 
 module _ (s : List ℕ) (request : ZclHeader) (body : List ℕ) (at end : ℕ) (t : ReportingTable) where
-  pub took-received : (direction id : ℕ) → configureAt body at ≡ item (received direction id) end → Took s request body at end t UnreportableAttribute (failure (statusCode UnreportableAttribute) direction id) t
+  pub took-received : (direction id : ℕ) → configureAt body at ≡ item (received direction id) end
+      → Took s request body at end t UnreportableAttribute (failure (statusCode UnreportableAttribute) direction id) t
   unfolding tried
   took-received direction id e =
       record { taken = received direction id; is = e; named = refl; does = fails-with (λ l es. tried 8 room s request l es (received direction id)) UnreportableAttribute (λ l es. refl) t }
