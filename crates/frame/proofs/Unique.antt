@@ -2,26 +2,12 @@
 -- entry values. Assumes nothing.
 use Prim.Native.Nat.{ℕ}
 use mathlib.Core.Path.{_≡_, sym, _∙_}
-use mathlib.Core.Bool.{Bool}
-use mathlib.Core.List.{List, [], _∷_}
-use lib.ListN.{length}
-use Rattle.frame.specs.Answer.{refusalNumber, answerNumber, answerLength, noState, seen, refused}
-use Rattle.frame.specs.CommandIdentifier.{commandCode, commandOf}
-use Rattle.frame.specs.Reply.{putting, put}
-use Rattle.frame.specs.Failures.{noting, concludedAt}
-use Rattle.types.specs.Number.{zeros, bytesOf}
-use Rattle.frame.specs.Header.{frameTypeOf, hasCode, headerOf, replyHead}
-use Rattle.frame.specs.Status.{statusCode}
-use Rattle.frame.specs.declared.answer.Refusal.{Refusal}
+use mathlib.Core.List.{List}
+use Rattle.frame.specs.Answer.{noState, seen}
 use Rattle.frame.specs.declared.answer.Answer.{Answer}
-use Rattle.frame.specs.declared.command_identifier.CommandIdentifier.{CommandIdentifier}
-use Rattle.frame.specs.declared.failures.Pass.{Pass}
-use Rattle.frame.specs.declared.header.FrameControl.{FrameControl}
-use Rattle.frame.specs.declared.header.FrameType.{FrameType}
-use Rattle.frame.specs.declared.header.ZclHeader.{ZclHeader}
-use Rattle.frame.specs.declared.header.HeaderRead.{HeaderRead}
-use Rattle.frame.specs.declared.reply.Put.{Put}
-use Rattle.frame.specs.declared.status.Status.{Status}
+use Rattle.frame.specs.Unique.{RefusalNumberOnce, AnswerNumberOnce, ReplyLenOnce, RefuseOnce, FromBitsOnce, RawOnce, ListFailureOnce, ConcludeOnce}
+use Rattle.frame.specs.Unique.{FrameTypeOnce, IsManufacturerSpecificOnce, ReadHeaderOnce, WriteResponseHeaderOnce, BeginReplyOnce, ClearOnce, PutRunOnce}
+use Rattle.frame.specs.Unique.{PutByteOnce, PutU16Once, ToU8Once}
 use Rattle.frame.proofs.Outcome.{seen-same, putting-same}
 
 -- the laws of what a contract sees
@@ -31,69 +17,61 @@ pub answered-same : (a b : Answer) (d e : List ℕ) → seen a d noState ≡ see
 answered-same a b d e p = let w = seen-same a b d e noState noState p in (w .0, w .1 .0)
 
 -- src/answer.rt
-pub refusal-number-once : (self : Refusal) (r q : ℕ) → r ≡ refusalNumber self → q ≡ refusalNumber self → r ≡ q
+pub refusal-number-once : RefusalNumberOnce
 refusal-number-once self r q e f = e ∙ sym f
 
-pub answer-number-once : (self : Answer) (r q : ℕ) → r ≡ answerNumber self → q ≡ answerNumber self → r ≡ q
+pub answer-number-once : AnswerNumberOnce
 answer-number-once self r q e f = e ∙ sym f
 
-pub reply-len-once : (self : Answer) (r q : ℕ) → r ≡ answerLength self → q ≡ answerLength self → r ≡ q
+pub reply-len-once : ReplyLenOnce
 reply-len-once self r q e f = e ∙ sym f
 
-pub refuse-once : (reply : List ℕ) (why : Refusal) (r q : Answer) (x y : List ℕ) → seen r x noState ≡ refused (length reply) why noState
-    → seen q y noState ≡ refused (length reply) why noState → (r ≡ q) × (x ≡ y)
+pub refuse-once : RefuseOnce
 refuse-once reply why r q x y e f = answered-same r q x y (e ∙ sym f)
 
 -- src/command_identifier.rt
-pub from-bits-once : (b : ℕ) (r q : CommandIdentifier) → r ≡ commandOf b → q ≡ commandOf b → r ≡ q
+pub from-bits-once : FromBitsOnce
 from-bits-once b r q e f = e ∙ sym f
 
-pub raw-once : (self : CommandIdentifier) (r q : ℕ) → r ≡ commandCode self → q ≡ commandCode self → r ≡ q
+pub raw-once : RawOnce
 raw-once self r q e f = e ∙ sym f
 
 -- src/failures.rt
-pub list-failure-once : (reply : List ℕ) (out : ℕ) (status : Status) (failure : List ℕ) (r q : Put) (x y : List ℕ) → putting r x ≡ noting reply out status failure
-    → putting q y ≡ noting reply out status failure → (r ≡ q) × (x ≡ y)
+pub list-failure-once : ListFailureOnce
 list-failure-once reply out status failure r q x y e f = putting-same r q x y (e ∙ sym f)
 
-pub conclude-once : (reply : List ℕ) (start : ℕ) (done : Pass) (r q : Answer) (x y : List ℕ) → seen r x noState ≡ concludedAt reply start done
-    → seen q y noState ≡ concludedAt reply start done → (r ≡ q) × (x ≡ y)
+pub conclude-once : ConcludeOnce
 conclude-once reply start done r q x y e f = answered-same r q x y (e ∙ sym f)
 
 -- src/header.rt
-pub frame-type-once : (self : FrameControl) (r q : FrameType) → r ≡ frameTypeOf (self .0) → q ≡ frameTypeOf (self .0) → r ≡ q
+pub frame-type-once : FrameTypeOnce
 frame-type-once self r q e f = e ∙ sym f
 
-pub is-manufacturer-specific-once : (self : FrameControl) (r q : Bool) → r ≡ hasCode (self .0) → q ≡ hasCode (self .0) → r ≡ q
+pub is-manufacturer-specific-once : IsManufacturerSpecificOnce
 is-manufacturer-specific-once self r q e f = e ∙ sym f
 
-pub read-header-once : (frame : List ℕ) (r q : HeaderRead) → r ≡ headerOf frame → q ≡ headerOf frame → r ≡ q
+pub read-header-once : ReadHeaderOnce
 read-header-once frame r q e f = e ∙ sym f
 
-pub write-response-header-once : (reply : List ℕ) (request : ZclHeader) (command : CommandIdentifier) (r q : Put) (x y : List ℕ) → putting r x ≡ put reply 0 (replyHead request command)
-    → putting q y ≡ put reply 0 (replyHead request command) → (r ≡ q) × (x ≡ y)
+pub write-response-header-once : WriteResponseHeaderOnce
 write-response-header-once reply request command r q x y e f = putting-same r q x y (e ∙ sym f)
 
-pub begin-reply-once : (reply : List ℕ) (request : ZclHeader) (command : CommandIdentifier) (r q : Put) (x y : List ℕ) → putting r x ≡ put (zeros (length reply)) 0 (replyHead request command)
-    → putting q y ≡ put (zeros (length reply)) 0 (replyHead request command) → (r ≡ q) × (x ≡ y)
+pub begin-reply-once : BeginReplyOnce
 begin-reply-once reply request command r q x y e f = putting-same r q x y (e ∙ sym f)
 
 -- src/reply.rt
-pub clear-once : (buffer : List ℕ) (x y : List ℕ) → x ≡ zeros (length buffer) → y ≡ zeros (length buffer) → x ≡ y
+pub clear-once : ClearOnce
 clear-once buffer x y e f = e ∙ sym f
 
-pub put-run-once : (buffer : List ℕ) (at : ℕ) (bytes : List ℕ) (r q : Put) (x y : List ℕ) → putting r x ≡ put buffer at bytes
-    → putting q y ≡ put buffer at bytes → (r ≡ q) × (x ≡ y)
+pub put-run-once : PutRunOnce
 put-run-once buffer at bytes r q x y e f = putting-same r q x y (e ∙ sym f)
 
-pub put-byte-once : (buffer : List ℕ) (at b : ℕ) (r q : Put) (x y : List ℕ) → putting r x ≡ put buffer at (b ∷ [])
-    → putting q y ≡ put buffer at (b ∷ []) → (r ≡ q) × (x ≡ y)
+pub put-byte-once : PutByteOnce
 put-byte-once buffer at b r q x y e f = putting-same r q x y (e ∙ sym f)
 
-pub put-u16-once : (buffer : List ℕ) (at x : ℕ) (r q : Put) (u v : List ℕ) → putting r u ≡ put buffer at (bytesOf 2 x)
-    → putting q v ≡ put buffer at (bytesOf 2 x) → (r ≡ q) × (u ≡ v)
+pub put-u16-once : PutU16Once
 put-u16-once buffer at x r q u v e f = putting-same r q u v (e ∙ sym f)
 
 -- src/status.rt
-pub to-u8-once : (self : Status) (r q : ℕ) → r ≡ statusCode self → q ≡ statusCode self → r ≡ q
+pub to-u8-once : ToU8Once
 to-u8-once self r q e f = e ∙ sym f

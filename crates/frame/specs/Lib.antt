@@ -10,3 +10,4 @@ pub mod Sized
 pub mod Shortened
 pub mod Failures
 pub mod Passes
+pub mod Unique  -- no second answer fits a contract

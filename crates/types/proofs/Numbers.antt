@@ -14,11 +14,7 @@ use lib.Dec.{ltb}
 use lib.IntN.{ℤ, pos, negsuc, negℤ, natAbs, _+ℤ_, _-ℤ_}
 use lib.Signed.{mag, _≤ℤ_, _<ℤ_}
 use borrow.Author.Tests.{lt-ltb, le-ltb}
-use Rattle.types.specs.Number.{le, bytesOf, unsignedAt, signedAt, signedOf}
-
--- every element is a byte
-abbrev pub Bytes : List ℕ → Type 0
-Bytes l = (i : ℕ) → getD l i 0 < 256
+use Rattle.types.specs.Number.{AllBytes, le, bytesOf, unsignedAt, signedAt, signedOf}
 
 pub pow-byte : (w : ℕ) → 2 ^ (8 * suc w) ≡ 256 * 2 ^ (8 * w)
 pow-byte w = ap (λ k. 2 ^ k) (mul-suc 8 w) ∙ pow-add 2 (8 * w) 8 ∙ mul-comm (2 ^ (8 * w)) 256
@@ -29,7 +25,7 @@ pow-half w h =
     ap (λ k. 2 ^ k) e ∙ pow-suc 2 (8 * w - 1) ∙ mul-comm (2 ^ (8 * w - 1)) 2
 
 -- THE VALUE IS BELOW 256 ^ w
-pub le-below : (w : ℕ) (l : List ℕ) → Bytes l → le (take w l) < 2 ^ (8 * w)
+pub le-below : (w : ℕ) (l : List ℕ) → AllBytes l → le (take w l) < 2 ^ (8 * w)
 unfolding le
 le-below zero l h = pow-pos 0
 le-below (suc w) [] h = pow-pos (8 * suc w)
@@ -38,10 +34,10 @@ le-below (suc w) (x ∷ xs) h =
     let b : x < 256 = h 0 in
     rw (pow-byte w) (omega arith)
 
-pub bytes-drop : (s : List ℕ) (at : ℕ) → Bytes s → Bytes (drop at s)
+pub bytes-drop : (s : List ℕ) (at : ℕ) → AllBytes s → AllBytes (drop at s)
 bytes-drop s at h i = rw (getD-drop at s i 0) (h (at + i))
 
-pub unsigned-below : (s : List ℕ) (at w : ℕ) → Bytes s → unsignedAt s at w < 2 ^ (8 * w)
+pub unsigned-below : (s : List ℕ) (at w : ℕ) → AllBytes s → unsignedAt s at w < 2 ^ (8 * w)
 unfolding unsignedAt
 unsigned-below s at w h = le-below w (drop at s) (bytes-drop s at h)
 
@@ -86,7 +82,7 @@ le-step s at m i h k b =
     rw (e, f, drop-cons s (at + (i - 1)) 0 (omega arith)) (omega arith)
 
 -- a number that can take one byte more
-pub le-room : (s : List ℕ) (at m i : ℕ) → Bytes s → 0 < i → m ≤ 8 → le (take (m - i) (drop (at + i) s)) < 2 ^ 56
+pub le-room : (s : List ℕ) (at m i : ℕ) → AllBytes s → 0 < i → m ≤ 8 → le (take (m - i) (drop (at + i) s)) < 2 ^ 56
 le-room s at m i h p b =
     let u = le-below (m - i) (drop (at + i) s) (bytes-drop s (at + i) h) in
     let q : 2 ^ (8 * (m - i)) ≤ 2 ^ 56 = pow-mono {i = 8 * (m - i)} {j = 56} (omega arith) in

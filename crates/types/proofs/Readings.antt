@@ -1,20 +1,21 @@
 -- What readings with and without a sign say, once over every width. Assumes nothing.
-use Prim.Native.Nat.{ℕ, zero, suc, _+_, _-_, _*_, _/_, _%_, _^_, _≤_, _<_, min}
+use Prim.Native.Nat.{ℕ, zero, suc, _+_, _-_, _*_, _/_, _%_, _^_, _≤_, _<_}
 use mathlib.Core.Path.{_≡_, refl, ap, sym, _∙_, subst}
 use mathlib.Core.Bool.{Bool, true, false}
-use mathlib.Core.List.{List, [], _∷_, _++_, append-assoc}
+use mathlib.Core.List.{_∷_, _++_, append-assoc}
 use native.Mathlib.Omega.{arith}
 use native.Mathlib.Nat.{mod-lt, mod-eq-of-lt}
 use lib.Arith.{comp-comp}
-use lib.ListN.{length, getD, take, drop}
-use lib.Seq.{sets, sets-eq, drop-at, take-at, length-take-le}
+use lib.ListN.{length, take, drop}
+use lib.Seq.{sets-eq, drop-at, take-at, length-take-le}
 use lib.Pow.{pow-pos}
-use lib.Dec.{T, ltb, leb, le→leb, lt→ltb}
-use lib.IntN.{ℤ, pos, negsuc, negℤ, natAbs}
+use lib.Dec.{ltb, le→leb, lt→ltb}
+use lib.IntN.{ℤ, pos, negsuc, negℤ}
 use lib.Signed.{mag, _≤ℤ_, _<ℤ_, natAbs-le}
 use borrow.Author.Tests.{ltb-true, ltb-false}
 use Rattle.types.specs.Number.{le, bytesOf, unsignedAt, signedAt, signedOf, residue}
-use Rattle.types.proofs.Numbers.{Bytes, pow-half, le-bytes, length-bytes, signed-low, signed-high, unsigned-below}
+use Rattle.types.specs.Readings.{SignedWithin, MagnitudeWithin, UnsignedNotNegative, ReadingsAgree, UnsignedPut, SignedPut}
+use Rattle.types.proofs.Numbers.{pow-half, le-bytes, length-bytes, signed-low, signed-high, unsigned-below}
 
 -- a claim about a signed reading: one proof below the half, one from it on
 module _ (w n : ℕ) (C : ℤ → Type 0) (low : n < 2 ^ (8 * w - 1) → C (pos n)) (high : 2 ^ (8 * w - 1) ≤ n → C (negsuc (2 ^ (8 * w) - suc n))) where
@@ -40,17 +41,17 @@ in-order (pos n) (suc h) b = (record { le = tt }, record { lt = lt→ltb n (suc 
 in-order (negsuc n) (suc h) b = (record { le = le→leb n h (omega arith) }, record { lt = tt })
 
 -- A SIGNED READING of w bytes lies within -2 ^ (8 w - 1) .. 2 ^ (8 w - 1) - 1
-pub signed-within : (s : List ℕ) (at w : ℕ) → Bytes s → (negℤ (pos (2 ^ (8 * w - 1))) ≤ℤ signedAt s at w) × (signedAt s at w <ℤ pos (2 ^ (8 * w - 1)))
+pub signed-within : SignedWithin
 unfolding signedAt
 signed-within s at w h = in-order (signedOf w (unsignedAt s at w)) (2 ^ (8 * w - 1)) (signed-in w (unsignedAt s at w) (unsigned-below s at w h))
 
 -- and without its sign is at most 2 ^ (8 w - 1)
-pub magnitude-within : (s : List ℕ) (at w : ℕ) → Bytes s → natAbs (signedAt s at w) ≤ 2 ^ (8 * w - 1)
+pub magnitude-within : MagnitudeWithin
 unfolding signedAt
 magnitude-within s at w h = natAbs-le (signedOf w (unsignedAt s at w)) (signed-in w (unsignedAt s at w) (unsigned-below s at w h))
 
 -- AN UNSIGNED READING is never negative
-pub unsigned-not-negative : (s : List ℕ) (at w : ℕ) → pos 0 ≤ℤ pos (unsignedAt s at w)
+pub unsigned-not-negative : UnsignedNotNegative
 unsigned-not-negative s at w = record { le = le→leb 0 (unsignedAt s at w) (omega arith) }
 
 -- BOTH READINGS AGREE to the modulus 2 ^ (8 w)
@@ -62,7 +63,7 @@ residue-signed w n b =
     (λ h. let u : 2 ^ (8 * w) - suc n < 2 ^ (8 * w) = omega arith in ap (λ k. 2 ^ (8 * w) - suc k) (mod-eq-of-lt u) ∙ comp-comp b)
     b
 
-pub readings-agree : (s : List ℕ) (at w : ℕ) → Bytes s → residue (2 ^ (8 * w)) (signedAt s at w) ≡ unsignedAt s at w
+pub readings-agree : ReadingsAgree
 unfolding signedAt
 readings-agree s at w h = residue-signed w (unsignedAt s at w) (unsigned-below s at w h)
 
@@ -78,7 +79,7 @@ signed-residue w (negsuc n) h b =
     rw (mod-eq-of-lt l) (signed-high w (2 ^ (8 * w) - suc n) (omega arith) (omega arith) ∙ ap negsuc (comp-comp l))
 
 -- READING WHAT WAS WRITTEN gives the number cut to the width
-pub unsigned-put : (l : List ℕ) (at w n : ℕ) → at + w ≤ length l → unsignedAt (sets l at (bytesOf w n)) at w ≡ n % 2 ^ (8 * w)
+pub unsigned-put : UnsignedPut
 unfolding unsignedAt
 unsigned-put l at w n h =
     let k = length-bytes w n in
@@ -92,7 +93,7 @@ unfolding residue
 residue-below w (pos n) = mod-lt n (pow-pos (8 * w))
 residue-below w (negsuc n) = let o = pow-pos (8 * w) in omega arith
 
-pub signed-put : (l : List ℕ) (at w : ℕ) (z : ℤ) → 0 < w → mag z < 2 ^ (8 * w - 1) → at + w ≤ length l → signedAt (sets l at (bytesOf w (residue (2 ^ (8 * w)) z))) at w ≡ z
+pub signed-put : SignedPut
 unfolding signedAt
 signed-put l at w z p b h =
     ap (signedOf w) (unsigned-put l at w (residue (2 ^ (8 * w)) z) h ∙ mod-eq-of-lt (residue-below w z))

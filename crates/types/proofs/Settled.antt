@@ -11,15 +11,11 @@ use Rattle.types.specs.declared.ids.Form.the-variants.{Fixed, Text, Long
 use Rattle.types.specs.Extent.{upto, times, andThen, byForm, valueAt, series, structure, member, countBy, count, text, extentOf}
 use Rattle.types.specs.declared.extent.Extent.{Extent}
 use Rattle.types.specs.declared.extent.Extent.the-variants.{End, Cut, Without}
+use Rattle.types.specs.Settled.{NotCut, ExtentSettled}
 use Rattle.types.proofs.Extents.{upto-in, upto-end}
 use Rattle.types.proofs.Ends.{no-cut}
 use Rattle.types.proofs.Follows.{before-more, count-within, member-follows}
 use Rattle.types.proofs.Stable.{Keeps, keeps-end, keeps-bytes, keeping, behind-keeps, extent-stable, without-stable}
-
-abbrev pub NotCut : Extent → Type 0
-NotCut (End e) = Unit {0}
-NotCut Cut = ⊥
-NotCut Without = Unit {0}
 
 -- some bytes behind s settle what r says of it at p
 abbrev pub Settled : (List ℕ → ℕ → Extent) → List ℕ → ℕ → Type 0
@@ -125,7 +121,7 @@ no-without : {A : Type 0} → Cut ≡ Without → A
 no-without h = let z : _≡_ {A = ℕ} 0 1 = cc in absurd (omega arith)
 
 -- THE LAW: some bytes behind any slice settle any value
-pub extent-settled : (s : List ℕ) (p t : ℕ) → (b : List ℕ) × NotCut (extentOf (s ++ b) p t)
+pub extent-settled : ExtentSettled
 extent-settled s p t = value-settled 15 t s p
 
 -- and a value that is cut with more bytes was cut without them

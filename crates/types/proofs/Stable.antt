@@ -16,6 +16,7 @@ use Rattle.types.specs.declared.extent.Extent.the-variants.{End, Cut, Wi
 use mathlib.Core.Bool.{Bool, true, false, cond}
 use lib.Dec.{leb}
 use borrow.Author.Tests.{leb-true, leb-false, lt-leb}
+use Rattle.types.specs.Settled.{ExtentStable, WithoutStable}
 use Rattle.types.proofs.Extents.{upto-in, upto-out}
 use Rattle.types.proofs.Follows.{Within, before-more, after-more, Compares, value-follows}
 
@@ -52,10 +53,10 @@ keeping k s l w = record { within = w; ends = λ e. refl; none = refl; steps = k
 pub behind-keeps : (d : ℕ) (a b : List ℕ) (t p : ℕ) → Keeps 0 (valueAt d a t p) (valueAt d (a ++ b) t p)
 behind-keeps d a b t p = rw zero-add at (value-follows 0 a (a ++ b) (Keeps 0) (keeping 0 a (a ++ b) (before-more a b)) d t p)
 
-pub extent-stable : (a b : List ℕ) (p t e : ℕ) → extentOf a p t ≡ End e → extentOf (a ++ b) p t ≡ End e
+pub extent-stable : ExtentStable
 extent-stable a b p t e h = keeps-end 0 (extentOf a p t) (extentOf (a ++ b) p t) e (behind-keeps 15 a b t p) h ∙ ap End (zero-add e)
 
-pub without-stable : (a b : List ℕ) (p t : ℕ) → extentOf a p t ≡ Without → extentOf (a ++ b) p t ≡ Without
+pub without-stable : WithoutStable
 without-stable a b p t h = keeps-without 0 (extentOf a p t) (extentOf (a ++ b) p t) (behind-keeps 15 a b t p) h
 
 -- ---- bytes in front: every answer is the same, moved

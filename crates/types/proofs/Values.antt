@@ -8,9 +8,8 @@ use lib.Pow.{pow-mono}
 use lib.Dec.{leb}
 use lib.IntN.{ℤ, pos, natAbs}
 use borrow.Author.Tests.{le-leb, lt-leb, leb-true, leb-false}
-use Rattle.types.specs.Number.{unsignedAt, signedAt, signedOf}
+use Rattle.types.specs.Number.{AllBytes, unsignedAt, signedAt, signedOf}
 use Rattle.types.proofs.Numbers.{unsigned-below, signed-low}
-use Rattle.types.proofs.Numbers.{Bytes as AllBytes}
 use Rattle.types.specs.Ids.{sizeOf, isSigned, isFloat}
 use Rattle.types.specs.Value.{numberAt, numberBy, plainAt, changeAt, changeBy}
 use Rattle.types.specs.declared.ids.Size.{Size}

@@ -1,15 +1,19 @@
 -- Numbers of w bytes, the low byte first; every definition is over the width, and widths 1 to 8 are used.
 -- Assumes nothing: these are definitions.
-use Prim.Native.Nat.{ℕ, zero, suc, _+_, _-_, _*_, _/_, _%_, _^_, min}
+use Prim.Native.Nat.{ℕ, zero, suc, _+_, _-_, _*_, _/_, _%_, _^_, _<_, min}
 use mathlib.Core.Bool.{Bool, true, false, cond, _&&_}
 use mathlib.Core.List.{List, [], _∷_}
-use lib.ListN.{take, drop, replicate}
+use lib.ListN.{getD, take, drop, replicate}
 use lib.Dec.{ltb, eqb}
 use lib.IntN.{ℤ, pos, negsuc, _-ℤ_}
 
 -- n bytes 0
 abbrev pub zeros : ℕ → List ℕ
 zeros n = replicate n 0
+
+-- every element is a byte
+abbrev pub AllBytes : List ℕ → Type 0
+AllBytes l = (i : ℕ) → getD l i 0 < 256
 
 -- whether all bytes are 0
 unfoldable pub allZero : List ℕ → Bool
