@@ -10,14 +10,14 @@ use lib.ListN.{length, getD, take, drop, length-append, length-drop}
 use lib.Seq.{take-at, drop-at, take-add}
 use lib.Dec.{eqb}
 use borrow.Author.Tests.{eqb-true}
-use Rattle.types.specs.Number.{allZero, zeros, le, bytesOf}
-use Rattle.types.proofs.Numbers.{Bytes, bytes-drop, le-below, le-bytes, length-bytes}
+use Rattle.types.specs.Number.{AllBytes, allZero, zeros, le, bytesOf}
+use Rattle.types.proofs.Numbers.{bytes-drop, le-below, le-bytes, length-bytes}
 use Rattle.reporting.specs.Carried.{total, laid, numbersIn, rowsLaid, rowsIn}
 
 -- ---- one number
 
 -- BYTES TO A NUMBER AND BACK
-pub bytes-le : (w : ℕ) (bs : List ℕ) → Bytes bs → w ≤ length bs → bytesOf w (le (take w bs)) ≡ take w bs
+pub bytes-le : (w : ℕ) (bs : List ℕ) → AllBytes bs → w ≤ length bs → bytesOf w (le (take w bs)) ≡ take w bs
 unfolding bytesOf le
 bytes-le zero bs h k = refl
 bytes-le (suc w) [] h k = absurd (omega arith)
@@ -67,7 +67,7 @@ cut-within (w ∷ ws) [] h = absurd h
 cut-within (w ∷ ws) (n ∷ ns) h = ap (λ (k : ℕ). k ∷ cut ws ns) (mod-eq-of-lt (h .0)) ∙ ap (λ (r : List ℕ). n ∷ r) (cut-within ws ns (h .1))
 
 -- BYTES TO NUMBERS AND BACK
-pub laid-numbers : (ws bs : List ℕ) → Bytes bs → total ws ≤ length bs → laid ws (numbersIn ws bs) ≡ take (total ws) bs
+pub laid-numbers : (ws bs : List ℕ) → AllBytes bs → total ws ≤ length bs → laid ws (numbersIn ws bs) ≡ take (total ws) bs
 unfolding laid numbersIn total
 laid-numbers [] bs h k = refl
 laid-numbers (w ∷ ws) bs h k =
@@ -76,7 +76,7 @@ laid-numbers (w ∷ ws) bs h k =
     ∙ sym (take-add w (total ws) bs)
 
 -- numbers that were read fit
-pub within-numbers : (ws bs : List ℕ) → Bytes bs → Within ws (numbersIn ws bs)
+pub within-numbers : (ws bs : List ℕ) → AllBytes bs → Within ws (numbersIn ws bs)
 unfolding numbersIn
 within-numbers [] bs h = refl
 within-numbers (w ∷ ws) bs h = (le-below w bs h, within-numbers ws (drop w bs) (bytes-drop bs w h))
@@ -105,7 +105,7 @@ rows-laid ws (ns ∷ rows) rest h =
     ∙ ap (λ (r : List (List ℕ)). ns ∷ r) (rows-laid ws rows rest (h .1))
 
 -- BYTES TO ROWS AND BACK
-pub laid-rows : (ws : List ℕ) (n : ℕ) (bs : List ℕ) → Bytes bs → n * total ws ≤ length bs → rowsLaid ws (rowsIn ws n bs) ≡ take (n * total ws) bs
+pub laid-rows : (ws : List ℕ) (n : ℕ) (bs : List ℕ) → AllBytes bs → n * total ws ≤ length bs → rowsLaid ws (rowsIn ws n bs) ≡ take (n * total ws) bs
 unfolding rowsLaid rowsIn
 laid-rows ws zero bs h k = ap (λ (m : ℕ). take m bs) (sym (zero-mul (total ws)))
 laid-rows ws (suc n) bs h k =
@@ -122,29 +122,29 @@ length-rowsIn ws (suc n) bs = ap suc (length-rowsIn ws n (drop (total ws) bs))
 
 -- ---- what is laid out is bytes
 
-bytes-append : (a b : List ℕ) → Bytes a → Bytes b → Bytes (a ++ b)
+bytes-append : (a b : List ℕ) → AllBytes a → AllBytes b → AllBytes (a ++ b)
 bytes-append [] b h k i = k i
 bytes-append (x ∷ a) b h k zero = h 0
 bytes-append (x ∷ a) b h k (suc i) = bytes-append a b (λ j. h (suc j)) k i
 
-bytes-one : (w n : ℕ) → Bytes (bytesOf w n)
+bytes-one : (w n : ℕ) → AllBytes (bytesOf w n)
 unfolding bytesOf
 bytes-one zero n i = omega arith
 bytes-one (suc w) n zero = mod-lt n (pow-pos 8)
 bytes-one (suc w) n (suc i) = bytes-one w (n / 256) i
 
-bytes-laid : (ws ns : List ℕ) → Bytes (laid ws ns)
+bytes-laid : (ws ns : List ℕ) → AllBytes (laid ws ns)
 unfolding laid
 bytes-laid [] ns i = omega arith
 bytes-laid (w ∷ ws) ns i = bytes-append (bytesOf w (getD ns 0 0)) (laid ws (drop 1 ns)) (bytes-one w (getD ns 0 0)) (bytes-laid ws (drop 1 ns)) i
 
-bytes-zeros : (n : ℕ) → Bytes (zeros n)
+bytes-zeros : (n : ℕ) → AllBytes (zeros n)
 bytes-zeros zero i = omega arith
 bytes-zeros (suc n) zero = omega arith
 bytes-zeros (suc n) (suc i) = bytes-zeros n i
 
 -- rows and zeros behind them
-pub bytes-rows : (ws : List ℕ) (rows : List (List ℕ)) (n : ℕ) → Bytes (rowsLaid ws rows ++ zeros n)
+pub bytes-rows : (ws : List ℕ) (rows : List (List ℕ)) (n : ℕ) → AllBytes (rowsLaid ws rows ++ zeros n)
 unfolding rowsLaid
 bytes-rows ws [] n i = bytes-zeros n i
 bytes-rows ws (ns ∷ rows) n i =

@@ -11,8 +11,8 @@ use lib.Dec.{leb, eqb}
 use lib.IntN.{ℤ, pos, negsuc}
 use lib.Signed.{mag}
 use borrow.Author.Tests.{leb-true, eqb-true, eqb-false}
-use Rattle.types.specs.Number.{signedOf, residue}
-use Rattle.types.proofs.Numbers.{Bytes, signed-low}
+use Rattle.types.specs.Number.{AllBytes, signedOf, residue}
+use Rattle.types.proofs.Numbers.{signed-low}
 use Rattle.types.proofs.Readings.{signed-in, residue-signed, signed-residue}
 use Rattle.reporting.specs.declared.entry.Entry.{Entry}
 use Rattle.reporting.specs.Carried.{widths, told, numbersIn, numbersOf, entryOf, inForm, Clean}
@@ -97,7 +97,7 @@ module _ (f t v : ℕ) where
       (n .0, ap (signedOf 8) (n .1) ∙ signed-low 8 0 (omega arith))
 
 -- NUMBERS TO ENTRY AND BACK, for a slot in form
-pub slot-back : (bs : List ℕ) → Bytes bs → inForm (numbersIn widths bs) ≡ true → numbersOf (entryOf (numbersIn widths bs)) ≡ numbersIn widths bs
+pub slot-back : (bs : List ℕ) → AllBytes bs → inForm (numbersIn widths bs) ≡ true → numbersOf (entryOf (numbersIn widths bs)) ≡ numbersIn widths bs
 unfolding numbersOf entryOf inForm numbersIn
 slot-back bs h p =
     let ns : List ℕ = numbersIn widths bs in
@@ -117,7 +117,7 @@ slot-back bs h p =
     ∷ []
 
 -- such an entry has one form
-pub slot-clean : (bs : List ℕ) → Bytes bs → inForm (numbersIn widths bs) ≡ true → Clean (entryOf (numbersIn widths bs))
+pub slot-clean : (bs : List ℕ) → AllBytes bs → inForm (numbersIn widths bs) ≡ true → Clean (entryOf (numbersIn widths bs))
 unfolding entryOf inForm numbersIn
 slot-clean bs h p =
     let ns : List ℕ = numbersIn widths bs in

@@ -9,12 +9,13 @@ use native.Mathlib.Nat.{mul-le-mul-right}
 use lib.ListN.{length, take, drop, length-drop, length-map, take-append-drop}
 use lib.Seq.{drop-at, drop-cons, drop-drop, length-take-le}
 use borrow.Author.Tests.{leb-true, le-leb, eqb-true, eq-eqb}
-use Rattle.types.specs.Number.{allZero, zeros}
-use Rattle.types.proofs.Numbers.{Bytes, bytes-drop}
+use Rattle.types.specs.Number.{AllBytes, allZero, zeros}
+use Rattle.types.proofs.Numbers.{bytes-drop}
 use Rattle.frame.specs.Reply.{padded}
 use Rattle.frame.proofs.Buffer.{length-padded}
 use Rattle.reporting.specs.declared.entry.Entry.{Entry}
 use Rattle.reporting.specs.Carried.{widths, total, rowsLaid, rowsIn, numbersIn, numbersOf, entryOf, inForm, allInForm, tableSize, tableBytes, slotsIn, tableIn, countIn, sized, counted, endsInZeros, isTable, AllClean, seen, readT}
+use Rattle.reporting.specs.OneForm.{TableIs, TableBack, BytesBack}
 use Rattle.reporting.proofs.Carriage.{AllWithin, length-rows, length-rowsIn, bytes-rows, rows-laid, laid-rows, both, zeros-zero, zero-zeros}
 use Rattle.reporting.proofs.CarriageEntry.{entry-within, entry-in-form, entry-back, slot-back, slot-clean}
 
@@ -33,14 +34,14 @@ entries-back : (l : List Entry) → AllClean l → map entryOf (map numbersOf l)
 entries-back [] h = refl
 entries-back (e ∷ l) h = λ i. entry-back e (h .0) i ∷ entries-back l (h .1) i
 
-rows-back : (n : ℕ) (bs : List ℕ) → Bytes bs → allInForm (rowsIn widths n bs) ≡ true → map numbersOf (map entryOf (rowsIn widths n bs)) ≡ rowsIn widths n bs
+rows-back : (n : ℕ) (bs : List ℕ) → AllBytes bs → allInForm (rowsIn widths n bs) ≡ true → map numbersOf (map entryOf (rowsIn widths n bs)) ≡ rowsIn widths n bs
 unfolding rowsIn allInForm
 rows-back zero bs h p = refl
 rows-back (suc n) bs h p =
     let q = both (inForm (numbersIn widths bs)) (allInForm (rowsIn widths n (drop (total widths) bs))) p in
     λ i. slot-back bs h (q .0) i ∷ rows-back n (drop (total widths) bs) (bytes-drop bs (total widths) h) (q .1) i
 
-rows-clean : (n : ℕ) (bs : List ℕ) → Bytes bs → allInForm (rowsIn widths n bs) ≡ true → AllClean (map entryOf (rowsIn widths n bs))
+rows-clean : (n : ℕ) (bs : List ℕ) → AllBytes bs → allInForm (rowsIn widths n bs) ≡ true → AllClean (map entryOf (rowsIn widths n bs))
 unfolding rowsIn allInForm
 rows-clean zero bs h p = tt
 rows-clean (suc n) bs h p =
@@ -60,7 +61,7 @@ module _ (limit : ℕ) (l : List Entry) (f : length l ≤ limit) where
       length-padded (tableSize limit) (length l ∷ rowsLaid widths (map numbersOf l)) (omega (arith, rows-length))
 
   -- TABLE TO BYTES: bytes they are
-  pub table-bytes : limit < 256 → Bytes (tableBytes limit l)
+  pub table-bytes : limit < 256 → AllBytes (tableBytes limit l)
   unfolding tableBytes padded
   table-bytes b zero = omega arith
   table-bytes b (suc i) = bytes-rows widths (map numbersOf l) (tableSize limit - suc (length (rowsLaid widths (map numbersOf l)))) i
@@ -85,15 +86,15 @@ module _ (limit : ℕ) (l : List Entry) (f : length l ≤ limit) where
   unfolding tableBytes padded
   count-so = le-leb (length l) limit f
 
-  -- and a table
-  pub table-is : AllClean l → isTable limit (tableBytes limit l) ≡ true
-  unfolding isTable
-  table-is h = rw (eq-eqb _ _ length-table, count-so, slots-laid h, all-in-form l, ends-so)
+-- and a table
+pub table-is : TableIs
+unfolding isTable
+table-is limit l f h = rw (eq-eqb _ _ (length-table limit l f), count-so limit l f, slots-laid limit l f h, all-in-form l, ends-so limit l f)
 
-  -- AND BACK: the same table
-  pub table-back : AllClean l → tableIn (tableBytes limit l) ≡ l
-  unfolding tableIn
-  table-back h = ap (map entryOf) (slots-laid h) ∙ entries-back l h
+-- AND BACK: the same table
+pub table-back : TableBack
+unfolding tableIn
+table-back limit l f h = ap (map entryOf) (slots-laid limit l f h) ∙ entries-back l h
 
 -- ---- bytes that are a table
 
@@ -112,7 +113,7 @@ the-conditions limit bs t =
     let c = both (allInForm (slotsIn bs)) (endsInZeros bs) (b .1) in
     record { size = eqb-true _ _ (a .0); count = leb-true _ _ (b .0); slots = c .0; behind = c .1 }
 
-module _ (limit : ℕ) (bs : List ℕ) (h : Bytes bs) (t : isTable limit bs ≡ true) where
+module _ (limit : ℕ) (bs : List ℕ) (h : AllBytes bs) (t : isTable limit bs ≡ true) where
   -- the table has as many entries as the count says
   pub table-count : length (tableIn bs) ≡ countIn bs
   unfolding tableIn slotsIn
@@ -141,10 +142,9 @@ module _ (limit : ℕ) (bs : List ℕ) (h : Bytes bs) (t : isTable limit bs ≡ 
       let e : tableSize limit - suc (length (take n (drop 1 bs))) ≡ length (drop (1 + n) bs) = omega (arith, length-drop (1 + n) bs) in
       ap zeros e ∙ sym (zero-zeros (drop (1 + n) bs) (c .behind)) ∙ sym (drop-drop n 1 bs)
 
-  -- BYTES TO TABLE AND BACK: the same bytes
-  pub bytes-back : tableBytes limit (tableIn bs) ≡ bs
+  laid-back : tableBytes limit (tableIn bs) ≡ bs
   unfolding tableBytes padded
-  bytes-back =
+  laid-back =
       let u : List ℕ = take (countIn bs * total widths) (drop 1 bs) in
       ap (λ (k : ℕ). k ∷ (rowsLaid widths (map numbersOf (tableIn bs)) ++ zeros (tableSize limit - suc (length (rowsLaid widths (map numbersOf (tableIn bs))))))) table-count
       ∙ ap (λ (r : List ℕ). countIn bs ∷ (r ++ zeros (tableSize limit - suc (length r)))) used-laid
@@ -156,6 +156,10 @@ module _ (limit : ℕ) (bs : List ℕ) (h : Bytes bs) (t : isTable limit bs ≡ 
   pub table-clean : AllClean (tableIn bs)
   unfolding tableIn slotsIn
   table-clean = rows-clean (countIn bs) (drop 1 bs) (bytes-drop bs 1 h) (the-conditions limit bs t .slots)
+
+-- BYTES TO TABLE AND BACK: the same bytes
+pub bytes-back : BytesBack
+bytes-back limit bs h t = laid-back limit bs h t
 
 -- ---- what a reader of written bytes sees
 

@@ -7,12 +7,8 @@ use Prim.Native.Nat.{ℕ, _≤_}
 use native.Mathlib.Omega.{arith}
 use lib.ListN.{length, drop, length-map}
 use lib.Dec.{ltb}
-use lib.IntN.{ℤ}
 use borrow.Author.Tests.{lt-ltb}
 use Rattle.frame.proofs.Codes.{refusal-same, refusal-nonzero}
-use Rattle.reporting.specs.declared.carried.ReadTable.{ReadTable}
-use Rattle.reporting.specs.declared.entry.Key.{Key}
-use Rattle.reporting.specs.declared.entry.ReportingConfig.{ReportingConfig}
 use Rattle.reporting.specs.declared.entry.Entry.{Entry}
 use Rattle.reporting.specs.declared.table.ReportingTable.{ReportingTable}
 use Rattle.reporting.specs.declared.table.Change.{Change}
@@ -25,10 +21,10 @@ use Rattle.reporting.specs.declared.table.Setting.the-variants as Settin
 use Rattle.reporting.specs.declared.table.Length.{Length}
 use Rattle.reporting.specs.declared.table.Length.the-variants as LengthV
 use Rattle.reporting.specs.Table.{room, Table, sound, bad, live, tableOf, Alike, ChangeTold, changeTold, ReportTold, reportTold, SettingTold, settingTold, LengthTold, lengthTold, Outcome, outcome}
-use Rattle.reporting.specs.Table.{holding, configureT, clearT, markT, configurationT, askT, lengthT}
-use Rattle.reporting.specs.Entries.{same, matches, fresh, markE}
-use Rattle.reporting.specs.Due.{dist, movedBy, ripe, dueE}
-use Rattle.reporting.specs.Carried.{widths, rowsIn, entryOf, countIn, slotsIn, tableIn, isTable, seen, Reading, reading, readT, Written, written, writeT}
+use Rattle.reporting.specs.Table.{configureT, clearT, markT, configurationT, askT, lengthT}
+use Rattle.reporting.specs.Carried.{widths, rowsIn, entryOf, countIn, slotsIn, tableIn, isTable, seen, Reading, readT, Written}
+use Rattle.reporting.specs.Unique.{ReadTableOnce, WriteTableOnce, DistanceOnce, IsOnce, MovedByOnce, RipeOnce, FreshOnce, IsOfOnce, EntryMarkOnce}
+use Rattle.reporting.specs.Unique.{DueOnce, NewOnce, ConfigureOnce, ClearOnce, ReportingTableMarkOnce, ConfigurationOnce, AskOnce, LenOnce}
 use Rattle.reporting.proofs.Carriage.{length-rowsIn}
 use Rattle.reporting.proofs.CarriageTable.{the-conditions}
 
@@ -155,7 +151,7 @@ read-within limit bs = go (isTable limit bs) refl
 
 -- src/carried.rt
 
-pub read-table-once : (bytes : List ℕ) (r q : ReadTable) → reading r ≡ readT 16 bytes → reading q ≡ readT 16 bytes → (r .known ≡ q .known) × Alike (r .table) (q .table)
+pub read-table-once : ReadTableOnce
 read-table-once bytes r q e f =
     let p = e ∙ sym f in
     let within = subst (λ (x : Reading). x .count ≤ 16) (sym e) (read-within 16 bytes) in (
@@ -167,56 +163,56 @@ read-table-once bytes r q e f =
       },
     )
 
-pub write-table-once : (bytes : List ℕ) (table : ReportingTable) (r q : Bool) (x y : List ℕ) → written r x ≡ writeT 16 table bytes → written q y ≡ writeT 16 table bytes → (r ≡ q) × (x ≡ y)
+pub write-table-once : WriteTableOnce
 write-table-once bytes table r q x y e f = let p = e ∙ sym f in (ap (λ (z : Written). z .done) p, ap (λ (z : Written). z .bytes) p)
 
 -- src/distance.rt
 
-pub distance-once : (a b : ℤ) (r q : ℕ) → r ≡ dist a b → q ≡ dist a b → r ≡ q
+pub distance-once : DistanceOnce
 distance-once a b r q e f = e ∙ sym f
 
 -- src/entry.rt
 
-pub is-once : (self other : Key) (r q : Bool) → r ≡ same self other → q ≡ same self other → r ≡ q
+pub is-once : IsOnce
 is-once self other r q e f = e ∙ sym f
 
-pub moved-by-once : (self : ReportingConfig) (from to : ℤ) (r q : ℕ) → r ≡ movedBy self from to → q ≡ movedBy self from to → r ≡ q
+pub moved-by-once : MovedByOnce
 moved-by-once self from to r q e f = e ∙ sym f
 
-pub ripe-once : (self : ReportingConfig) (since moved : ℕ) (r q : Bool) → r ≡ ripe self since moved → q ≡ ripe self since moved → r ≡ q
+pub ripe-once : RipeOnce
 ripe-once self since moved r q e f = e ∙ sym f
 
-pub fresh-once : (key : Key) (config : ReportingConfig) (r q : Entry) → r ≡ fresh key config → q ≡ fresh key config → r ≡ q
+pub fresh-once : FreshOnce
 fresh-once key config r q e f = e ∙ sym f
 
-pub is-of-once : (self : Entry) (key : Key) (r q : Bool) → r ≡ matches key self → q ≡ matches key self → r ≡ q
+pub is-of-once : IsOfOnce
 is-of-once self key r q e f = e ∙ sym f
 
-pub entry-mark-once : (self : Entry) (now : ℕ) (value : ℤ) (r q : Entry) → r ≡ markE now value self → q ≡ markE now value self → r ≡ q
+pub entry-mark-once : EntryMarkOnce
 entry-mark-once self now value r q e f = e ∙ sym f
 
-pub due-once : (self : Entry) (now : ℕ) (value : ℤ) (r q : Bool) → r ≡ dueE self now value → q ≡ dueE self now value → r ≡ q
+pub due-once : DueOnce
 due-once self now value r q e f = e ∙ sym f
 
 -- src/table.rt
 
-pub new-once : (r q : ReportingTable) → tableOf r ≡ holding [] → tableOf q ≡ holding [] → Alike r q
+pub new-once : NewOnce
 new-once r q e f = alike r q (e ∙ sym f)
 
-pub configure-once : (self : ReportingTable) (key : Key) (config : ReportingConfig) (r q : Changed) → outcome r ≡ configureT room key config (tableOf self) → outcome q ≡ configureT room key config (tableOf self) → (r .answer ≡ q .answer) × Alike (r .table) (q .table)
+pub configure-once : ConfigureOnce
 configure-once self key config r q e f = one-result (configureT room key config (tableOf self)) r q e f
 
-pub clear-once : (self : ReportingTable) (key : Key) (r q : Changed) → outcome r ≡ clearT key (tableOf self) → outcome q ≡ clearT key (tableOf self) → (r .answer ≡ q .answer) × Alike (r .table) (q .table)
+pub clear-once : ClearOnce
 clear-once self key r q e f = one-result (clearT key (tableOf self)) r q e f
 
-pub reporting-table-mark-once : (self : ReportingTable) (key : Key) (now : ℕ) (value : ℤ) (r q : Changed) → outcome r ≡ markT key now value (tableOf self) → outcome q ≡ markT key now value (tableOf self) → (r .answer ≡ q .answer) × Alike (r .table) (q .table)
+pub reporting-table-mark-once : ReportingTableMarkOnce
 reporting-table-mark-once self key now value r q e f = one-result (markT key now value (tableOf self)) r q e f
 
-pub configuration-once : (self : ReportingTable) (key : Key) (r q : Setting) → settingTold r ≡ configurationT key (tableOf self) → settingTold q ≡ configurationT key (tableOf self) → r ≡ q
+pub configuration-once : ConfigurationOnce
 configuration-once self key r q e f = one-setting (configurationT key (tableOf self)) r q e f
 
-pub ask-once : (self : ReportingTable) (key : Key) (now : ℕ) (value : ℤ) (r q : Report) → reportTold r ≡ askT key now value (tableOf self) → reportTold q ≡ askT key now value (tableOf self) → r ≡ q
+pub ask-once : AskOnce
 ask-once self key now value r q e f = one-report (askT key now value (tableOf self)) r q e f
 
-pub len-once : (self : ReportingTable) (r q : Length) → lengthTold r ≡ lengthT (tableOf self) → lengthTold q ≡ lengthT (tableOf self) → r ≡ q
+pub len-once : LenOnce
 len-once self r q e f = one-length (lengthT (tableOf self)) r q e f

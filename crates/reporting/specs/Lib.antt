@@ -6,3 +6,5 @@ pub mod Events
 pub mod Demand3
 pub mod Log
 pub mod Carried
+pub mod OneForm  -- table to bytes and back, and bytes to table and back
+pub mod Unique  -- no second answer fits a contract

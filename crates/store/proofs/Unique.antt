@@ -2,26 +2,16 @@
 -- entry values. Assumes nothing.
 use Prim.Native.Nat.{ℕ}
 use mathlib.Core.Path.{_≡_, sym, ap, _∙_}
-use mathlib.Core.Bool.{Bool}
 use mathlib.Core.List.{List}
-use lib.ListN.{take, drop}
-use Rattle.store.specs.Layout.{isText, textLength, isStore}
-use Rattle.store.specs.Contents.{clusterOf, countOf, attributeAt, reportable, nameOf, findOf}
-use Rattle.store.specs.Value.{valueOf, stored, Telling, telling, numberOf}
-use Rattle.store.specs.Write.{checkOf, Wrote, wrote, writeOf}
-use Rattle.store.specs.declared.lookup.Name.{Name}
-use Rattle.store.specs.declared.lookup.Attribute.{Attribute}
-use Rattle.store.specs.declared.lookup.Found.{Found}
-use Rattle.frame.specs.declared.header.ManufacturerCode.{ManufacturerCode}
-use Rattle.types.specs.declared.ids.AttributeId.{AttributeId}
-use Rattle.types.specs.declared.ids.ClusterId.{ClusterId}
-use Rattle.types.specs.declared.ids.TypeId.{TypeId}
+use Rattle.store.specs.Value.{Telling, telling}
+use Rattle.store.specs.Write.{Wrote, wrote}
 use Rattle.store.specs.declared.value.Numbered.{Numbered}
-use Rattle.store.specs.declared.write.Checked.{Checked}
 use Rattle.frame.specs.declared.status.Status.{Status}
 use native.Mathlib.Omega.{arith}
 use Rattle.frame.proofs.Codes.{refusal-same, refusal-nonzero}
 use Rattle.store.specs.declared.value.Numbered.the-variants.{Is, Refused}
+use Rattle.store.specs.Unique.{PartOnce, IsTextOnce, TextLengthOnce, IsStoreOnce, NameOfOnce, ClusterOfOnce, CountOfOnce, AttributeAtOnce}
+use Rattle.store.specs.Unique.{IsReportableOnce, FindOnce, ValueOfOnce, WriteValueOnce, NumberOfOnce, CheckWriteOnce, WriteOnce}
 
 -- the laws of what a contract sees
 
@@ -40,53 +30,50 @@ pub wrote-same : (a b : Status) (s t : List ℕ) → wrote a s ≡ wrote b t →
 wrote-same a b s t p = (ap (λ (x : Wrote). x .status) p, ap (λ (x : Wrote). x .store) p)
 
 -- src/layout.rt
-pub part-once : (s : List ℕ) (from n : ℕ) (r q : List ℕ) → r ≡ take n (drop from s) → q ≡ take n (drop from s) → r ≡ q
+pub part-once : PartOnce
 part-once s from n r q e f = e ∙ sym f
 
-pub is-text-once : (a : Attribute) (r q : Bool) → r ≡ isText a → q ≡ isText a → r ≡ q
+pub is-text-once : IsTextOnce
 is-text-once a r q e f = e ∙ sym f
 
-pub text-length-once : (s : List ℕ) (a : Attribute) (r q : ℕ) → r ≡ textLength s a → q ≡ textLength s a → r ≡ q
+pub text-length-once : TextLengthOnce
 text-length-once s a r q e f = e ∙ sym f
 
-pub is-store-once : (s : List ℕ) (r q : Bool) → r ≡ isStore 8 s → q ≡ isStore 8 s → r ≡ q
+pub is-store-once : IsStoreOnce
 is-store-once s r q e f = e ∙ sym f
 
 -- src/lookup.rt
-pub name-of-once : (code : ManufacturerCode) (id : AttributeId) (r q : Name) → r .0 ≡ nameOf (code .0) (id .0) → q .0 ≡ nameOf (code .0) (id .0) → r ≡ q
+pub name-of-once : NameOfOnce
 name-of-once code id r q e f = ap (λ (n : ℕ). record { 0 = n }) (e ∙ sym f)
 
-pub cluster-of-once : (s : List ℕ) (r q : ClusterId) → r .0 ≡ clusterOf s → q .0 ≡ clusterOf s → r ≡ q
+pub cluster-of-once : ClusterOfOnce
 cluster-of-once s r q e f = ap (λ (n : ℕ). record { 0 = n }) (e ∙ sym f)
 
-pub count-of-once : (s : List ℕ) (r q : ℕ) → r ≡ countOf s → q ≡ countOf s → r ≡ q
+pub count-of-once : CountOfOnce
 count-of-once s r q e f = e ∙ sym f
 
-pub attribute-at-once : (s : List ℕ) (i : ℕ) (r q : Attribute) → r ≡ attributeAt 8 s i → q ≡ attributeAt 8 s i → r ≡ q
+pub attribute-at-once : AttributeAtOnce
 attribute-at-once s i r q e f = e ∙ sym f
 
-pub is-reportable-once : (a : Attribute) (r q : Bool) → r ≡ reportable a → q ≡ reportable a → r ≡ q
+pub is-reportable-once : IsReportableOnce
 is-reportable-once a r q e f = e ∙ sym f
 
-pub find-once : (s : List ℕ) (name : Name) (r q : Found) → r ≡ findOf 8 s (name .0) → q ≡ findOf 8 s (name .0) → r ≡ q
+pub find-once : FindOnce
 find-once s name r q e f = e ∙ sym f
 
 -- src/value.rt
-pub value-of-once : (s : List ℕ) (a : Attribute) (r q : List ℕ) → r ≡ valueOf s a → q ≡ valueOf s a → r ≡ q
+pub value-of-once : ValueOfOnce
 value-of-once s a r q e f = e ∙ sym f
 
-pub write-value-once : (s : List ℕ) (a : Attribute) (value : List ℕ) (x y : List ℕ) → x ≡ stored s a value → y ≡ stored s a value → x ≡ y
+pub write-value-once : WriteValueOnce
 write-value-once s a value x y e f = e ∙ sym f
 
-pub number-of-once : (s : List ℕ) (name : Name) (r q : Numbered) → telling r ≡ telling (numberOf 8 s (name .0))
-    → telling q ≡ telling (numberOf 8 s (name .0)) → r ≡ q
+pub number-of-once : NumberOfOnce
 number-of-once s name r q e f = telling-same r q (e ∙ sym f)
 
 -- src/write.rt
-pub check-write-once : (s : List ℕ) (name : Name) («type_id» : TypeId) (value : List ℕ) (r q : Checked) → r ≡ checkOf (findOf 8 s (name .0)) («type_id» .0) value
-    → q ≡ checkOf (findOf 8 s (name .0)) («type_id» .0) value → r ≡ q
+pub check-write-once : CheckWriteOnce
 check-write-once s name «type_id» value r q e f = e ∙ sym f
 
-pub write-once : (s : List ℕ) (name : Name) («type_id» : TypeId) (value : List ℕ) (r q : Status) (x y : List ℕ) → wrote r x ≡ writeOf 8 s (name .0) («type_id» .0) value
-    → wrote q y ≡ writeOf 8 s (name .0) («type_id» .0) value → (r ≡ q) × (x ≡ y)
+pub write-once : WriteOnce
 write-once s name «type_id» value r q x y e f = wrote-same r q x y (e ∙ sym f)
