@@ -1,5 +1,5 @@
 -- The table that Configure Reporting leaves is what its events leave, and these tell the truth. Assumes nothing.
-use mathlib.Core.Path.{_≡_, refl}
+use mathlib.Core.Path.{refl}
 use mathlib.Core.Bool.{Bool, true, false, cond}
 use mathlib.Core.List.{List, []}
 use Prim.Native.Nat.{ℕ}
@@ -18,11 +18,11 @@ use Rattle.store.specs.Contents.{nameOf, findOf, reportable}
 use Rattle.reporting.specs.declared.entry.Key.{Key}
 use Rattle.reporting.specs.declared.entry.ReportingConfig.{ReportingConfig}
 use Rattle.reporting.specs.declared.entry.Entry.{Entry}
-use Rattle.reporting.specs.Table.{sound, holding}
-use Rattle.reporting.specs.Events.{Event, run, Honest, Leads, events, configRecord}
+use Rattle.reporting.specs.Events.{Event, run, Honest, events, configRecord}
 use Rattle.reporting.proofs.Histories.{honest-append, call-is}
 use Rattle.configure.specs.Request.{keyFor, ConfigureRecord, received, reported, configureAt, configures}
 use Rattle.configure.specs.Configure.{checked, setting, tried, configuring, configureEvents, configureOf}
+use Rattle.configure.specs.Leads.{ConfigureLeads, ConfigureTable}
 
 -- what holds of the events so far, and of them with the record's behind them, holds of the events that a check lets through
 pub checked-either : (P : List Event → Type 0) (f : Found) (t : ℕ) (es : List Event) (fine : Did (List Event)) → P es → P (fine .state) → P (checked f t es fine .state)
@@ -52,16 +52,16 @@ module _ (form limit : ℕ) (s : List ℕ) (l : List Entry) (request : ZclHeader
   unfolding recordsFrom
   any body = records-all (configureAt body) (length body) (λ r. Unit {0}) (λ p r q e. tt) _ 0
 
-  -- A FRAME IS ITS EVENTS: they are honest, and the table afterwards holds what they leave
-  pub configure-leads : (body : List ℕ) (room : ℕ) → Leads limit (configureEvents form limit s l request body room .state) l (run limit (configureEvents form limit s l request body room .state) l)
-  unfolding configureEvents
-  configure-leads body room = record {
-    honest =
-        headed-keeps (λ es. Honest limit es l) request ConfigureReportingResponse [] room _ tt
-        (λ head. performed-keeps (configuring form limit s request l) (λ es. Honest limit es l) (λ r. Unit {0}) (λ es r h u. tried-honest es r h) (configures body) (any body) [] room head tt);
-    table = refl;
-  }
+-- A FRAME IS ITS EVENTS: they are honest, and the table afterwards holds what they leave
+pub configure-leads : ConfigureLeads
+unfolding configureEvents
+configure-leads form limit s l request body room = record {
+  honest =
+      headed-keeps (λ es. Honest limit es l) request ConfigureReportingResponse [] room _ tt
+      (λ head. performed-keeps (configuring form limit s request l) (λ es. Honest limit es l) (λ r. Unit {0}) (λ es r h u. tried-honest form limit s l request es r h) (configures body) (any form limit s l request body) [] room head tt);
+  table = refl;
+}
 
-  pub configure-table : (n : ℕ) (body : List ℕ) (room : ℕ) → configureOf form limit s (sound n l) request body room .state ≡ holding (run limit (configureEvents form limit s l request body room .state) l)
-  unfolding configureOf
-  configure-table n body room = refl
+pub configure-table : ConfigureTable
+unfolding configureOf
+configure-table form limit s l request n body room = refl

@@ -10,7 +10,6 @@ use Rattle.frame.specs.declared.header.ManufacturerCode.{ManufacturerCode}
 use Rattle.frame.specs.declared.header.ZclHeader.{ZclHeader}
 use Rattle.frame.specs.declared.command_identifier.CommandIdentifier.the-variants.{ConfigureReportingResponse}
 use Rattle.frame.specs.declared.status.Status.the-variants.{UnreportableAttribute, InvalidDataType}
-use Rattle.frame.specs.Answer.{Outcome}
 use Rattle.frame.specs.Walk.{done, Records}
 use Rattle.frame.specs.Failures.{Did, did}
 use Rattle.frame.proofs.States.{folded, performed-folded}
@@ -26,6 +25,7 @@ use Rattle.reporting.specs.Events.{Event, run, events, configRecord}
 use Rattle.reporting.proofs.Histories.{run-append}
 use Rattle.configure.specs.Request.{keyFor, ConfigureRecord, received, reported, configures}
 use Rattle.configure.specs.Configure.{checked, setting, tried, configuring, configureEvents, configureOf}
+use Rattle.configure.specs.Lists.{Not5, ConfigureAppend}
 use Rattle.configure.proofs.Append.{configures-append}
 
 -- ---- one record: what it does to the entries is a matter of the entries that it meets, not of the events that left them
@@ -89,9 +89,6 @@ module _ (form limit : ℕ) (s : List ℕ) where
 
   -- ---- the command, where it is not refused by 5
 
-  abbrev Not5 : Outcome Table → Type 0
-  Not5 o = o .number ≡ 5 → ⊥
-
   configure-steps : (n : ℕ) (l : List Entry) (request : ZclHeader) (body : List ℕ) (room : ℕ) → Not5 (configureOf form limit s (sound n l) request body room)
       → configureOf form limit s (sound n l) request body room .state ≡ holding (steps request l (configures body .list))
   unfolding configureOf configureEvents
@@ -107,10 +104,9 @@ module _ (form limit : ℕ) (s : List ℕ) where
     unfolding configureOf
     bad-stays u = refl
 
-    -- THE LAW: list a and then list b, or both as one list
-    pub configure-append : (t : Table) → Not5 (configureOf form limit s t p a rooma) → Not5 (configureOf form limit s (after t) q b roomb) → Not5 (configureOf form limit s t r (a ++ b) room)
+    joined : (t : Table) → Not5 (configureOf form limit s t p a rooma) → Not5 (configureOf form limit s (after t) q b roomb) → Not5 (configureOf form limit s t r (a ++ b) room)
         → configureOf form limit s (after t) q b roomb .state ≡ configureOf form limit s t r (a ++ b) room .state
-    configure-append (sound n l) no1 no2 no3 =
+    joined (sound n l) no1 no2 no3 =
         let one : List ConfigureRecord = configures a .list in
         let two : List ConfigureRecord = configures b .list in
         let e : after (sound n l) ≡ holding (steps p l one) = configure-steps n l p a rooma no1 in
@@ -120,4 +116,8 @@ module _ (form limit : ℕ) (s : List ℕ) where
         ∙ ap holding (steps-same q r second two (steps p l one) ∙ ap (λ (m : List Entry). steps r m two) (steps-same p r first one l) ∙ sym (steps-append r one two l))
         ∙ ap (λ (rs : List ConfigureRecord). holding (steps r l rs)) (sym both)
         ∙ sym (configure-steps n l r (a ++ b) room no3)
-    configure-append (bad u) no1 no2 no3 = bad-stays u
+    joined (bad u) no1 no2 no3 = bad-stays u
+
+-- THE LAW: list a and then list b, or both as one list
+pub configure-append : ConfigureAppend
+configure-append form limit s a b p q r rooma roomb room t readable first second no1 no2 no3 = joined form limit s a b readable p q r first second rooma roomb room t no1 no2 no3

@@ -3,16 +3,14 @@ use mathlib.Core.Path.{_≡_}
 use mathlib.Core.List.{List}
 use Prim.Native.Nat.{ℕ}
 use lib.ListN.{length}
-use Rattle.frame.specs.declared.answer.Answer.{Answer}
-use Rattle.frame.specs.declared.header.ZclHeader.{ZclHeader}
 use Rattle.frame.specs.Answer.{Outcome, noState, seen}
 use Rattle.frame.proofs.Outcome.{only-one}
-use Rattle.reporting.specs.declared.table.ReportingTable.{ReportingTable}
 use Rattle.reporting.specs.Table.{room, Table, tableOf, Alike}
 use Rattle.reporting.proofs.Unique.{alike}
 use Rattle.configure.specs.declared.configure.Configured.{Configured}
 use Rattle.configure.specs.Configuration.{configurationOf}
 use Rattle.configure.specs.Configure.{configureOf}
+use Rattle.configure.specs.Unique.{ReadReportingConfigurationOnce, ConfigureReportingOnce}
 
 pub one-configured : (o : Outcome Table) (r s : Configured) (d e : List ℕ) → seen (r .answer) d (tableOf (r .table)) ≡ o → seen (s .answer) e (tableOf (s .table)) ≡ o
     → (r .answer ≡ s .answer) × ((d ≡ e) × Alike (r .table) (s .table))
@@ -22,18 +20,12 @@ one-configured o r s d e p q =
 
 -- src/configuration.rt
 
-pub read-reporting-configuration-once : (store : List ℕ) (table : ReportingTable) (request : ZclHeader) (body reply : List ℕ) (r q : Answer) (x y : List ℕ)
-    → seen r x noState ≡ configurationOf 8 store (tableOf table) request body (length reply)
-    → seen q y noState ≡ configurationOf 8 store (tableOf table) request body (length reply)
-    → (r ≡ q) × (x ≡ y)
+pub read-reporting-configuration-once : ReadReportingConfigurationOnce
 read-reporting-configuration-once store table request body reply r q x y e f =
     let w = only-one (configurationOf 8 store (tableOf table) request body (length reply)) r q x y noState noState e f in
     (w .0, w .1 .0)
 
 -- src/configure.rt
 
-pub configure-reporting-once : (store : List ℕ) (table : ReportingTable) (request : ZclHeader) (body reply : List ℕ) (r q : Configured) (x y : List ℕ)
-    → seen (r .answer) x (tableOf (r .table)) ≡ configureOf 8 room store (tableOf table) request body (length reply)
-    → seen (q .answer) y (tableOf (q .table)) ≡ configureOf 8 room store (tableOf table) request body (length reply)
-    → (r .answer ≡ q .answer) × ((x ≡ y) × Alike (r .table) (q .table))
+pub configure-reporting-once : ConfigureReportingOnce
 configure-reporting-once store table request body reply r q x y e f = one-configured (configureOf 8 room store (tableOf table) request body (length reply)) r q x y e f

@@ -1,20 +1,13 @@
 -- No second answer fits a contract: at the same entry values there is one answer and one reply buffer. Assumes nothing.
-use mathlib.Core.Path.{_≡_}
-use mathlib.Core.List.{List}
 use lib.ListN.{length}
-use Prim.Native.Nat.{ℕ}
-use Rattle.frame.specs.declared.answer.Answer.{Answer}
-use Rattle.frame.specs.declared.header.ZclHeader.{ZclHeader}
-use Rattle.frame.specs.Answer.{noState, seen}
+use Rattle.frame.specs.Answer.{noState}
 use Rattle.frame.proofs.Outcome.{only-one}
 use Rattle.discover.specs.Discover.{discoverOf}
+use Rattle.discover.specs.Unique.{DiscoverAttributesOnce}
 
 -- src/attributes.rt
 
-pub discover-attributes-once : (store : List ℕ) (request : ZclHeader) (body reply : List ℕ) (r q : Answer) (x y : List ℕ)
-    → seen r x noState ≡ discoverOf 8 store request body (length reply)
-    → seen q y noState ≡ discoverOf 8 store request body (length reply)
-    → (r ≡ q) × (x ≡ y)
+pub discover-attributes-once : DiscoverAttributesOnce
 discover-attributes-once store request body reply r q x y e f =
     let w = only-one (discoverOf 8 store request body (length reply)) r q x y noState noState e f in
     (w .0, w .1 .0)

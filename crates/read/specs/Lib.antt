@@ -1,3 +1,4 @@
 -- What a reader must believe of this crate.
 pub mod Read  -- Read Attributes
+pub mod Unique  -- no second answer fits a contract
 pub mod Inside  -- what only inner functions say

@@ -10,8 +10,9 @@ use Rattle.frame.specs.Walk.{Way, through, broken, stopped, reached}
 use Rattle.frame.specs.Encoded.{fits}
 use Rattle.frame.specs.Failures.{Sofar, pass, always, concluded, performed}
 use Rattle.frame.proofs.States.{headed-keeps, pass-keeps, concluded-keeps, performed-keeps}
-use Rattle.store.specs.Contents.{nameOf, attributesOf}
+use Rattle.store.specs.Contents.{nameOf}
 use Rattle.store.specs.Layout.{isStore}
+use Rattle.store.specs.Stays.{StoreLike}
 use Rattle.store.proofs.Writes.{write-length, write-store, write-contents}
 use Rattle.write.specs.Request.{WriteRecord, records}
 use Rattle.write.specs.Reply.{Failure, encode}
@@ -66,12 +67,6 @@ module _ (P : List ℕ → Type 0) (form : ℕ) (request : ZclHeader) (keep : (t
 
 -- ---- the length of any bytes, and a store's layout and contents
 
--- t is a store like s: of the same length, with the same contents
-pub record Alike (form : ℕ) (s t : List ℕ) : Type 0 where
-  pub still : isStore form t ≡ true
-  pub same-length : length t ≡ length s
-  pub same-contents : attributesOf form t ≡ attributesOf form s
-
 module _ (form : ℕ) (s : List ℕ) (request : ZclHeader) (body : List ℕ) (room : ℕ) where
   record-length : (t : List ℕ) (r : WriteRecord) → length t ≡ length s → Whole r → length (written form request t r .store) ≡ length s
   unfolding written
@@ -81,7 +76,7 @@ module _ (form : ℕ) (s : List ℕ) (request : ZclHeader) (body : List ℕ) (ro
   length-keeps = commands-keep (λ t. length t ≡ length s) form request record-length body room s refl
 
   module _ (wide : 8 ≤ form) where
-    record-alike : (t : List ℕ) (r : WriteRecord) → Alike form s t → Whole r → Alike form s (written form request t r .store)
+    record-alike : (t : List ℕ) (r : WriteRecord) → StoreLike form s t → Whole r → StoreLike form s (written form request t r .store)
     unfolding written
     record-alike t r a w =
         let name : ℕ = nameOf (request .«manufacturer_code» .0) (r .id) in
@@ -92,5 +87,5 @@ module _ (form : ℕ) (s : List ℕ) (request : ZclHeader) (body : List ℕ) (ro
         }
 
     -- A STORE STAYS A STORE under each of the three commands, for every request
-    pub write-keeps : isStore form s ≡ true → Keeps (Alike form s) form s request body room
-    write-keeps h = commands-keep (Alike form s) form request record-alike body room s (record { still = h; same-length = refl; same-contents = refl })
+    pub write-keeps : isStore form s ≡ true → Keeps (StoreLike form s) form s request body room
+    write-keeps h = commands-keep (StoreLike form s) form request record-alike body room s (record { still = h; same-length = refl; same-contents = refl })

@@ -2,4 +2,5 @@
 pub mod Request  -- the records of a write request
 pub mod Reply  -- the failures that a reply lists
 pub mod Write  -- Write Attributes, Undivided, No Response
+pub mod Unique  -- no second answer fits a contract
 pub mod Inside  -- what inner functions say

@@ -1,0 +1,29 @@
+-- No second answer fits a contract: it leaves open only the slots past a table's count. Assumes nothing: these are definitions.
+use mathlib.Core.Path.{_≡_}
+use mathlib.Core.List.{List}
+use Prim.Native.Nat.{ℕ}
+use lib.ListN.{length}
+use Rattle.frame.specs.declared.answer.Answer.{Answer}
+use Rattle.frame.specs.declared.header.ZclHeader.{ZclHeader}
+use Rattle.frame.specs.Answer.{noState, seen}
+use Rattle.reporting.specs.declared.table.ReportingTable.{ReportingTable}
+use Rattle.reporting.specs.Table.{room, tableOf, Alike}
+use Rattle.configure.specs.declared.configure.Configured.{Configured}
+use Rattle.configure.specs.Configuration.{configurationOf}
+use Rattle.configure.specs.Configure.{configureOf}
+
+-- src/configuration.rt
+abbrev pub ReadReportingConfigurationOnce : Type 0
+ReadReportingConfigurationOnce =
+    (store : List ℕ) (table : ReportingTable) (request : ZclHeader) (body reply : List ℕ) (r q : Answer) (x y : List ℕ)
+    → seen r x noState ≡ configurationOf 8 store (tableOf table) request body (length reply)
+    → seen q y noState ≡ configurationOf 8 store (tableOf table) request body (length reply)
+    → (r ≡ q) × (x ≡ y)
+
+-- src/configure.rt
+abbrev pub ConfigureReportingOnce : Type 0
+ConfigureReportingOnce =
+    (store : List ℕ) (table : ReportingTable) (request : ZclHeader) (body reply : List ℕ) (r q : Configured) (x y : List ℕ)
+    → seen (r .answer) x (tableOf (r .table)) ≡ configureOf 8 room store (tableOf table) request body (length reply)
+    → seen (q .answer) y (tableOf (q .table)) ≡ configureOf 8 room store (tableOf table) request body (length reply)
+    → (r .answer ≡ q .answer) × ((x ≡ y) × Alike (r .table) (q .table))
