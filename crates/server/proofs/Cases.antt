@@ -13,7 +13,7 @@ use Rattle.frame.specs.declared.header.FrameType.the-variants.{GlobalCommand, C
 use Rattle.frame.specs.declared.command_identifier.CommandIdentifier.{CommandIdentifier}
 use Rattle.frame.specs.declared.command_identifier.CommandIdentifier.the-variants.{ReadAttributes, ReadAttributesResponse, WriteAttributes, WriteAttributesUndivided, WriteAttributesResponse, WriteAttributesNoResponse, ConfigureReporting, ConfigureReportingResponse, ReadReportingConfiguration, ReadReportingConfigurationResponse, ReportAttributes, DefaultResponse, DiscoverAttributes, DiscoverAttributesResponse, Other}
 use Rattle.frame.specs.declared.answer.Refusal.{Refusal}
-use Rattle.frame.specs.declared.answer.Refusal.the-variants.{OtherCluster, HeaderShort, ReservedFrameType, RecordCut, ReplyTooLong, NothingToSend, NotAStore, NotATable, NoNumber, NotSuchAReply, EmptyReport, NotReportable}
+use Rattle.frame.specs.declared.answer.Refusal.the-variants.{OtherCluster, HeaderShort, ReservedFrameType, NotAStore, NotATable}
 use Rattle.frame.specs.Header.{headerOf}
 use Rattle.frame.specs.CommandIdentifier.{commandOf}
 use Rattle.frame.specs.Answer.{Outcome, refused}
@@ -26,7 +26,8 @@ use Rattle.write.specs.Write.{writeAttributes, writeUndivided, writeSilently}
 use Rattle.discover.specs.Discover.{discoverOf}
 use Rattle.configure.specs.Configure.{configureOf}
 use Rattle.configure.specs.Configuration.{configurationOf}
-use Rattle.server.specs.Serve.{State, state, neither, storing, tabling, unsupported, commanded, typed, headed, tabled, serve}
+use Rattle.server.specs.Serve.{State, state, neither, storing, tabling, unsupported, commanded, typed, byHeader, tabled, serve}
+use Rattle.server.specs.Left.{When, before, inside, never, when, Early}
 
 -- ---- the seven commands and the rest, as functions of the request's header
 
@@ -61,29 +62,7 @@ module _ (form limit : ℕ) (s : List ℕ) (t : Table) (unicast : Bool) (body : 
 
 -- ---- a request
 
--- when a refusal is decided: before any command, by the command itself, or never of a request
-pub data When : Type 0 where
-  before : When
-  inside : When
-  never : When
-
-abbrev pub when : Refusal → When
-when OtherCluster = before
-when HeaderShort = before
-when ReservedFrameType = before
-when RecordCut = inside
-when ReplyTooLong = inside
-when NothingToSend = inside
-when NotAStore = before
-when NotATable = before
-when NoNumber = never
-when NotSuchAReply = never
-when EmptyReport = never
-when NotReportable = never
-
-abbrev pub Early : Refusal → Type 0
-Early why = when why ≡ before
-
+-- refused by a command itself
 abbrev pub Own : Refusal → Type 0
 Own why = when why ≡ inside
 
@@ -104,10 +83,10 @@ module _ (form limit : ℕ) (s : List ℕ) (unicast : Bool) (room : ℕ) (Q : Ta
   typed-case n l h body ClusterCommand = own n l h body ReadAttributesResponse
   typed-case n l h body Reserved = early (sound n l) ReservedFrameType refl
 
-  headed-case : (n : ℕ) (l : List Entry) (frame : List ℕ) (r : HeaderRead) → Q (sound n l) (headed form limit s (sound n l) unicast frame room r)
-  unfolding headed
-  headed-case n l frame (Header h) = typed-case n l h _ _
-  headed-case n l frame Short = early (sound n l) HeaderShort refl
+  header-case : (n : ℕ) (l : List Entry) (frame : List ℕ) (r : HeaderRead) → Q (sound n l) (byHeader form limit s (sound n l) unicast frame room r)
+  unfolding byHeader
+  header-case n l frame (Header h) = typed-case n l h _ _
+  header-case n l frame Short = early (sound n l) HeaderShort refl
 
   either : (t : Table) (b : Bool) (x : Outcome State) (why : Refusal) → Early why → Q t x → Q t (cond b x (refused room why (state s t)))
   either t true x why e q = q
@@ -116,7 +95,7 @@ module _ (form limit : ℕ) (s : List ℕ) (unicast : Bool) (room : ℕ) (Q : Ta
   module _ (cluster : ℕ) (frame : List ℕ) where
     tabled-case : (t : Table) → Q t (tabled form limit s cluster unicast frame room t)
     unfolding tabled
-    tabled-case (sound n l) = either (sound n l) (eqb cluster (clusterOf s)) _ OtherCluster refl (headed-case n l frame (headerOf frame))
+    tabled-case (sound n l) = either (sound n l) (eqb cluster (clusterOf s)) _ OtherCluster refl (header-case n l frame (headerOf frame))
     tabled-case (bad t) = early (bad t) NotATable refl
 
     pub serve-case : (t : Table) → Q t (serve form limit s t cluster unicast frame room)

@@ -23,7 +23,7 @@ use Rattle.store.specs.Contents.{clusterOf}
 use Rattle.store.specs.Layout.{isStore}
 use Rattle.reporting.specs.declared.table.Length.the-variants.{Entries, Refused}
 use Rattle.reporting.specs.Table.{Table, sound, bad, LengthTold, lengthTold, lengthT}
-use Rattle.server.specs.Serve.{state, unsupported, commanded, typed, headed, tabled, serve}
+use Rattle.server.specs.Serve.{state, unsupported, commanded, typed, byHeader, tabled, serve}
 
 -- ---- the command's number
 
@@ -78,7 +78,7 @@ module _ (form limit : ℕ) (s : List ℕ) where
   other-cluster (bad t) cluster unicast frame room n e q = absurd (omega (arith, ap (λ (x : LengthTold). x .number) e))
 
   own-cluster : (t : Table) (cluster : ℕ) (unicast : Bool) (frame : List ℕ) (room n : ℕ) → lengthTold (Entries n) ≡ lengthT t → clusterOf s ≡ cluster
-      → headed form limit s t unicast frame room (headerOf frame) ≡ tabled form limit s cluster unicast frame room t
+      → byHeader form limit s t unicast frame room (headerOf frame) ≡ tabled form limit s cluster unicast frame room t
   unfolding tabled
   own-cluster (sound m l) cluster unicast frame room n e q = rw (eq-eqb cluster (clusterOf s) (sym q))
   own-cluster (bad t) cluster unicast frame room n e q = absurd (omega (arith, ap (λ (x : LengthTold). x .number) e))
@@ -92,18 +92,18 @@ module _ (form limit : ℕ) (s : List ℕ) (t : Table) (cluster : ℕ) (unicast 
     serve-other q = other-cluster form limit s t cluster unicast frame room n e (λ p. q (is ∙ p)) ∙ by-table form limit s t cluster unicast frame room store
 
     module _ (q : own ≡ cluster) where
-      by-header : headed form limit s t unicast frame room (headerOf frame) ≡ serve form limit s t cluster unicast frame room
+      by-header : byHeader form limit s t unicast frame room (headerOf frame) ≡ serve form limit s t cluster unicast frame room
       by-header = own-cluster form limit s t cluster unicast frame room n e (sym is ∙ q) ∙ by-table form limit s t cluster unicast frame room store
 
       pub serve-short : headerOf frame ≡ Short → refused room HeaderShort (state s t) ≡ serve form limit s t cluster unicast frame room
-      unfolding headed
-      serve-short f = ap (headed form limit s t unicast frame room) (sym f) ∙ by-header
+      unfolding byHeader
+      serve-short f = ap (byHeader form limit s t unicast frame room) (sym f) ∙ by-header
 
       -- the body is what lies behind the header
       pub serve-typed : (h : ZclHeader) → headerOf frame ≡ Header h → h .body ≤ length frame
           → typed form limit s t unicast h (take (length frame - h .body) (drop (h .body) frame)) room (frameTypeOf (h .«frame_control» .0)) ≡ serve form limit s t cluster unicast frame room
-      unfolding headed
+      unfolding byHeader
       serve-typed h f b =
           ap (λ (l : List ℕ). typed form limit s t unicast h l room (frameTypeOf (h .«frame_control» .0))) (take-all (length frame - h .body) (drop (h .body) frame) (simp length-drop (omega arith)))
-          ∙ ap (headed form limit s t unicast frame room) (sym f)
+          ∙ ap (byHeader form limit s t unicast frame room) (sym f)
           ∙ by-header

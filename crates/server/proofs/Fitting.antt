@@ -11,10 +11,10 @@ use lib.Pow.{pow-mono}
 use lib.Signed.{mag}
 use Rattle.types.specs.declared.ids.Size.{Size}
 use Rattle.types.specs.declared.ids.Size.the-variants as SizeV
-use Rattle.types.specs.Number.{unsignedAt, signedAt}
+use Rattle.types.specs.Number.{AllBytes, unsignedAt, signedAt}
 use Rattle.types.specs.Ids.{sizeOf, isAnalog, isSigned, isFloat}
 use Rattle.types.specs.Value.{changeBy, changeAt}
-use Rattle.types.proofs.Numbers.{Bytes, bytes-drop, unsigned-below}
+use Rattle.types.proofs.Numbers.{bytes-drop, unsigned-below}
 use Rattle.types.proofs.Readings.{magnitude-within}
 use Rattle.frame.specs.declared.header.ZclHeader.{ZclHeader}
 use Rattle.frame.specs.declared.header.HeaderRead.{HeaderRead}
@@ -61,7 +61,7 @@ fit-either false es h = tt
 
 -- ---- a record's numbers
 
-change-by : (x : Size) (signed float : Bool) (s : List ℕ) (p : ℕ) → Bytes s → changeBy x signed float s p < 2 ^ 64
+change-by : (x : Size) (signed float : Bool) (s : List ℕ) (p : ℕ) → AllBytes s → changeBy x signed float s p < 2 ^ 64
 change-by (SizeV.Bytes w) true float s p h =
     let m = magnitude-within s p (min w 8) h in
     let q : 2 ^ (8 * min w 8 - 1) ≤ 2 ^ 63 = pow-mono {i = 8 * min w 8 - 1} {j = 63} (omega arith) in
@@ -73,7 +73,7 @@ change-by (SizeV.Bytes w) false false s p h =
     omega arith
 change-by SizeV.Varies signed float s p h = omega arith
 
-change-below : (s : List ℕ) (p t : ℕ) → Bytes s → cond (isAnalog t) (changeAt s p t) 0 < 2 ^ 64
+change-below : (s : List ℕ) (p t : ℕ) → AllBytes s → cond (isAnalog t) (changeAt s p t) 0 < 2 ^ 64
 unfolding changeAt
 change-below s p t h = go (isAnalog t)
   where
@@ -83,7 +83,7 @@ change-below s p t h = go (isAnalog t)
 
 -- ---- of a record, a frame and a request
 
-module _ (s : List ℕ) (store : Bytes s) (h : ZclHeader) where
+module _ (s : List ℕ) (store : AllBytes s) (h : ZclHeader) where
   abbrev Fitting : ConfigureRecord → Type 0
   Fitting (received direction id) = Unit {0}
   Fitting (reported id t g) = Clean (fresh (keyFor s h id) g)
@@ -92,7 +92,7 @@ module _ (s : List ℕ) (store : Bytes s) (h : ZclHeader) where
   FittingItem (item r q) = Fitting r
   FittingItem unread = Unit {0}
 
-  reported-fits : (body : List ℕ) (p id-at t : ℕ) → Bytes body → Fitting (reported (unsignedAt body id-at 2) t (configAt body p t))
+  reported-fits : (body : List ℕ) (p id-at t : ℕ) → AllBytes body → Fitting (reported (unsignedAt body id-at 2) t (configAt body p t))
   reported-fits body p id-at t b = record {
     cluster = unsigned-below s 0 2 store;
     attribute = unsigned-below body id-at 2 b;
@@ -104,7 +104,7 @@ module _ (s : List ℕ) (store : Bytes s) (h : ZclHeader) where
     quiet = λ e. (refl, refl);
   }
 
-  item-fits : (body : List ℕ) (p : ℕ) → Bytes body → FittingItem (configureAt body p)
+  item-fits : (body : List ℕ) (p : ℕ) → AllBytes body → FittingItem (configureAt body p)
   unfolding configureAt
   item-fits body p b =
       let t : ℕ = getD body (p + 3) 0 in
@@ -120,7 +120,7 @@ module _ (s : List ℕ) (store : Bytes s) (h : ZclHeader) where
       go false c true = tt
       go false c false = tt
 
-  records-fit : (body : List ℕ) → Bytes body → All Fitting (configures body .list)
+  records-fit : (body : List ℕ) → AllBytes body → All Fitting (configures body .list)
   unfolding recordsFrom
   records-fit body b = records-all (configureAt body) (length body) Fitting (λ p r q e. subst FittingItem e (item-fits body p b)) _ 0
 
@@ -142,13 +142,13 @@ module _ (s : List ℕ) (store : Bytes s) (h : ZclHeader) where
         checked-either AllFit (findOf 8 s (nameOf (h .«manufacturer_code» .0) id)) t es (setting limit l (keyFor s h id) g es) d
         (setting-fits (keyFor s h id) g es d c)
 
-    configure-fits : (body : List ℕ) (room : ℕ) → Bytes body → AllFit (configureEvents 8 limit s l h body room .state)
+    configure-fits : (body : List ℕ) (room : ℕ) → AllBytes body → AllFit (configureEvents 8 limit s l h body room .state)
     unfolding configureEvents
     configure-fits body room b =
         headed-keeps AllFit h ConfigureReportingResponse [] room _ tt
         (λ head. performed-keeps (configuring 8 limit s h l) AllFit Fitting tried-fits (configures body) (records-fit body b) [] room head tt)
 
-module _ (limit : ℕ) (r : Request) (l : List Entry) (store : Bytes (r .store)) (frame : Bytes (r .frame)) where
+module _ (limit : ℕ) (r : Request) (l : List Entry) (store : AllBytes (r .store)) (frame : AllBytes (r .frame)) where
   headed-fits : (x : HeaderRead) → AllFit (headedEvents limit r l x)
   headed-fits Short = tt
   headed-fits (Header h) =

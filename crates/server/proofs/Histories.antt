@@ -30,7 +30,7 @@ use Rattle.reporting.specs.Events.{Event, Leads}
 use Rattle.reporting.proofs.Histories.{call-is, leads-then}
 use Rattle.configure.specs.Configure.{configureEvents, configureOf}
 use Rattle.configure.proofs.History.{configure-leads}
-use Rattle.server.specs.Serve.{state, commanded, typed, headed, tabled, serve}
+use Rattle.server.specs.Serve.{state, commanded, typed, byHeader, tabled, serve}
 use Rattle.server.specs.UnsupportedCluster.{isGlobal}
 use Rattle.server.specs.History.{Request, entriesOf, requested, headedEvents, requestEvents, Use, request, direct, used, useEvents, uses, served, UsesAreEvents}
 use Rattle.server.proofs.Cases.{commanded-case, serve-case}
@@ -84,8 +84,8 @@ module _ (limit : ℕ) (r : Request) (l : List Entry) where
     by-type ClusterCommand = nothing limit l
     by-type Reserved = nothing limit l
 
-  by-header : (x : HeaderRead) → Leads limit (headedEvents limit r l x) l (entriesOf (headed 8 limit (r .store) (holding l) (r .unicast) (r .frame) (r .room) x .state .table))
-  unfolding headed
+  by-header : (x : HeaderRead) → Leads limit (headedEvents limit r l x) l (entriesOf (byHeader 8 limit (r .store) (holding l) (r .unicast) (r .frame) (r .room) x .state .table))
+  unfolding byHeader
   by-header (Header h) = by-type h (frameTypeOf (h .«frame_control» .0))
   by-header Short = nothing limit l
 
@@ -98,7 +98,7 @@ module _ (limit : ℕ) (r : Request) (l : List Entry) where
           → Leads limit (cond (a && b) (headedEvents limit r l (headerOf (r .frame))) []) l
           (entriesOf
           (cond a
-          (cond b (headed 8 limit (r .store) (holding l) (r .unicast) (r .frame) (r .room) (headerOf (r .frame))) (refused (r .room) OtherCluster (state (r .store) (holding l))))
+          (cond b (byHeader 8 limit (r .store) (holding l) (r .unicast) (r .frame) (r .room) (headerOf (r .frame))) (refused (r .room) OtherCluster (state (r .store) (holding l))))
           (refused (r .room) NotAStore (state (r .store) (holding l))) .state .table))
       go true true = by-header (headerOf (r .frame))
       go true false = nothing limit l

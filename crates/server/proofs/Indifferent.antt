@@ -17,7 +17,7 @@ use Rattle.frame.proofs.Headers.{header-plain, header-coded, header-short, head
 use Rattle.store.specs.Contents.{clusterOf}
 use Rattle.store.specs.Layout.{isStore}
 use Rattle.reporting.specs.Table.{Table, sound, bad}
-use Rattle.server.specs.Serve.{State, state, typed, headed, tabled, serve, ControlBitsDoNotMatter, ManufacturerCodeDoesNotMatter}
+use Rattle.server.specs.Serve.{State, state, typed, byHeader, tabled, serve, ControlBitsDoNotMatter, ManufacturerCodeDoesNotMatter}
 use Rattle.server.proofs.Sees.{typed-sees}
 
 -- a request with this sequence number and command, and no more of a header
@@ -41,28 +41,28 @@ module _ (form limit : ℕ) (s : List ℕ) where
         (refused room HeaderShort (state s t))
 
     by-length : (control : ℕ) (rest : List ℕ) (coded : Bool) → hasCode control ≡ coded → (b : Bool) → leb (cond coded 2 0 + 2) (length rest) ≡ b
-        → headed form limit s t unicast (control ∷ rest) room (headerOf (control ∷ rest))
+        → byHeader form limit s t unicast (control ∷ rest) room (headerOf (control ∷ rest))
         ≡ cond b (typed form limit s t unicast (numbered (getD rest (cond coded 2 0) 0) (getD rest (cond coded 2 0 + 1) 0)) (drop (cond coded 2 0 + 2) rest) room (frameTypeOf control)) (refused room HeaderShort (state s t))
-    unfolding headed
+    unfolding byHeader
     by-length control rest true e true l =
         let h : 4 ≤ length rest = leb-true 4 (length rest) l in
-        ap (headed form limit s t unicast (control ∷ rest) room) (header-coded (control ∷ rest) e (omega arith)) ∙ typed-sees form limit s t unicast _ _ room (frameTypeOf control)
+        ap (byHeader form limit s t unicast (control ∷ rest) room) (header-coded (control ∷ rest) e (omega arith)) ∙ typed-sees form limit s t unicast _ _ room (frameTypeOf control)
     by-length control rest true e false l =
         let h : length rest < 4 = leb-false 4 (length rest) l in
-        ap (headed form limit s t unicast (control ∷ rest) room) (header-coded-short (control ∷ rest) e (omega arith))
+        ap (byHeader form limit s t unicast (control ∷ rest) room) (header-coded-short (control ∷ rest) e (omega arith))
     by-length control rest false e true l =
         let h : 2 ≤ length rest = leb-true 2 (length rest) l in
-        ap (headed form limit s t unicast (control ∷ rest) room) (header-plain (control ∷ rest) e (omega arith)) ∙ typed-sees form limit s t unicast _ _ room (frameTypeOf control)
+        ap (byHeader form limit s t unicast (control ∷ rest) room) (header-plain (control ∷ rest) e (omega arith)) ∙ typed-sees form limit s t unicast _ _ room (frameTypeOf control)
     by-length control rest false e false l =
         let h : length rest < 2 = leb-false 2 (length rest) l in
-        ap (headed form limit s t unicast (control ∷ rest) room) (header-short (control ∷ rest) (omega arith))
+        ap (byHeader form limit s t unicast (control ∷ rest) room) (header-short (control ∷ rest) (omega arith))
 
-    headed-behind : (control : ℕ) (rest : List ℕ) (coded : Bool) → hasCode control ≡ coded
-        → headed form limit s t unicast (control ∷ rest) room (headerOf (control ∷ rest)) ≡ behind (frameTypeOf control) (cond coded 2 0) rest
-    headed-behind control rest coded e = by-length control rest coded e (leb (cond coded 2 0 + 2) (length rest)) refl
+    header-behind : (control : ℕ) (rest : List ℕ) (coded : Bool) → hasCode control ≡ coded
+        → byHeader form limit s t unicast (control ∷ rest) room (headerOf (control ∷ rest)) ≡ behind (frameTypeOf control) (cond coded 2 0) rest
+    header-behind control rest coded e = by-length control rest coded e (leb (cond coded 2 0 + 2) (length rest)) refl
 
   module _ (cluster : ℕ) (unicast : Bool) (room : ℕ) (frame other : List ℕ)
-      (same : (t : Table) → headed form limit s t unicast frame room (headerOf frame) ≡ headed form limit s t unicast other room (headerOf other)) where
+      (same : (t : Table) → byHeader form limit s t unicast frame room (headerOf frame) ≡ byHeader form limit s t unicast other room (headerOf other)) where
     tabled-alike : (t : Table) → tabled form limit s cluster unicast frame room t ≡ tabled form limit s cluster unicast other room t
     unfolding tabled
     tabled-alike (sound n l) =
@@ -89,11 +89,11 @@ pub control-bits : ControlBitsDoNotMatter
 control-bits form limit s t cluster unicast room control other rest e =
     served-alike form limit s cluster unicast room (control ∷ rest) (other ∷ rest) same t
   where
-    same : (u : Table) → headed form limit s u unicast (control ∷ rest) room (headerOf (control ∷ rest)) ≡ headed form limit s u unicast (other ∷ rest) room (headerOf (other ∷ rest))
+    same : (u : Table) → byHeader form limit s u unicast (control ∷ rest) room (headerOf (control ∷ rest)) ≡ byHeader form limit s u unicast (other ∷ rest) room (headerOf (other ∷ rest))
     same u =
-        headed-behind form limit s u unicast room control rest (hasCode control) refl
+        header-behind form limit s u unicast room control rest (hasCode control) refl
         ∙ ap (λ (k : FrameType). behind form limit s u unicast room k (cond (hasCode control) 2 0) rest) (type-bits control other (omega (arith, e)))
-        ∙ sym (headed-behind form limit s u unicast room other rest (hasCode control) (sym (code-bit control other e)))
+        ∙ sym (header-behind form limit s u unicast room other rest (hasCode control) (sym (code-bit control other e)))
 
 -- ---- the manufacturer code
 
@@ -114,9 +114,9 @@ manufacturer-code form limit s t cluster unicast room control a b rest e =
     plain : hasCode control ≡ false
     plain = ne-eqb (control / 4 % 2) 1 (λ q. absurd (omega (arith, e, q)))
 
-    same : (u : Table) → headed form limit s u unicast ((control + 4) ∷ a ∷ b ∷ rest) room (headerOf ((control + 4) ∷ a ∷ b ∷ rest)) ≡ headed form limit s u unicast (control ∷ rest) room (headerOf (control ∷ rest))
+    same : (u : Table) → byHeader form limit s u unicast ((control + 4) ∷ a ∷ b ∷ rest) room (headerOf ((control + 4) ∷ a ∷ b ∷ rest)) ≡ byHeader form limit s u unicast (control ∷ rest) room (headerOf (control ∷ rest))
     same u =
-        headed-behind form limit s u unicast room (control + 4) (a ∷ b ∷ rest) true coded
+        header-behind form limit s u unicast room (control + 4) (a ∷ b ∷ rest) true coded
         ∙ ap (λ (k : FrameType). behind form limit s u unicast room k 2 (a ∷ b ∷ rest)) (type-bits (control + 4) control (omega arith))
         ∙ ap (λ (x : Bool). cond x (typed form limit s u unicast (numbered (getD rest 0 0) (getD rest 1 0)) (drop 2 rest) room (frameTypeOf control)) (refused room HeaderShort (state s u))) (two-more (length rest))
-        ∙ sym (headed-behind form limit s u unicast room control rest false plain)
+        ∙ sym (header-behind form limit s u unicast room control rest false plain)

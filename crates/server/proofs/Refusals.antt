@@ -14,7 +14,8 @@ use Rattle.frame.proofs.Buffer.{length-padded, take-padded}
 use Rattle.frame.proofs.Codes.{refusal-same, refusal-nonzero}
 use Rattle.reporting.specs.Table.{Table}
 use Rattle.server.specs.Serve.{State, state, serve}
-use Rattle.server.proofs.Cases.{Early, Own, apart, serve-case}
+use Rattle.server.specs.Left.{Early, RefusalClears, ReplyThenZeros, ReplyLength, Untouched}
+use Rattle.server.proofs.Cases.{Own, apart, serve-case}
 use Rattle.server.proofs.Shapes.{Shape, replies, refuses, commanded-shape}
 
 -- THE WAYS of a request: refused before any command, with store and table as they came; or as a command's outcome is
@@ -72,18 +73,14 @@ module _ (room : ℕ) (s : List ℕ) (t : Table) (o : Outcome State) where
 
 -- ---- THE LAWS, for every request
 
-module _ (form limit : ℕ) (s : List ℕ) (t : Table) (cluster : ℕ) (unicast : Bool) (frame : List ℕ) (room : ℕ) where
-  abbrev answer : Outcome State
-  answer = serve form limit s t cluster unicast frame room
+pub refusal-clears : RefusalClears
+refusal-clears form limit s t cluster unicast frame room = clears room s t _ (serve-ways form limit s unicast room cluster frame t)
 
-  pub refusal-clears : (answer .number ≡ 0 → ⊥) → (answer .reply ≡ zeros room) × (answer .size ≡ 0)
-  refusal-clears = clears room s t answer (serve-ways form limit s unicast room cluster frame t)
+pub reply-then-zeros : ReplyThenZeros
+reply-then-zeros form limit s t cluster unicast frame room = padded-out room s t _ (serve-ways form limit s unicast room cluster frame t)
 
-  pub reply-then-zeros : answer .number ≡ 0 → (answer .size ≤ room) × (answer .reply ≡ padded room (take (answer .size) (answer .reply)))
-  reply-then-zeros = padded-out room s t answer (serve-ways form limit s unicast room cluster frame t)
+pub reply-length : ReplyLength
+reply-length form limit s t cluster unicast frame room = same-room room s t _ (serve-ways form limit s unicast room cluster frame t)
 
-  pub reply-length : length (answer .reply) ≡ room
-  reply-length = same-room room s t answer (serve-ways form limit s unicast room cluster frame t)
-
-  pub untouched : (why : Refusal) → Early why → answer .number ≡ refusalNumber why → answer .state ≡ state s t
-  untouched = as-it-was room s t answer (serve-ways form limit s unicast room cluster frame t)
+pub untouched : Untouched
+untouched form limit s t cluster unicast frame room = as-it-was room s t _ (serve-ways form limit s unicast room cluster frame t)

@@ -25,9 +25,9 @@ use Rattle.configure.specs.Request.{changeWidth, configureAt, askedAt}
 use Rattle.configure.specs.Configure.{setting, tried, configureEvents, configureOf}
 use Rattle.configure.specs.Configuration.{encode as encode-configure-configuration, recordBy as recordBy-configure-configuration, recordFor as recordFor-configure-configuration, configurationOf}
 use Rattle.server.specs.DefaultResponse.{defaultReply, defaultResponse}
-use Rattle.server.specs.Serve.{commanded, typed, headed as headed-server-serve, tabled, serve}
+use Rattle.server.specs.Serve.{commanded, typed, byHeader, tabled, serve}
 use Rattle.server.specs.Bench.{StarredFramesHold}
 
 pub starred-frames-hold : StarredFramesHold
-unfolding allZero le bytesOf unsignedAt signedOf signedAt residue sizeOf formOf isAnalog isReportable isSigned isFloat numberAt changeAt upto times count text series member structure byForm valueAt seriesAt structureAt frameTypeOf headerOf replyHead commandOf padded over put recordsIn recordsFrom walk encodeAll fits turn shortenedFrom shortenedReply shortened turn-frame-failures passFrom encodeFailures answered concluded performed headed noting concludedAt attributeAt attributesFrom attributesOf findIn findOf each ascending roomOk isText lengthOk followOn endFrom unusedOk isStore usedOf valueOf fitted stored numberOf tooLong isWritable checkOf writeOf movedBy idAt encode recordBy recordFor readOf recordAt recordsAt encode-write-reply written checked writeAttributes undivided writeUndivided writeSilently encode-discover-discover atOrAfter listed completeByte discoveredAll discoverReply discoverOf changeWidth configureAt askedAt setting tried configureEvents configureOf encode-configure-configuration recordBy-configure-configuration recordFor-configure-configuration configurationOf defaultReply defaultResponse commanded typed headed-server-serve tabled serve
+unfolding allZero le bytesOf unsignedAt signedOf signedAt residue sizeOf formOf isAnalog isReportable isSigned isFloat numberAt changeAt upto times count text series member structure byForm valueAt seriesAt structureAt frameTypeOf headerOf replyHead commandOf padded over put recordsIn recordsFrom walk encodeAll fits turn shortenedFrom shortenedReply shortened turn-frame-failures passFrom encodeFailures answered concluded performed headed noting concludedAt attributeAt attributesFrom attributesOf findIn findOf each ascending roomOk isText lengthOk followOn endFrom unusedOk isStore usedOf valueOf fitted stored numberOf tooLong isWritable checkOf writeOf movedBy idAt encode recordBy recordFor readOf recordAt recordsAt encode-write-reply written checked writeAttributes undivided writeUndivided writeSilently encode-discover-discover atOrAfter listed completeByte discoveredAll discoverReply discoverOf changeWidth configureAt askedAt setting tried configureEvents configureOf encode-configure-configuration recordBy-configure-configuration recordFor-configure-configuration configurationOf defaultReply defaultResponse commanded typed byHeader tabled serve
 starred-frames-hold = (refl, (refl, (refl, (refl, (refl, (refl, (refl, (refl, (refl, ((refl, (refl, (refl, (refl, (refl, (refl, (refl, tt))))))), (refl, (refl, (refl, tt)))))))))))))

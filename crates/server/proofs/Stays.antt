@@ -6,19 +6,21 @@ use Prim.Native.Nat.{ℕ, _≤_}
 use Rattle.frame.specs.declared.header.ZclHeader.{ZclHeader}
 use Rattle.frame.specs.declared.command_identifier.CommandIdentifier.{CommandIdentifier}
 use Rattle.store.specs.Layout.{isStore}
+use Rattle.store.specs.Stays.{StoreLike}
 use Rattle.reporting.specs.Table.{Table, sound}
-use Rattle.write.proofs.Kept.{Alike, write-keeps}
-use Rattle.server.specs.Serve.{commanded, serve}
+use Rattle.write.proofs.Kept.{write-keeps}
+use Rattle.server.specs.Serve.{commanded}
+use Rattle.server.specs.Left.{StoreStays}
 use Rattle.server.proofs.Cases.{commanded-case, serve-case}
 
 module _ (form limit : ℕ) (s : List ℕ) (wide : 8 ≤ form) (is : isStore form s ≡ true) (unicast : Bool) (room : ℕ) where
   -- a command that is none of the three leaves the store itself
-  itself : Alike form s s
+  itself : StoreLike form s s
   itself = record { still = is; same-length = refl; same-contents = refl }
 
-  commanded-stays : (t : Table) (h : ZclHeader) (body : List ℕ) (c : CommandIdentifier) → Alike form s (commanded form limit s t unicast h body room c .state .store)
+  commanded-stays : (t : Table) (h : ZclHeader) (body : List ℕ) (c : CommandIdentifier) → StoreLike form s (commanded form limit s t unicast h body room c .state .store)
   commanded-stays t h body =
-      commanded-case form limit s t unicast body room (λ f. Alike form s (f h .state .store))
+      commanded-case form limit s t unicast body room (λ f. StoreLike form s (f h .state .store))
       (record {
         read = itself;
         write = write-keeps form s h body room wide is .by-write;
@@ -30,7 +32,8 @@ module _ (form limit : ℕ) (s : List ℕ) (wide : 8 ≤ form) (is : isStore for
         other = itself;
       })
 
-  -- A STORE STAYS A STORE
-  pub store-stays : (cluster : ℕ) (frame : List ℕ) (t : Table) → Alike form s (serve form limit s t cluster unicast frame room .state .store)
-  store-stays =
-      serve-case form limit s unicast room (λ t o. Alike form s (o .state .store)) (λ t why e. itself) (λ n l h body c. commanded-stays (sound n l) h body c)
+-- A STORE STAYS A STORE
+pub store-stays : StoreStays
+store-stays form limit s t cluster unicast frame room wide is =
+    serve-case form limit s unicast room (λ t o. StoreLike form s (o .state .store)) (λ t why e. itself form limit s wide is unicast room)
+    (λ n l h body c. commanded-stays form limit s wide is unicast room (sound n l) h body c) cluster frame t

@@ -1,17 +1,12 @@
 -- No second answer fits a call. Two that meet a request's contract have the same answer, reply buffer and store, and tables that are alike
 -- (the slots past the count are no part of a table). Assumes nothing.
 use mathlib.Core.Path.{_≡_, ap}
-use mathlib.Core.Bool.{Bool}
 use mathlib.Core.List.{List}
 use Prim.Native.Nat.{ℕ}
 use lib.ListN.{length}
-use Rattle.types.specs.declared.ids.ClusterId.{ClusterId}
 use Rattle.frame.specs.declared.answer.Answer.{Answer}
-use Rattle.frame.specs.declared.header.ZclHeader.{ZclHeader}
-use Rattle.frame.specs.declared.status.Status.{Status}
 use Rattle.frame.specs.Answer.{Outcome, noState, seen}
 use Rattle.frame.proofs.Outcome.{only-one}
-use Rattle.reporting.specs.declared.table.ReportingTable.{ReportingTable}
 use Rattle.reporting.specs.Table.{room, Alike, tableOf}
 use Rattle.reporting.proofs.Unique.{alike}
 use Rattle.server.specs.declared.serve.Served.{Served}
@@ -19,47 +14,36 @@ use Rattle.server.specs.DefaultResponse.{defaultResponse}
 use Rattle.server.specs.Report.{reportOf}
 use Rattle.server.specs.Serve.{State, state, serve}
 use Rattle.server.specs.UnsupportedCluster.{unsupportedCluster}
+use Rattle.server.specs.Unique.{DefaultResponseOnce, ReportOnce, HandleRequestOnce, UnsupportedClusterOnce}
 
 -- ---- what is seen of a call tells all that it left
 
-pub served-once : (o : Outcome State) (a b : Served) (d e s u : List ℕ) → seen (a .answer) d (state s (tableOf (a .table))) ≡ o → seen (b .answer) e (state u (tableOf (b .table))) ≡ o
+pub one-served : (o : Outcome State) (a b : Served) (d e s u : List ℕ) → seen (a .answer) d (state s (tableOf (a .table))) ≡ o → seen (b .answer) e (state u (tableOf (b .table))) ≡ o
     → (a .answer ≡ b .answer) × ((d ≡ e) × ((s ≡ u) × Alike (a .table) (b .table)))
-served-once o a b d e s u p q =
+one-served o a b d e s u p q =
     let w = only-one o (a .answer) (b .answer) d e (state s (tableOf (a .table))) (state u (tableOf (b .table))) p q in
     (w .0, (w .1 .0, (ap (λ (x : State). x .store) (w .1 .1), alike (a .table) (b .table) (ap (λ (x : State). x .table) (w .1 .1)))))
 
 -- a Default Response, the responder's answer and a report leave no more than an answer and a buffer
-pub answered-once : (o : Outcome (Unit {0})) (a b : Answer) (d e : List ℕ) → seen a d noState ≡ o → seen b e noState ≡ o → (a ≡ b) × (d ≡ e)
-answered-once o a b d e p q = let w = only-one o a b d e noState noState p q in (w .0, w .1 .0)
+pub one-answered : (o : Outcome (Unit {0})) (a b : Answer) (d e : List ℕ) → seen a d noState ≡ o → seen b e noState ≡ o → (a ≡ b) × (d ≡ e)
+one-answered o a b d e p q = let w = only-one o a b d e noState noState p q in (w .0, w .1 .0)
 
 -- src/default_response.rt
 
-pub default-response-once : (request : ZclHeader) (unicast : Bool) (status : Status) (reply : List ℕ) (r q : Answer) (x y : List ℕ)
-    → seen r x noState ≡ defaultResponse request unicast status (length reply)
-    → seen q y noState ≡ defaultResponse request unicast status (length reply)
-    → (r ≡ q) × (x ≡ y)
-default-response-once request unicast status reply r q x y e f = answered-once (defaultResponse request unicast status (length reply)) r q x y e f
+pub default-response-once : DefaultResponseOnce
+default-response-once request unicast status reply r q x y e f = one-answered (defaultResponse request unicast status (length reply)) r q x y e f
 
 -- src/report.rt
 
-pub report-once : (store : List ℕ) (sequence : ℕ) (ids frame : List ℕ) (r q : Answer) (x y : List ℕ)
-    → seen r x noState ≡ reportOf 8 store sequence ids (length frame)
-    → seen q y noState ≡ reportOf 8 store sequence ids (length frame)
-    → (r ≡ q) × (x ≡ y)
-report-once store sequence ids frame r q x y e f = answered-once (reportOf 8 store sequence ids (length frame)) r q x y e f
+pub report-once : ReportOnce
+report-once store sequence ids frame r q x y e f = one-answered (reportOf 8 store sequence ids (length frame)) r q x y e f
 
 -- src/serve.rt
 
-pub handle-request-once : (store : List ℕ) (table : ReportingTable) (cluster : ClusterId) (unicast : Bool) (request reply : List ℕ) (r q : Served) (x y s u : List ℕ)
-    → seen (r .answer) x (state s (tableOf (r .table))) ≡ serve 8 room store (tableOf table) (cluster .0) unicast request (length reply)
-    → seen (q .answer) y (state u (tableOf (q .table))) ≡ serve 8 room store (tableOf table) (cluster .0) unicast request (length reply)
-    → (r .answer ≡ q .answer) × ((x ≡ y) × ((s ≡ u) × Alike (r .table) (q .table)))
-handle-request-once store table cluster unicast request reply r q x y s u e f = served-once (serve 8 room store (tableOf table) (cluster .0) unicast request (length reply)) r q x y s u e f
+pub handle-request-once : HandleRequestOnce
+handle-request-once store table cluster unicast request reply r q x y s u e f = one-served (serve 8 room store (tableOf table) (cluster .0) unicast request (length reply)) r q x y s u e f
 
 -- src/unsupported_cluster.rt
 
-pub unsupported-cluster-once : (served : List ℕ) (cluster : ClusterId) (unicast : Bool) (request reply : List ℕ) (r q : Answer) (x y : List ℕ)
-    → seen r x noState ≡ unsupportedCluster served (cluster .0) unicast request (length reply)
-    → seen q y noState ≡ unsupportedCluster served (cluster .0) unicast request (length reply)
-    → (r ≡ q) × (x ≡ y)
-unsupported-cluster-once served cluster unicast request reply r q x y e f = answered-once (unsupportedCluster served (cluster .0) unicast request (length reply)) r q x y e f
+pub unsupported-cluster-once : UnsupportedClusterOnce
+unsupported-cluster-once served cluster unicast request reply r q x y e f = one-answered (unsupportedCluster served (cluster .0) unicast request (length reply)) r q x y e f

@@ -1,10 +1,13 @@
 -- What a reader must believe of this crate, a file for an idea.
 pub mod DefaultResponse
 pub mod Serve  -- a request served: the order of refusals, and the commands
+pub mod Left  -- what every answer leaves
 pub mod UnsupportedCluster  -- the responder for clusters that are not served
 pub mod Report  -- the Report Attributes frame
 pub mod History  -- requests and direct calls, as the events of a reporting table
 pub mod Demand3  -- demand 3 with frames
 pub mod Log  -- what the code answered, and demand 3 of it
 pub mod Bench  -- the starred bench frames, as one list under one claim
+pub mod ServedHistory  -- a history that meets what demand 3 supposes
+pub mod Unique  -- no second answer fits a contract
 pub mod Inside  -- what only inner functions say

@@ -78,15 +78,15 @@ typed form limit s t unicast h body room ClusterCommand = unsupported s t unicas
 typed form limit s t unicast h body room Reserved = refused room ReservedFrameType (state s t)
 
 -- by its header: a short one is 2
-unfoldable pub headed : ℕ → ℕ → List ℕ → Table → Bool → List ℕ → ℕ → HeaderRead → Outcome State
-headed form limit s t unicast frame room (Header h) = typed form limit s t unicast h (drop (h .body) frame) room (frameTypeOf (h .«frame_control» .0))
-headed form limit s t unicast frame room Short = refused room HeaderShort (state s t)
+unfoldable pub byHeader : ℕ → ℕ → List ℕ → Table → Bool → List ℕ → ℕ → HeaderRead → Outcome State
+byHeader form limit s t unicast frame room (Header h) = typed form limit s t unicast h (drop (h .body) frame) room (frameTypeOf (h .«frame_control» .0))
+byHeader form limit s t unicast frame room Short = refused room HeaderShort (state s t)
 
 -- for a table; a count above the limit is 8, another cluster 1
 unfoldable pub tabled : ℕ → ℕ → List ℕ → ℕ → Bool → List ℕ → ℕ → Table → Outcome State
 tabled form limit s cluster unicast frame room (sound n l) =
     cond (eqb cluster (clusterOf s))
-    (headed form limit s (sound n l) unicast frame room (headerOf frame))
+    (byHeader form limit s (sound n l) unicast frame room (headerOf frame))
     (refused room OtherCluster (state s (sound n l)))
 tabled form limit s cluster unicast frame room (bad t) = refused room NotATable (state s (bad t))
 

@@ -1,0 +1,67 @@
+-- What every answer leaves (document 01, "What a call says back"), as claims about every request. Assumes nothing: these are definitions.
+use mathlib.Core.Path.{_≡_}
+use mathlib.Core.Bool.{Bool, true}
+use mathlib.Core.List.{List}
+use Prim.Native.Nat.{ℕ, _≤_}
+use lib.ListN.{length, take}
+use Rattle.types.specs.Number.{zeros}
+use Rattle.frame.specs.declared.answer.Refusal.{Refusal}
+use Rattle.frame.specs.declared.answer.Refusal.the-variants.{OtherCluster, HeaderShort, ReservedFrameType, RecordCut, ReplyTooLong, NothingToSend, NotAStore, NotATable, NoNumber, NotSuchAReply, EmptyReport, NotReportable}
+use Rattle.frame.specs.Reply.{padded}
+use Rattle.frame.specs.Answer.{refusalNumber, Outcome}
+use Rattle.store.specs.Layout.{isStore}
+use Rattle.store.specs.Stays.{StoreLike}
+use Rattle.reporting.specs.Table.{Table}
+use Rattle.server.specs.Serve.{State, state, serve}
+
+-- for every form, limit, store, table, cluster, way of sending, frame and room: P of the room, of store and table as they came, and of the answer
+abbrev pub OfEveryAnswer : (ℕ → State → Outcome State → Type 0) → Type 0
+OfEveryAnswer P =
+    (form limit : ℕ) (s : List ℕ) (t : Table) (cluster : ℕ) (unicast : Bool) (frame : List ℕ) (room : ℕ) → P room (state s t) (serve form limit s t cluster unicast frame room)
+
+-- "after a refusal it is all zeros": where the number is not 0, the reply buffer is, and the length is 0
+abbrev pub RefusalClears : Type 0
+RefusalClears = OfEveryAnswer (λ room came o. (o .number ≡ 0 → ⊥) → (o .reply ≡ zeros room) × (o .size ≡ 0))
+
+-- "The reply buffer always ends as the reply followed by zeros to its end": where the number is 0, the length fits the room, and zeros follow
+abbrev pub ReplyThenZeros : Type 0
+ReplyThenZeros = OfEveryAnswer (λ room came o. o .number ≡ 0 → (o .size ≤ room) × (o .reply ≡ padded room (take (o .size) (o .reply))))
+
+-- the buffer is as long as it was
+abbrev pub ReplyLength : Type 0
+ReplyLength = OfEveryAnswer (λ room came o. length (o .reply) ≡ room)
+
+-- "Order: 7, 8, 1, 2, 3, then the command": whether a refusal is decided before any command, by the command, or never of a request
+pub data When : Type 0 where
+  before : When
+  inside : When
+  never : When
+
+abbrev pub when : Refusal → When
+when OtherCluster = before
+when HeaderShort = before
+when ReservedFrameType = before
+when RecordCut = inside
+when ReplyTooLong = inside
+when NothingToSend = inside
+when NotAStore = before
+when NotATable = before
+when NoNumber = never
+when NotSuchAReply = never
+when EmptyReport = never
+when NotReportable = never
+
+abbrev pub Early : Refusal → Type 0
+Early why = when why ≡ before
+
+-- "untouched": 1, 2, 3, 7 and 8 leave store and table as they came
+abbrev pub Untouched : Type 0
+Untouched = OfEveryAnswer (λ room came o. (why : Refusal) → Early why → o .number ≡ refusalNumber why → o .state ≡ came)
+
+-- a store stays a store under every request: of the same length, with the same contents
+abbrev pub StoreStays : Type 0
+StoreStays =
+    (form limit : ℕ) (s : List ℕ) (t : Table) (cluster : ℕ) (unicast : Bool) (frame : List ℕ) (room : ℕ)
+    → 8 ≤ form
+    → isStore form s ≡ true
+    → StoreLike form s (serve form limit s t cluster unicast frame room .state .store)
