@@ -4,11 +4,12 @@ use Prim.Native.Nat.{ℕ}
 use mathlib.Core.Path.{_≡_, sym, ap, _∙_}
 use mathlib.Core.List.{List}
 use lib.ListN.{length}
-use lib.IntN.{ℤ}
 use Rattle.frame.specs.Answer.{Outcome, noState}
 use Rattle.store.specs.Value.{Telling}
 use Rattle.hingedrift.specs.Tables.{keyOf, configOf, Left, left, noResult, Configuration, configurationAs, newLeft, configureLeft, clearLeft, markLeft, askLeft, configurationLeft}
-use Rattle.hingedrift.specs.Serving.{handed, numberHanded, Lent, lent, numberLeft, unsupportedLeft, reportLeft, handleLeft}
+use Rattle.hingedrift.specs.Serving.{handed, Lent, lent, unsupportedLeft, reportLeft, handleLeft}
+use Rattle.hingedrift.specs.Unique.{HdNumberOnce, HdHandleRequestOnce, HdUnsupportedClusterOnce, HdReportOnce, HdTableNewOnce, HdConfigureOnce}
+use Rattle.hingedrift.specs.Unique.{HdClearOnce, HdConfigurationOnce, HdAskOnce, HdMarkOnce}
 
 -- ---- what is seen of a call tells all that it left
 
@@ -32,63 +33,39 @@ one-reply o r q m n x y e f = let w = one-handed o r q m n x y noState noState e
 
 -- src/serving.rt
 
-pub hd-number-once : (store : List ℕ) (attribute r q : ℕ) (x y : ℤ) → numberHanded r x ≡ numberLeft store attribute → numberHanded q y ≡ numberLeft store attribute → (r ≡ q) × (x ≡ y)
+pub hd-number-once : HdNumberOnce
 hd-number-once store attribute r q x y e f = let p = e ∙ sym f in (ap (λ (z : Telling). z .answer) p, ap (λ (z : Telling). z .value) p)
 
-pub hd-handle-request-once : (store table : List ℕ) (cluster unicast : ℕ) (request reply : List ℕ) (r q m n : ℕ) (x y s u bs cs : List ℕ)
-    → handed r m x (lent s bs) ≡ handleLeft store table cluster unicast request (length reply)
-    → handed q n y (lent u cs) ≡ handleLeft store table cluster unicast request (length reply)
-    → (r ≡ q) × ((m ≡ n) × ((x ≡ y) × ((s ≡ u) × (bs ≡ cs))))
+pub hd-handle-request-once : HdHandleRequestOnce
 hd-handle-request-once store table cluster unicast request reply r q m n x y s u bs cs e f =
     let w = one-handed (handleLeft store table cluster unicast request (length reply)) r q m n x y (lent s bs) (lent u cs) e f in
     (w .0, (w .1 .0, (w .1 .1 .0, (ap (λ (z : Lent). z .store) (w .1 .1 .1), ap (λ (z : Lent). z .table) (w .1 .1 .1)))))
 
-pub hd-unsupported-cluster-once : (served : List ℕ) (cluster unicast : ℕ) (request reply : List ℕ) (r q m n : ℕ) (x y : List ℕ)
-    → handed r m x noState ≡ unsupportedLeft served cluster unicast request (length reply)
-    → handed q n y noState ≡ unsupportedLeft served cluster unicast request (length reply)
-    → (r ≡ q) × ((m ≡ n) × (x ≡ y))
+pub hd-unsupported-cluster-once : HdUnsupportedClusterOnce
 hd-unsupported-cluster-once served cluster unicast request reply r q m n x y e f = one-reply (unsupportedLeft served cluster unicast request (length reply)) r q m n x y e f
 
-pub hd-report-once : (store : List ℕ) (sequence : ℕ) (ids frame : List ℕ) (r q m n : ℕ) (x y : List ℕ)
-    → handed r m x noState ≡ reportLeft store sequence ids (length frame)
-    → handed q n y noState ≡ reportLeft store sequence ids (length frame)
-    → (r ≡ q) × ((m ≡ n) × (x ≡ y))
+pub hd-report-once : HdReportOnce
 hd-report-once store sequence ids frame r q m n x y e f = one-reply (reportLeft store sequence ids (length frame)) r q m n x y e f
 
 -- src/table.rt
 
-pub hd-table-new-once : (table : List ℕ) (r q : ℕ) (bs cs : List ℕ) → left r bs noResult ≡ newLeft table → left q cs noResult ≡ newLeft table → (r ≡ q) × (bs ≡ cs)
+pub hd-table-new-once : HdTableNewOnce
 hd-table-new-once table r q bs cs e f = one-table (newLeft table) r q bs cs e f
 
-pub hd-configure-once : (table : List ℕ) (cluster attribute minimum maximum change r q : ℕ) (bs cs : List ℕ) (x y : ℕ)
-    → left r bs x ≡ configureLeft table (keyOf cluster attribute) (configOf minimum maximum change)
-    → left q cs y ≡ configureLeft table (keyOf cluster attribute) (configOf minimum maximum change)
-    → (r ≡ q) × ((bs ≡ cs) × (x ≡ y))
+pub hd-configure-once : HdConfigureOnce
 hd-configure-once table cluster attribute minimum maximum change r q bs cs x y e f = one-outcome (configureLeft table (keyOf cluster attribute) (configOf minimum maximum change)) r q bs cs x y e f
 
-pub hd-clear-once : (table : List ℕ) (cluster attribute r q : ℕ) (bs cs : List ℕ)
-    → left r bs noResult ≡ clearLeft table (keyOf cluster attribute)
-    → left q cs noResult ≡ clearLeft table (keyOf cluster attribute)
-    → (r ≡ q) × (bs ≡ cs)
+pub hd-clear-once : HdClearOnce
 hd-clear-once table cluster attribute r q bs cs e f = one-table (clearLeft table (keyOf cluster attribute)) r q bs cs e f
 
-pub hd-configuration-once : (table : List ℕ) (cluster attribute r q a b k l m n x y : ℕ)
-    → left r table (configurationAs a k m x) ≡ configurationLeft table (keyOf cluster attribute)
-    → left q table (configurationAs b l n y) ≡ configurationLeft table (keyOf cluster attribute)
-    → (r ≡ q) × ((a ≡ b) × ((k ≡ l) × ((m ≡ n) × (x ≡ y))))
+pub hd-configuration-once : HdConfigurationOnce
 hd-configuration-once table cluster attribute r q a b k l m n x y e f =
     let w = one-outcome (configurationLeft table (keyOf cluster attribute)) r q table table (configurationAs a k m x) (configurationAs b l n y) e f in
     let c = w .1 .1 in
     (w .0, (ap (λ (z : Configuration). z .found) c, (ap (λ (z : Configuration). z .minimum) c, (ap (λ (z : Configuration). z .maximum) c, ap (λ (z : Configuration). z .change) c))))
 
-pub hd-ask-once : (table : List ℕ) (cluster attribute now : ℕ) (value : ℤ) (r q x y : ℕ)
-    → left r table x ≡ askLeft table (keyOf cluster attribute) now value
-    → left q table y ≡ askLeft table (keyOf cluster attribute) now value
-    → (r ≡ q) × (x ≡ y)
+pub hd-ask-once : HdAskOnce
 hd-ask-once table cluster attribute now value r q x y e f = let w = one-outcome (askLeft table (keyOf cluster attribute) now value) r q table table x y e f in (w .0, w .1 .1)
 
-pub hd-mark-once : (table : List ℕ) (cluster attribute now : ℕ) (value : ℤ) (r q : ℕ) (bs cs : List ℕ)
-    → left r bs noResult ≡ markLeft table (keyOf cluster attribute) now value
-    → left q cs noResult ≡ markLeft table (keyOf cluster attribute) now value
-    → (r ≡ q) × (bs ≡ cs)
+pub hd-mark-once : HdMarkOnce
 hd-mark-once table cluster attribute now value r q bs cs e f = one-table (markLeft table (keyOf cluster attribute) now value) r q bs cs e f

@@ -2,3 +2,4 @@
 pub mod Tables  -- the reporting table through its bytes
 pub mod Serving  -- the server, a number and a report frame
 pub mod Log  -- what the functions left, and demand 3 of it
+pub mod Unique  -- no second answer fits a contract
