@@ -8,9 +8,9 @@ use lib.Dec.{eqb}
 use Rattle.frame.specs.declared.header.ZclHeader.{ZclHeader}
 use Rattle.frame.specs.declared.command_identifier.CommandIdentifier.the-variants.{ConfigureReportingResponse}
 use Rattle.frame.specs.declared.status.Status.the-variants.{UnreportableAttribute, InvalidDataType}
-use Rattle.frame.specs.Walk.{recordsFrom}
+use Rattle.frame.specs.Walk.{recordsFrom, All}
 use Rattle.frame.specs.Failures.{Did, did}
-use Rattle.frame.proofs.Walks.{All, records-all}
+use Rattle.frame.proofs.Walks.{records-all}
 use Rattle.frame.proofs.States.{headed-keeps, performed-keeps}
 use Rattle.store.specs.declared.lookup.Found.{Found}
 use Rattle.store.specs.declared.lookup.Found.the-variants.{At, Nothing}

@@ -1,5 +1,5 @@
 -- No second answer fits a contract: it leaves open only the slots past a table's count. Assumes nothing.
-use mathlib.Core.Path.{_≡_}
+use mathlib.Core.Path.{_≡_, sym, _∙_}
 use mathlib.Core.List.{List}
 use Prim.Native.Nat.{ℕ}
 use lib.ListN.{length}
@@ -10,13 +10,18 @@ use Rattle.reporting.proofs.Unique.{alike}
 use Rattle.configure.specs.declared.configure.Configured.{Configured}
 use Rattle.configure.specs.Configuration.{configurationOf}
 use Rattle.configure.specs.Configure.{configureOf}
-use Rattle.configure.specs.Unique.{ReadReportingConfigurationOnce, ConfigureReportingOnce}
+use Rattle.configure.specs.Unique.{ChangeWidthOnce, ReadReportingConfigurationOnce, ConfigureReportingOnce}
 
 pub one-configured : (o : Outcome Table) (r s : Configured) (d e : List ℕ) → seen (r .answer) d (tableOf (r .table)) ≡ o → seen (s .answer) e (tableOf (s .table)) ≡ o
     → (r .answer ≡ s .answer) × ((d ≡ e) × Alike (r .table) (s .table))
 one-configured o r s d e p q =
     let w = only-one o (r .answer) (s .answer) d e (tableOf (r .table)) (tableOf (s .table)) p q in
     (w .0, (w .1 .0, alike (r .table) (s .table) (w .1 .1)))
+
+-- src/change.rt
+
+pub change-width-once : ChangeWidthOnce
+change-width-once «type_id» r q e f = e ∙ sym f
 
 -- src/configuration.rt
 

@@ -3,14 +3,20 @@ use mathlib.Core.Path.{_≡_}
 use mathlib.Core.List.{List}
 use Prim.Native.Nat.{ℕ}
 use lib.ListN.{length}
+use Rattle.types.specs.declared.ids.TypeId.{TypeId}
 use Rattle.frame.specs.declared.answer.Answer.{Answer}
 use Rattle.frame.specs.declared.header.ZclHeader.{ZclHeader}
 use Rattle.frame.specs.Answer.{noState, seen}
 use Rattle.reporting.specs.declared.table.ReportingTable.{ReportingTable}
 use Rattle.reporting.specs.Table.{room, tableOf, Alike}
 use Rattle.configure.specs.declared.configure.Configured.{Configured}
+use Rattle.configure.specs.Request.{changeWidth}
 use Rattle.configure.specs.Configuration.{configurationOf}
 use Rattle.configure.specs.Configure.{configureOf}
+
+-- src/change.rt
+abbrev pub ChangeWidthOnce : Type 0
+ChangeWidthOnce = («type_id» : TypeId) (r q : ℕ) → r ≡ changeWidth («type_id» .0) → q ≡ changeWidth («type_id» .0) → r ≡ q
 
 -- src/configuration.rt
 abbrev pub ReadReportingConfigurationOnce : Type 0

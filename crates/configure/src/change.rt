@@ -9,7 +9,7 @@ use types::ids::TypeId;
 use types::value::change_at;
 
 // How many bytes the change of a type has: none where the type is not analog.
-pub(crate) fn change_width(type_id: TypeId) -> usize
+pub fn change_width(type_id: TypeId) -> usize
     ensures { λ r. ⌜ r ≡ changeWidth («type_id» .0) ⌝ }
 {
     if !type_id.is_analog() {

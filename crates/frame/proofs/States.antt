@@ -10,10 +10,10 @@ use Rattle.frame.specs.declared.command_identifier.CommandIdentifier.{Co
 use Rattle.frame.specs.declared.answer.Refusal.the-variants.{ReplyTooLong}
 use Rattle.frame.specs.Header.{replyHead}
 use Rattle.frame.specs.Answer.{Outcome, replied, refused}
-use Rattle.frame.specs.Walk.{Ending, done, cut, Records, Way, through, broken, stopped, walk, reached}
+use Rattle.frame.specs.Walk.{Ending, done, cut, Records, Way, through, broken, stopped, walk, reached, All}
 use Rattle.frame.specs.Encoded.{fits}
 use Rattle.frame.specs.Failures.{Doing, Sofar, sofar, turn, passFrom, pass, encodeFailures, answered, concluded, performed, headed}
-use Rattle.frame.proofs.Walks.{All, walk-keeps}
+use Rattle.frame.proofs.Walks.{walk-keeps}
 
 module _ {S : Type 0} (room : ℕ) where
   state-answered : (out : List ℕ) (s : S) → answered room out s .state ≡ s

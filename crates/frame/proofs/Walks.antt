@@ -6,7 +6,7 @@ use Prim.Native.Nat.{ℕ, zero, suc, _+_, _-_, _≤_, _<_}
 use native.Mathlib.Omega.{arith}
 use lib.Dec.{leb}
 use borrow.Author.Tests.{le-leb, lt-leb, leb-true, leb-false}
-use Rattle.frame.specs.Walk.{Item, item, unread, Ending, done, cut, Records, ended, behind, first, recordsIn, recordsFrom, joined, Way, through, broken, stopped, walk, walkOver, reached}
+use Rattle.frame.specs.Walk.{Item, item, unread, Ending, done, cut, Records, ended, behind, first, recordsIn, recordsFrom, joined, Way, through, broken, stopped, walk, walkOver, reached, All}
 
 -- every record ends behind its start
 abbrev pub Ahead : {R : Type 0} → (ℕ → Item R) → Type 0
@@ -65,10 +65,6 @@ module _ {R : Type 0} (next : ℕ → Item R) (len : ℕ) where
       walk-stop f = step ∙ rw f
 
 -- ---- what holds of every record, and what a walk keeps
-
-abbrev pub All : {A : Type 0} → (A → Type 0) → List A → Type 0
-All P [] = Unit {0}
-All P (x ∷ xs) = P x × All P xs
 
 pub all-snoc : {A : Type 0} (P : A → Type 0) (l : List A) (x : A) → All P l → P x → All P (l ++ (x ∷ []))
 all-snoc P [] x h k = (k, tt)

@@ -65,3 +65,8 @@ abbrev pub reached : {S : Type 0} → Way S → S
 reached (through x) = x
 reached (broken x) = x
 reached (stopped x y) = y
+
+-- what holds of every record
+abbrev pub All : {A : Type 0} → (A → Type 0) → List A → Type 0
+All P [] = Unit {0}
+All P (x ∷ xs) = P x × All P xs

@@ -6,7 +6,7 @@ use mathlib.Core.Path.{_≡_}
 use mathlib.Core.Bool.{cond}
 use mathlib.Core.List.{List, [], _∷_, _++_}
 use Prim.Native.Nat.{ℕ, _^_, _≤_, _<_}
-use lib.ListN.{getD}
+use Rattle.types.specs.Number.{AllBytes}
 use lib.Dec.{eqb}
 use lib.IntN.{ℤ}
 use lib.Signed.{mag}
@@ -78,9 +78,6 @@ Contract (handle h) bs =
     ≡ handleLeft (h .store) bs (h .cluster) (h .unicast) (h .frame) (h .size)
 
 -- what the types of the arguments say, of those that go into the table: uint16_t, uint64_t, uint32_t, int64_t, and bytes
-abbrev pub AreBytes : List ℕ → Type 0
-AreBytes bs = (i : ℕ) → getD bs i 0 < 256
-
 abbrev pub Typed : Made → Type 0
 Typed (configure a g number accepted table) =
     (a .cluster < 2 ^ 16) × (a .attribute < 2 ^ 16) × (g .minimum < 2 ^ 16) × (g .maximum < 2 ^ 16) × (g .change < 2 ^ 64)
@@ -88,7 +85,7 @@ Typed (clear a number table) = Unit
 Typed (mark a x number table) = (x .now < 2 ^ 32) × (mag (x .value) < 2 ^ 63)
 Typed (ask a x number due) = Unit
 Typed (configuration a number found) = Unit
-Typed (handle h) = AreBytes (h .store) × AreBytes (h .frame)
+Typed (handle h) = AllBytes (h .store) × AllBytes (h .frame)
 
 -- the bytes that the caller has then
 abbrev pub next : Made → List ℕ → List ℕ

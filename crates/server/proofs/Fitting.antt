@@ -22,8 +22,8 @@ use Rattle.frame.specs.declared.header.HeaderRead.the-variants.{Header, Short}
 use Rattle.frame.specs.declared.command_identifier.CommandIdentifier.the-variants.{ConfigureReporting, ConfigureReportingResponse}
 use Rattle.frame.specs.Header.{frameTypeOf, headerOf}
 use Rattle.frame.specs.CommandIdentifier.{commandCode}
-use Rattle.frame.specs.Walk.{Item, item, unread, recordsFrom}
-use Rattle.frame.proofs.Walks.{All, records-all}
+use Rattle.frame.specs.Walk.{Item, item, unread, recordsFrom, All}
+use Rattle.frame.proofs.Walks.{records-all}
 use Rattle.frame.proofs.States.{headed-keeps, performed-keeps}
 use Rattle.store.specs.Contents.{nameOf, findOf, clusterOf}
 use Rattle.store.specs.Layout.{isStore}

@@ -5,13 +5,13 @@ use mathlib.Core.List.{List, [], _∷_, _++_, append-assoc}
 use Prim.Native.Nat.{ℕ}
 use lib.ListN.{drop}
 use lib.Dec.{eqb}
+use Rattle.frame.specs.Walk.{All}
 use Rattle.frame.specs.declared.header.ZclHeader.{ZclHeader}
 use Rattle.frame.specs.declared.header.HeaderRead.{HeaderRead}
 use Rattle.frame.specs.declared.header.HeaderRead.the-variants.{Header, Short}
 use Rattle.frame.specs.declared.command_identifier.CommandIdentifier.the-variants.{ConfigureReporting, ConfigureReportingResponse}
 use Rattle.frame.specs.Header.{frameTypeOf, headerOf}
 use Rattle.frame.specs.CommandIdentifier.{commandCode}
-use Rattle.frame.proofs.Walks.{All}
 use Rattle.frame.proofs.States.{headed-keeps, performed-keeps}
 use Rattle.store.specs.Contents.{nameOf, findOf, clusterOf}
 use Rattle.store.specs.Layout.{isStore}
