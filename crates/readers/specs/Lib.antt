@@ -1,0 +1,9 @@
+-- What a reader must believe of this crate.
+pub mod Reading  -- a frame that is read, its body and its records
+pub mod Layout  -- how long a record is
+pub mod Replies  -- each reply
+pub mod Values  -- where a value lies, and its number
+pub mod Sendable  -- the records that a reply can hold
+pub mod Back  -- what was written is read back, and nothing else is accepted
+pub mod Served  -- reading what was served gives the records that were made
+pub mod Inside  -- what the code's answers say
