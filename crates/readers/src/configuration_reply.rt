@@ -1,7 +1,8 @@
 // The reply to Read Reporting Configuration (09; ZCL 2.5.10).
 ghost use mathlib.Core.Path.{_≡_};
-ghost use Rattle.readers.specs.Reading.{counted, kth};
-ghost use Rattle.readers.specs.Replies.{configurationReplyOf};
+ghost use mathlib.Core.Option.{some};
+ghost use Rattle.readers.specs.Reading.{read, counted, kth};
+ghost use Rattle.readers.specs.Replies.{settingRecord, configurationReplyOf};
 ghost use Rattle.readers.specs.Inside.{countIs, configurationRecordIs};
 use super::layout::Layout;
 use super::pass::Count;
@@ -48,6 +49,34 @@ pub fn check_configuration_reply(frame: &[u8]) -> Count
     count_of(swept)
 }
 
+// The record in these bytes.
+fn setting_in(part: &[u8]) -> ConfigurationReplyRecord
+    ensures { λ r. ⌜ configurationRecordIs r ≡ read (some (settingRecord (now (part .entry)))) ⌝ }
+{
+    let status = byte_at(part, 0);
+    let direction = byte_at(part, 1);
+    let id = AttributeId(u16_at(part, 2));
+    if status != 0 {
+        return ConfigurationReplyRecord::Failure {
+            status,
+            direction,
+            id,
+        };
+    }
+    let type_id = TypeId(byte_at(part, 4));
+    let config = ReportingConfig {
+        min_interval: u16_at(part, 5),
+        max_interval: u16_at(part, 7),
+        reportable_change: unsigned_at(part, 9, change_width(type_id)),
+    };
+    ConfigurationReplyRecord::Setting {
+        direction,
+        id,
+        type_id,
+        config,
+    }
+}
+
 // Record k of the reply.
 pub fn configuration_reply_record(frame: &[u8], k: usize) -> ConfigurationReplyRecord
     ensures { λ r. ⌜ configurationRecordIs r ≡ kth k (configurationReplyOf (now (frame .entry))) ⌝ }
@@ -63,29 +92,7 @@ pub fn configuration_reply_record(frame: &[u8], k: usize) -> ConfigurationReplyR
             if count <= k {
                 return ConfigurationReplyRecord::Past;
             }
-            let part = &frame[at..at + size];
-            let status = byte_at(part, 0);
-            let direction = byte_at(part, 1);
-            let id = AttributeId(u16_at(part, 2));
-            if status != 0 {
-                return ConfigurationReplyRecord::Failure {
-                    status,
-                    direction,
-                    id,
-                };
-            }
-            let type_id = TypeId(byte_at(part, 4));
-            let config = ReportingConfig {
-                min_interval: u16_at(part, 5),
-                max_interval: u16_at(part, 7),
-                reportable_change: unsigned_at(part, 9, change_width(type_id)),
-            };
-            ConfigurationReplyRecord::Setting {
-                direction,
-                id,
-                type_id,
-                config,
-            }
+            setting_in(&frame[at..at + size])
         }
         Swept::Refused(why) => ConfigurationReplyRecord::Refused(why),
     }

@@ -1,4 +1,5 @@
 -- `configuration_reply::configuration_reply_record` meets its contract. Assumes nothing.
+use mathlib.Core.Path.{refl, _∙_}
 use native.Mathlib.Omega.{arith}
 use denote.Ref.{now}
 use Rattle.frame.specs.declared.command_identifier.CommandIdentifier.the-variants.{ReadReportingConfigurationResponse}
@@ -6,7 +7,6 @@ use Rattle.readers.specs.declared.layout.Layout.the-variants.{Setting}
 use Rattle.readers.specs.Replies.{spansOf, settingRecord, configurationReplyOf}
 use Rattle.readers.specs.Inside.{Stand}
 use Rattle.readers.proofs.Records.{stands, refused, record-past, record-there, record-none}
-use Rattle.readers.proofs.Settings.{failed, set-up}
 use borrow.Author.Needs.{needs}
 use Rattle.readers.proofs.configuration_reply.configuration_reply_record.Statement.{statement}
 use Rattle.readers.proofs.configuration_reply.configuration_reply_record.Tie as tie
@@ -29,67 +29,31 @@ returns : tie.Need-returns
 unfolding configurationReplyOf
 returns c = record-past settingRecord (found (c .before .before)) (c .if1 .taken)
 
-add-part : tie.Need-add-part
-add-part c = omega (arith, found (c .before .before) .within (c .if1 .left))
+add-setting-in : tie.Need-add-setting-in
+add-setting-in c = omega (arith, found (c .before .before) .within (c .if1 .left))
 
-sub-part : tie.Need-sub-part
-sub-part c = search needs
+sub-setting-in : tie.Need-sub-setting-in
+sub-setting-in c = search needs
 
-part-part-start : tie.Need-part-part-start
-part-part-start c = search needs
+part-setting-in-start : tie.Need-part-setting-in-start
+part-setting-in-start c = search needs
 
-part-part-end : tie.Need-part-part-end
-part-part-end c = found (c .before .before) .within (c .if1 .left)
+part-setting-in-end : tie.Need-part-setting-in-end
+part-setting-in-end c = found (c .before .before) .within (c .if1 .left)
 
-byte-at-requires : tie.Need-byte-at-requires
-byte-at-requires c κs = search needs
-
-byte-at-requires-2 : tie.Need-byte-at-requires-2
-byte-at-requires-2 c κs = search needs
-
-u16-at-requires : tie.Need-u16-at-requires
-u16-at-requires c κs = search needs
-
-returns-2 : tie.Need-returns-2
-unfolding configurationReplyOf
-returns-2 c =
-    let u = c .before in
-    let e = c .before .before .before .before .before in
-    record-there settingRecord (found (e .before .before)) (e .if1 .left) _
-    (failed _ (u .before .before .byte-at .ensures) (u .before .byte-at2 .ensures) (u .u16-at .ensures) (c .if2 .taken))
-
-byte-at-requires-3 : tie.Need-byte-at-requires-3
-byte-at-requires-3 c κs = search needs
-
-u16-at-requires-2 : tie.Need-u16-at-requires-2
-u16-at-requires-2 c κs = search needs
-
-u16-at-requires-3 : tie.Need-u16-at-requires-3
-u16-at-requires-3 c κs = search needs
-
-change-width-requires : tie.Need-change-width-requires
-change-width-requires c κs = search needs
-
-unsigned-at-requires : tie.Need-unsigned-at-requires
-unsigned-at-requires c κs = search needs
+setting-in-requires : tie.Need-setting-in-requires
+setting-in-requires c κs = search needs
 
 enum-known-swept-2 : tie.Need-enum-known-swept-2
 enum-known-swept-2 c = search needs
 
+returns-2 : tie.Need-returns-2
+unfolding configurationReplyOf
+returns-2 c = let e = c .before .before in c .setting-in .ensures ∙ record-there settingRecord (found (e .before .before)) (e .if1 .left) _ refl
+
 returns-3 : tie.Need-returns-3
 unfolding configurationReplyOf
-returns-3 c =
-    let h = c .before .before in
-    let z = c .before .before .before .before .before in
-    let u = c .before .before .before .before .before .before in
-    let e = c .before .before .before .before .before .before .before .before .before .before in
-    record-there settingRecord (found (e .before .before)) (e .if1 .left) _
-    (set-up _ (u .before .before .byte-at .ensures) (u .before .byte-at2 .ensures) (u .u16-at .ensures) (z .if2 .left)
-    (h .before .before .byte-at3 .ensures) (h .before .u16-at2 .ensures) (h .u16-at3 .ensures) (c .before .change-width .ensures) (c .unsigned-at .ensures))
-
-returns-4 : tie.Need-returns-4
-unfolding configurationReplyOf
-returns-4 c = record-none settingRecord _ _ _ (refused _ _ (c .before .before .before .sweep-records .ensures) (c .before .swept2 .given .1))
+returns-3 c = record-none settingRecord _ _ _ (refused _ _ (c .before .before .before .sweep-records .ensures) (c .before .swept2 .given .1))
 
 pub configuration-reply-record-spec : {M : Type 1} → statement M
 configuration-reply-record-spec =
@@ -98,19 +62,11 @@ configuration-reply-record-spec =
     sweep-records-requires
     enum-known-swept
     returns
-    add-part
-    sub-part
-    part-part-start
-    part-part-end
-    byte-at-requires
-    byte-at-requires-2
-    u16-at-requires
-    returns-2
-    byte-at-requires-3
-    u16-at-requires-2
-    u16-at-requires-3
-    change-width-requires
-    unsigned-at-requires
+    add-setting-in
+    sub-setting-in
+    part-setting-in-start
+    part-setting-in-end
+    setting-in-requires
     enum-known-swept-2
-    returns-3
-    returns-4)
+    returns-2
+    returns-3)
