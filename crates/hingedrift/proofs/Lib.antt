@@ -3,6 +3,8 @@
 pub mod Bridge
 -- from what the functions of crate `server` ensure to what C has after a call
 pub mod Handed
+-- from what the functions of crate `readers` ensure to what C has after a call
+pub mod Telling
 pub mod Unique
 -- entries that fit a table's bytes, after events
 pub mod Kept

@@ -1,5 +1,6 @@
 -- What a reader must believe of this crate, a file for an idea.
 pub mod Tables  -- the reporting table through its bytes
 pub mod Serving  -- the server, a number and a report frame
+pub mod Reading  -- the readers' functions
 pub mod Log  -- what the functions left, and demand 3 of it
 pub mod Unique  -- no second answer fits a contract
