@@ -19,12 +19,9 @@
 #include <string.h>
 #include <time.h>
 
-#include "hingedrift.h"
+#include "driver.h"
 
 enum { ARGUMENTS = 5, RESULTS = 4, BUFFERS = 4 };
-
-/* Not 0, which the functions themselves write. */
-enum { BEFORE = 0xa5 };
 
 enum { WALL = 16 };
 
@@ -33,15 +30,6 @@ enum { MOST = 1 << 24 };
 
 struct call {
     uint64_t function, arguments[ARGUMENTS], lengths[BUFFERS];
-};
-
-/* A result stands at the start of its 8 bytes, so that a write past it shows. */
-union result {
-    uint8_t byte;
-    uint16_t word;
-    uint64_t change;
-    int64_t value;
-    size_t used;
 };
 
 struct answer {
@@ -60,7 +48,7 @@ struct ask {
 static uint8_t *answers;
 static size_t answered;
 
-static void end(const char *trouble)
+void end(const char *trouble)
 {
     fprintf(stderr, "driver: %s\n", trouble);
     exit(1);
@@ -146,6 +134,9 @@ static uint8_t answer(uint64_t function, const uint64_t *a, uint8_t *const *b, c
     case 11:
         list = b[1];
         return timed(b[0], len[0], list, len[1] / sizeof(struct ask), r);
+    case 12:
+        list = b[1];
+        return read_rows(b[0], len[0], list, len[1] / sizeof(struct row));
     default:
         end("there is no such function");
         return 0;

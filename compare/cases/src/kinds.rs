@@ -4,6 +4,8 @@
 mod allowed;
 mod bodies;
 mod others;
+mod read_back;
+mod readers;
 mod reporting;
 mod served;
 mod writes;
@@ -13,6 +15,8 @@ use std::fmt;
 
 pub use allowed::{ALLOWED, OTHERS, SERVED, VALUES};
 pub use others::{of_number, of_report, of_unsupported};
+pub use read_back::of_readings;
+pub use readers::READERS;
 pub use served::{Call, of};
 
 /// What there is to say besides command and number. An answer may have several.

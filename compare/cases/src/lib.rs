@@ -1,7 +1,9 @@
 //! What the programs of the comparison share: the inputs that they make, the
 //! listed differences, and the table of what document 01 lets a call answer.
 
+mod case;
 mod conditions;
+pub mod given;
 mod hex;
 pub mod kinds;
 mod random;
@@ -11,6 +13,7 @@ mod shorter;
 pub mod stores;
 pub mod values;
 
+pub use case::{Case, Seen, shown};
 pub use conditions::Condition;
 pub use hex::{hex, unhex};
 pub use random::Random;

@@ -10,7 +10,7 @@ use crate::values::{COLLECTIONS, made};
 
 /// Control bytes of global frames: with and without a manufacturer code,
 /// direction, silence, and bits that mean nothing.
-const CONTROLS: [u8; 8] = [0x00, 0x10, 0x08, 0x18, 0x04, 0x1c, 0x0c, 0xe0];
+pub const CONTROLS: [u8; 8] = [0x00, 0x10, 0x08, 0x18, 0x04, 0x1c, 0x0c, 0xe0];
 
 const INTERVALS: [u16; 8] = [0, 1, 10, 60, 0x0100, 65533, 65534, 65535];
 

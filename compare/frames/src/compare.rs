@@ -1,12 +1,12 @@
 //! One frame given to the Rust and to the reading of document 01.
 
 use cases::kinds::{self, Call, Kind};
+use cases::{Case, Seen};
 use oracle::Oracle;
 use reading::commands::Answer;
 use reading::store::{attributes, is_store};
 use reading::table::entries;
 
-use crate::case::{Case, Seen};
 use crate::sides::{self, Stands};
 
 /// What came of it.
@@ -17,7 +17,7 @@ pub struct Compared {
 
 /// Holds the Rust to document 01's answer but for the listed differences.
 pub fn compare(oracle: &mut Oracle, case: &Case) -> Result<Compared, String> {
-    let seen = sides::document(case);
+    let seen = case.document();
     let rust = sides::rust(oracle, case, &seen)?;
     // the store that the Rust is given is the reading's: what it keeps to is
     // looked at here
@@ -36,7 +36,7 @@ fn still_sound(before: &[u8], after: &[u8]) -> bool {
 pub fn kinds(case: &Case, seen: &Seen) -> Vec<Kind> {
     let answer = Answer {
         number: seen.number,
-        reply: seen.buffer[..seen.used].to_vec(),
+        reply: seen.reply().to_vec(),
     };
     kinds::of(&Call {
         store: &case.store,

@@ -9,28 +9,23 @@
 //! never came; and where fewer than a million frames were compared with the
 //! Rust.
 
-mod case;
 mod compare;
 mod counted;
-mod given;
 mod others;
 mod shorten;
 mod sides;
-mod stores;
-mod tables;
 
 use std::process::ExitCode;
 use std::time::Instant;
 
-use cases::Random;
+use cases::given::Given;
 use cases::kinds::{Kinds, OTHERS, SERVED};
+use cases::{Case, Random};
 use oracle::Oracle;
-use ours::Driver;
+use ours::{Driver, Held};
 
-use case::Case;
 use compare::{Compared, compare};
 use counted::Counted;
-use given::Given;
 
 /// So many frames are made,
 const FRAMES: usize = BATCHES * BATCH;
@@ -76,7 +71,7 @@ fn run() -> Result<(), String> {
 fn served(driver: &mut Driver, random: &mut Random, kinds: &mut Kinds) -> Result<Counted, String> {
     let mut counted = Counted::default();
     let mut oracle = Oracle::default();
-    let mut given = Given::new();
+    let mut given = Given::default();
     for _ in 0..BATCHES {
         let mut cases = Vec::with_capacity(BATCH);
         let mut held = Vec::with_capacity(BATCH);
@@ -90,7 +85,7 @@ fn served(driver: &mut Driver, random: &mut Random, kinds: &mut Kinds) -> Result
                 .map_err(|trouble| format!("{trouble}\n{case}"))?;
             counted.count(rust);
             given.go_on(&seen);
-            held.push(case.held_to(&seen));
+            held.push(Held::request(&case, &seen));
             cases.push(case);
         }
         if let Some((at, _)) = driver.first_wrong(&held)? {
@@ -104,7 +99,7 @@ fn served(driver: &mut Driver, random: &mut Random, kinds: &mut Kinds) -> Result
 fn disagreement(driver: &mut Driver, case: &Case) -> String {
     let mut wrong = |case: &Case| match compare(&mut Oracle::default(), case) {
         Ok(Compared { seen, .. }) => {
-            let wrong = driver.first_wrong(&[case.held_to(&seen)]);
+            let wrong = driver.first_wrong(&[Held::request(case, &seen)]);
             wrong.map_or_else(Some, |wrong| Some(wrong?.1))
         }
         Err(trouble) => Some(trouble),

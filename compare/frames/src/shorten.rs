@@ -1,11 +1,9 @@
 //! A case that goes wrong, made as short as may be.
 
-use cases::shorter;
 use cases::stores::{Part, built};
+use cases::{Case, shorter};
 use reading::store::{attributes, is_store};
 use reading::table::{Entry, entries, to_bytes};
-
-use crate::case::Case;
 
 /// The case without what it goes wrong without: entries, attributes, bytes of
 /// the request, and room.
@@ -82,9 +80,9 @@ fn parts(store: &[u8]) -> Vec<Part> {
 #[cfg(test)]
 mod tests {
     use cases::Random;
+    use cases::given::Given;
 
     use super::*;
-    use crate::given::Given;
 
     /// Wrong with an odd attribute configured, a 5 in the request, and room 6.
     fn wrong(case: &Case) -> bool {
@@ -97,7 +95,7 @@ mod tests {
     #[test]
     fn only_what_is_needed() {
         let random = &mut Random::new(0x7368_6f72);
-        let mut given = Given::new();
+        let mut given = Given::default();
         let mut tried = 0;
         while tried < 20 {
             let case = given.next(random);

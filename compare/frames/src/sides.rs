@@ -1,33 +1,8 @@
-//! What each side says and leaves.
+//! How the Rust stands to what document 01 says.
 
-use cases::Condition;
+use cases::{Case, Condition, Seen};
 use oracle::{Oracle, Outcome, Request};
-use reading::commands::serve_lent;
 use reading::table::entries;
-
-use crate::case::{Case, Seen};
-
-/// Document 01's answer.
-pub fn document(case: &Case) -> Seen {
-    let mut store = case.store.clone();
-    let mut table = case.table.clone();
-    let unicast = case.unicast != 0;
-    let answer = serve_lent(
-        &mut store,
-        &mut table,
-        case.cluster,
-        unicast,
-        &case.request,
-        case.room,
-    );
-    Seen {
-        number: answer.number,
-        used: answer.reply.len(),
-        buffer: answer.buffer(case.room),
-        store,
-        table,
-    }
-}
 
 /// How the Rust stands to document 01's answer.
 #[derive(Debug, Clone, Copy, PartialEq, Eq)]
@@ -68,7 +43,7 @@ pub fn rust(oracle: &mut Oracle, case: &Case, document: &Seen) -> Result<Stands,
 }
 
 fn agrees(document: &Seen, outcome: &Outcome) -> bool {
-    let reply = (document.number == 0).then(|| &document.buffer[..document.used]);
+    let reply = (document.number == 0).then(|| document.reply());
     reply == outcome.reply.as_deref()
         && document.store == outcome.store
         && entries(&document.table).as_deref() == Ok(&outcome.table)
@@ -80,6 +55,6 @@ fn shown(outcome: &Outcome) -> String {
         "  reply    {}\n  store    {}\n  table    {}\n",
         reply.unwrap_or("none".to_owned()),
         cases::hex(&outcome.store),
-        crate::case::shown(&reading::table::to_bytes(&outcome.table)),
+        cases::shown(&reading::table::to_bytes(&outcome.table)),
     )
 }

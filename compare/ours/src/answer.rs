@@ -27,6 +27,11 @@ impl Answer {
         }
     }
 
+    /// A buffer as it is afterwards.
+    pub(crate) fn left(&self, buffer: usize) -> &[u8] {
+        &self.lent[buffer]
+    }
+
     /// Takes the answer to a call from the pipe. An error inside where ours
     /// wrote what it is not to write.
     pub(crate) fn read(call: &Call, pipe: &mut impl Read) -> io::Result<Result<Self, String>> {

@@ -5,6 +5,7 @@ use std::fmt;
 use cases::hex;
 use reading::table::{Config, Key};
 
+use crate::held::lent_list;
 use crate::{ARGUMENTS, BEFORE, BUFFERS, RESULTS, padded};
 
 /// A buffer that a call is lent.
@@ -111,6 +112,11 @@ impl Call {
         Self::new("timed asks", 11, &[], lent, [8, 8, 0, 0])
     }
 
+    /// Rows of calls of readers, on one frame.
+    pub(crate) fn read(frame: &[u8], rows: &[u8]) -> Self {
+        Self::new("readers", 12, &[], [closed(frame), open(rows)], NONE)
+    }
+
     fn new<const N: usize>(
         name: &'static str,
         function: u64,
@@ -153,8 +159,7 @@ fn closed(bytes: &[u8]) -> Lent {
 }
 
 fn list(numbers: &[u16]) -> Lent {
-    let bytes: Vec<u8> = numbers.iter().flat_map(|n| n.to_le_bytes()).collect();
-    closed(&bytes)
+    closed(&lent_list(numbers))
 }
 
 /// A buffer in which nothing has been written.

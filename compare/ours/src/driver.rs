@@ -4,9 +4,9 @@ use std::env;
 use std::io::{self, BufReader, BufWriter, Write};
 use std::process::{Child, ChildStdin, ChildStdout, Command, Stdio};
 
-use crate::Held;
 use crate::answer::Answer;
 use crate::call::{Call, END};
+use crate::held::Held;
 
 /// Names the command that starts it.
 const VARIABLE: &str = "HINGEDRIFT_DRIVER";

@@ -8,17 +8,14 @@
 mod answer;
 mod call;
 mod driver;
+mod held;
+mod readers;
 
 pub use answer::Answer;
 pub use call::Call;
 pub use driver::Driver;
-
-/// A call, and the answer that it is to have.
-#[derive(Debug, Clone)]
-pub struct Held {
-    pub call: Call,
-    pub answer: Answer,
-}
+pub use held::{Held, lent_list, replied};
+pub use readers::{Reader, Row, wrong_rows};
 
 /// What stands where a function is to write, and around what it is lent.
 const BEFORE: u8 = 0xa5;

@@ -1,7 +1,6 @@
 //! The commands, step by step, and what a call says back.
 
 mod answer;
-mod body;
 mod configuration;
 mod configure;
 mod default_response;

@@ -2,13 +2,16 @@
 //! It calls nothing else: neither the Rust that is compared nor what replaces
 //! it. It prefers the plainest form over speed.
 
+mod body;
 pub mod commands;
 mod extent;
 mod header;
+mod number;
+pub mod replies;
 pub mod store;
 pub mod table;
 mod types;
 
 pub use extent::{Extent, extent};
 pub use header::{FrameType, Header, header};
-pub use types::{Kind, fixed_size, is_analog, is_reportable_type, kind};
+pub use types::{Kind, change_width, fixed_size, is_analog, is_reportable_type, kind};

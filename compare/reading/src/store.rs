@@ -1,6 +1,7 @@
 //! The value store: contents first, bodies after.
 
 use crate::extent::{Extent, extent};
+use crate::number::number as number_of;
 use crate::types::{Kind, kind};
 
 /// An entry of the contents.
@@ -122,15 +123,8 @@ pub fn number(bytes: &[u8], id: u16) -> Result<i64, u8> {
         return Err(7);
     }
     let attribute = find(bytes, id).ok_or(9)?;
-    if !matches!(kind(attribute.type_code), Kind::Fixed(1..=8)) {
-        return Err(9);
-    }
     let value = value(bytes, id).ok_or(9)?;
-    let signed = matches!(attribute.type_code, 0x28..=0x2f);
-    let negative = signed && value.last().is_some_and(|&top| top >= 0x80);
-    let mut wide = [if negative { 0xff } else { 0x00 }; 8];
-    wide[..value.len()].copy_from_slice(value);
-    Ok(i64::from_le_bytes(wide))
+    number_of(attribute.type_code, value).ok_or(9)
 }
 
 /// The first three checks of a write: the attribute, or the status.

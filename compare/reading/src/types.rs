@@ -57,6 +57,14 @@ pub fn is_analog(code: u8) -> bool {
     matches!(code, 0x20..=0x2f | 0x38..=0x3a | 0xe0..=0xe2)
 }
 
+/// An analog type has a change field of its width, any other none.
+pub fn change_width(code: u8) -> usize {
+    match fixed_size(code) {
+        Some(size) if is_analog(code) => size,
+        _ => 0,
+    }
+}
+
 /// All but the collections (ZCL 2.5.7.3).
 pub fn is_reportable_type(code: u8) -> bool {
     !matches!(kind(code), Kind::Series | Kind::Structure)

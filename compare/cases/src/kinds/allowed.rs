@@ -3,6 +3,7 @@
 
 use super::Detail::{self, Alone, First, Later, Said};
 use super::Kind;
+use super::readers::{BY_ALL, BY_ONE, READERS};
 
 /// The commands that read, write and discover.
 pub const VALUES: [&str; 5] = ["read", "write", "undivided", "no response", "discover"];
@@ -254,18 +255,22 @@ pub const ALLOWED: &[(&str, u8, &[Detail])] = &[
     ("number", 9, &[Said("not found"), Said("no number")]),
 ];
 
+/// All kinds.
+fn all() -> impl Iterator<Item = (&'static str, u8, &'static [Detail])> {
+    let by_all = |&(number, details)| READERS.iter().map(move |&reader| (reader, number, details));
+    let readers = BY_ALL.iter().flat_map(by_all).chain(BY_ONE.iter().copied());
+    ALLOWED.iter().copied().chain(readers)
+}
+
 /// All kinds of these commands.
 pub fn kinds(commands: &[&str]) -> impl Iterator<Item = Kind> {
-    ALLOWED
-        .iter()
+    all()
         .filter(|(command, ..)| commands.contains(command))
-        .flat_map(|&(command, number, details)| {
+        .flat_map(|(command, number, details)| {
             details.iter().map(move |&detail| (command, number, detail))
         })
 }
 
 pub fn allows((command, number, detail): Kind) -> bool {
-    ALLOWED
-        .iter()
-        .any(|known| (known.0, known.1) == (command, number) && known.2.contains(&detail))
+    all().any(|known| (known.0, known.1) == (command, number) && known.2.contains(&detail))
 }

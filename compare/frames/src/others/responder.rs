@@ -1,18 +1,18 @@
 //! The responder for unserved clusters.
 
+use cases::given::small_room;
+use cases::given::stores::CLUSTERS;
 use cases::kinds::{Kinds, of_unsupported};
 use cases::requests::header;
 use cases::{Random, hex};
 use oracle::Request;
-use ours::{Call, Held};
-
-use crate::stores::CLUSTERS;
+use ours::{Call, Held, lent_list, replied};
 
 pub fn one(random: &mut Random, kinds: &mut Kinds) -> Result<Held, String> {
     let many = random.below(5);
     let served: Vec<u16> = (0..many).map(|_| random.of(&CLUSTERS)).collect();
     let cluster = random.of(&[0xfc21, 0x0006, 0x0600, 0x1234]);
-    let (unicast, room) = (random.of(&[0, 1, 1, 0x80]), super::room(random));
+    let (unicast, room) = (random.of(&[0, 1, 1, 0x80]), small_room(random));
     let request = request(random);
 
     let unicast_asked = unicast != 0;
@@ -38,7 +38,7 @@ pub fn one(random: &mut Random, kinds: &mut Kinds) -> Result<Held, String> {
     kinds.count(&counted).map_err(named)?;
     Ok(Held {
         call: Call::unsupported_cluster(&served, cluster, unicast, &request, room),
-        answer: super::held_to(&answer, room, [&super::bytes(&served), &request]),
+        answer: replied(&answer, room, [&lent_list(&served), &request]),
     })
 }
 

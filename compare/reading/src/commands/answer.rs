@@ -1,5 +1,7 @@
 //! What a call says back: a number, and under 0 a reply.
 
+use crate::body::Cut;
+
 /// Document 01's table of numbers, as far as a call with a reply says them.
 #[derive(Debug, Clone, Copy, PartialEq, Eq)]
 pub enum Refusal {
@@ -14,6 +16,12 @@ pub enum Refusal {
     NoTable = 8,
     NothingToReport = 11,
     NotReportable = 12,
+}
+
+impl From<Cut> for Refusal {
+    fn from(Cut: Cut) -> Self {
+        Self::Cut
+    }
 }
 
 /// A reply's bytes, or why there is none.

@@ -2,11 +2,11 @@
 //! not fit.
 
 use super::answer::Served;
-use super::body::Body;
-use super::configure::change_width;
 use super::reply::{Reply, id_bytes};
+use crate::body::Body;
 use crate::store::find;
 use crate::table::{Entry, Key, place};
+use crate::types::change_width;
 
 pub fn read_configuration(
     store: &[u8],

@@ -1,11 +1,12 @@
 //! Configure reporting.
 
 use super::answer::{Refusal, Served};
-use super::body::Body;
 use super::reply::{Reply, id_bytes};
+use crate::body::Body;
+use crate::number::{is_int, widened};
 use crate::store::find;
 use crate::table::{Config, Entry, Key, clear, configure as set};
-use crate::types::{fixed_size, is_analog};
+use crate::types::change_width;
 
 /// What a record of direction 0 asks for.
 struct Asked {
@@ -31,25 +32,14 @@ impl Asked {
     }
 }
 
-/// An analog type has a change field of its width, any other none.
-pub fn change_width(type_code: u8) -> usize {
-    match fixed_size(type_code) {
-        Some(size) if is_analog(type_code) => size,
-        _ => 0,
-    }
-}
-
 /// Int changes are sign-extended and lose their sign; float changes become 0.
 fn change(type_code: u8, field: &[u8]) -> u64 {
-    let signed = matches!(type_code, 0x28..=0x2f);
     let float = matches!(type_code, 0x38..=0x3a);
     if float {
         return 0;
     }
-    let negative = signed && field.last().is_some_and(|&top| top >= 0x80);
-    let mut wide = [if negative { 0xff } else { 0x00 }; 8];
-    wide[..field.len()].copy_from_slice(field);
-    if signed {
+    let wide = widened(type_code, field);
+    if is_int(type_code) {
         i64::from_le_bytes(wide).unsigned_abs()
     } else {
         u64::from_le_bytes(wide)

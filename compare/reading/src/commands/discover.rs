@@ -1,8 +1,8 @@
 //! Discover: ids and types from a start on.
 
 use super::answer::Served;
-use super::body::Body;
 use super::reply::{Reply, id_bytes};
+use crate::body::Body;
 use crate::store::{Attribute, attributes};
 
 /// A discover request's body; what follows is ignored.

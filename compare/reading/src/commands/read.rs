@@ -1,8 +1,8 @@
 //! Read: a record for each id, until one's three bytes do not fit.
 
 use super::answer::Served;
-use super::body::Body;
 use super::reply::{Reply, id_bytes};
+use crate::body::Body;
 use crate::store::{find, value};
 
 pub fn read(store: &[u8], mut body: Body<'_>, mut reply: Reply) -> Served {

@@ -1,7 +1,6 @@
 //! The whole dispatch, in document 01's order: 7, 8, 1, 2, 3, then the command.
 
 use super::answer::{Answer, Refusal, Served};
-use super::body::Body;
 use super::configuration::read_configuration;
 use super::configure::configure;
 use super::default_response::{UNSUP_COMMAND, default_response};
@@ -9,6 +8,7 @@ use super::discover::{Asked, discover};
 use super::read::read;
 use super::reply::Reply;
 use super::write::{undivided, without_response, write};
+use crate::body::Body;
 use crate::header::{FrameType, Header, header};
 use crate::store::{cluster_of, is_store};
 use crate::table::{ENTRIES, Entry, entries, to_bytes};

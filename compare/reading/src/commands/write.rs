@@ -1,8 +1,8 @@
 //! Write, undivided, and write without response.
 
 use super::answer::{Refusal, Served};
-use super::body::Body;
 use super::reply::{Reply, id_bytes};
+use crate::body::Body;
 use crate::store;
 
 /// One record of a request: an id, a type and a whole value of it.

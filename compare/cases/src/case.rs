@@ -2,9 +2,10 @@
 
 use std::fmt;
 
-use cases::hex;
-use ours::{Answer, Call, Held};
+use reading::commands::serve_lent;
 use reading::table::entries;
+
+use crate::hex::hex;
 
 #[derive(Debug, Clone, PartialEq, Eq)]
 pub struct Case {
@@ -31,19 +32,33 @@ pub struct Seen {
 }
 
 impl Case {
-    /// Ours is held to all that is seen.
-    pub fn held_to(&self, seen: &Seen) -> Held {
-        let call = Call::handle_request(
-            &self.store,
-            &self.table,
+    /// Document 01's answer.
+    pub fn document(&self) -> Seen {
+        let mut store = self.store.clone();
+        let mut table = self.table.clone();
+        let unicast = self.unicast != 0;
+        let answer = serve_lent(
+            &mut store,
+            &mut table,
             self.cluster,
-            self.unicast,
+            unicast,
             &self.request,
             self.room,
         );
-        let lent = [&seen.store, &seen.table, &self.request, &seen.buffer];
-        let answer = Answer::new(seen.number, &[seen.used as u64], &lent.map(Vec::as_slice));
-        Held { call, answer }
+        Seen {
+            number: answer.number,
+            used: answer.reply.len(),
+            buffer: answer.buffer(self.room),
+            store,
+            table,
+        }
+    }
+}
+
+impl Seen {
+    /// The reply; nothing where there is none.
+    pub fn reply(&self) -> &[u8] {
+        &self.buffer[..self.used]
     }
 }
 

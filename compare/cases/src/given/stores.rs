@@ -1,8 +1,9 @@
 //! Stores at random: from none to 64 attributes of all types, and damaged ones.
 
-use cases::Random;
-use cases::stores::{Part, built, invalid, most_rooms, string, strings};
 use reading::Kind;
+
+use crate::random::Random;
+use crate::stores::{Part, built, invalid, most_rooms, string, strings};
 
 /// Clusters; some are others with their bytes exchanged.
 pub const CLUSTERS: [u16; 4] = [0xfc21, 0x21fc, 0x0006, 0x0000];
@@ -17,7 +18,7 @@ pub fn any(random: &mut Random) -> Vec<u8> {
     }
 }
 
-pub fn sound(random: &mut Random) -> Vec<u8> {
+fn sound(random: &mut Random) -> Vec<u8> {
     let mut store = match random.below(40) {
         0 => built(&strings(&most_rooms())),
         1 => built(&parts(random, 64, 8)),

@@ -1,13 +1,19 @@
 //! The frames: each over the store and the table that the frames before it
 //! left, and now and then over new ones.
 
-use cases::requests::{header, request};
-use cases::{Random, body_of};
+mod list;
+pub mod stores;
+mod tables;
+
 use reading::commands::serve_lent;
 use reading::store::{attributes, cluster_of};
 
 use crate::case::{Case, Seen};
-use crate::{stores, tables};
+use crate::random::Random;
+use crate::records::body_of;
+use crate::requests::{header, request};
+
+pub use list::{List, id, small_room};
 
 const COMMANDS: [u8; 7] = [0x00, 0x02, 0x03, 0x05, 0x06, 0x08, 0x0c];
 
@@ -15,6 +21,7 @@ const COMMANDS: [u8; 7] = [0x00, 0x02, 0x03, 0x05, 0x06, 0x08, 0x0c];
 const FRAMES: usize = 40;
 
 /// What the next frame meets.
+#[derive(Default)]
 pub struct Given {
     store: Vec<u8>,
     table: Vec<u8>,
@@ -22,14 +29,6 @@ pub struct Given {
 }
 
 impl Given {
-    pub fn new() -> Self {
-        Self {
-            store: Vec::new(),
-            table: Vec::new(),
-            left: 0,
-        }
-    }
-
     pub fn next(&mut self, random: &mut Random) -> Case {
         if self.left == 0 {
             self.store = stores::any(random);

@@ -1,11 +1,11 @@
 //! Tables at random, for the attributes of a store and for others, with and
 //! without last reports, and damaged ones.
 
-use cases::Random;
 use reading::store::Attribute;
 use reading::table::{Config, Entry, Key, SIZE, SLOT, to_bytes};
 
-use crate::stores::CLUSTERS;
+use super::stores::CLUSTERS;
+use crate::random::Random;
 
 const INTERVALS: [u16; 6] = [0, 1, 10, 60, 65534, 65535];
 
