@@ -29,6 +29,7 @@ pub mod Reaching  -- a request that was answered reached its command
 pub mod Outs  -- the bytes of an outcome that is a reply
 pub mod Wholes  -- a value of a store is a whole value of its type
 pub mod Keeping  -- what holds of every record made holds of all that a reply keeps
+pub mod Finding  -- what holds of every value found holds of the records made
 pub mod Answers  -- from what a command sends to what is read of it
 pub mod ReadsServed  -- the reply to a read
 pub mod WritesServed  -- the reply to a write, undivided or not
@@ -38,3 +39,6 @@ pub mod DiscoversServed  -- the reply to a Discover Attributes
 pub mod ResponsesServed  -- a Default Response
 pub mod ReportsSent  -- a report that was made
 pub mod ServesBack  -- the promise, command by command
+-- The number comes through.
+pub mod Numbered  -- the number of a whole value is that of its bytes alone
+pub mod Through  -- the number that is read is the number in the store

@@ -1,26 +1,20 @@
 -- Reading the reply to a read gives the records that were made for its ids. Assumes nothing.
-use mathlib.Core.Path.{_≡_, refl, subst}
-use mathlib.Core.Bool.{Bool, true, false, cond}
+use mathlib.Core.Path.{_≡_, subst}
+use mathlib.Core.Bool.{Bool, true}
 use mathlib.Core.List.{List}
 use Prim.Native.Nat.{ℕ, _+_, _<_, _^_}
-use native.Mathlib.Omega.{arith}
 use lib.ListN.{length}
 use Rattle.types.specs.Number.{unsignedAt, AllBytes}
 use Rattle.types.proofs.Numbers.{unsigned-below}
 use Rattle.frame.specs.declared.header.ZclHeader.{ZclHeader}
 use Rattle.frame.specs.declared.command_identifier.CommandIdentifier.the-variants.{ReadAttributes, ReadAttributesResponse}
-use Rattle.frame.specs.declared.status.Status.the-variants.{InsufficientSpace}
-use Rattle.frame.specs.Status.{statusCode}
 use Rattle.frame.specs.Header.{replyHead}
 use Rattle.frame.specs.Walk.{item, All}
 use Rattle.frame.specs.Encoded.{encodeAll}
 use Rattle.frame.proofs.Sized.{up-to-is}
-use Rattle.store.specs.declared.lookup.Found.{Found}
-use Rattle.store.specs.declared.lookup.Found.the-variants.{At, Nothing}
-use Rattle.store.specs.Contents.{nameOf, findOf}
+use Rattle.store.specs.Contents.{nameOf}
 use Rattle.store.specs.Layout.{isStore}
-use Rattle.store.specs.Value.{valueOf}
-use Rattle.read.specs.Read.{ReadRecord, value, failure, encode, idAt, idsFrom, recordBy, recordFor, readOf}
+use Rattle.read.specs.Read.{ReadRecord, encode, idAt, idsFrom, recordFor, readOf}
 use Rattle.server.specs.Serve.{commanded}
 use Rattle.readers.specs.Replies.{readReplyOf}
 use Rattle.readers.specs.Sendable.{ReadSendable}
@@ -28,6 +22,7 @@ use Rattle.readers.specs.Back.{ReadReplies}
 use Rattle.readers.specs.Served.{readMade, ReadServed}
 use Rattle.readers.proofs.Wholes.{found-whole}
 use Rattle.readers.proofs.Outs.{shortened-sends}
+use Rattle.readers.proofs.Finding.{made-read}
 use Rattle.readers.proofs.Keeping.{every-read, keeps-shortened}
 use Rattle.readers.proofs.Answers.{Commands, serves-by}
 
@@ -38,20 +33,10 @@ id-below body b p id q e =
     let w = up-to-is body (p + 2) (unsignedAt body p 2) id q e in
     subst (λ (x : ℕ). x < 2 ^ 16) (w .1 .0) (unsigned-below body p 2 b)
 
-module _ (form : ℕ) (s : List ℕ) (h : ZclHeader) (store : isStore form s ≡ true) where
-  made-by : (fit : ReadRecord → Bool) (id : ℕ) → id < 2 ^ 16
-      → (f : Found) → findOf form s (nameOf (h .«manufacturer_code» .0) id) ≡ f → ReadSendable (recordBy s fit id f)
-  unfolding recordBy
-  made-by fit id b Nothing e = (b, λ z. omega arith)
-  made-by fit id b (At a) e = go (fit (value id (a .«type_id» .0) (valueOf s a)))
-    where
-      go : (x : Bool) → ReadSendable (cond x (value id (a .«type_id» .0) (valueOf s a)) (failure id (statusCode InsufficientSpace)))
-      go true = (b, found-whole form s (nameOf (h .«manufacturer_code» .0) id) a store e)
-      go false = (b, λ z. omega arith)
-
-  makes : (fit : ReadRecord → Bool) (id : ℕ) → id < 2 ^ 16 → ReadSendable (recordFor form s h fit id)
-  unfolding recordFor
-  makes fit id b = made-by fit id b (findOf form s (nameOf (h .«manufacturer_code» .0) id)) refl
+makes : (form : ℕ) (s : List ℕ) (h : ZclHeader) → isStore form s ≡ true
+    → (fit : ReadRecord → Bool) (id : ℕ) → id < 2 ^ 16 → ReadSendable (recordFor form s h fit id)
+makes form s h store fit id b =
+    made-read form s h ReadSendable id (λ a e. (b, found-whole form s (nameOf (h .«manufacturer_code» .0) id) a store e)) (λ status k. (b, k)) fit
 
 sent : Commands ReadAttributesResponse (encodeAll encode) (All ReadSendable) ReadAttributes readMade
 unfolding commanded readOf replyHead

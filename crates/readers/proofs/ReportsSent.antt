@@ -1,6 +1,6 @@
 -- Reading a report that was made gives the records of its list of ids. Assumes nothing.
 use mathlib.Core.Path.{_≡_, refl, ap, _∙_}
-use mathlib.Core.Bool.{Bool, true, false, cond}
+use mathlib.Core.Bool.{cond}
 use mathlib.Core.List.{List, [], _∷_, _++_}
 use Prim.Native.Nat.{ℕ, _<_, _^_}
 use native.Mathlib.Omega.{arith}
@@ -9,17 +9,14 @@ use lib.Dec.{leb}
 use Rattle.frame.specs.Walk.{All}
 use Rattle.frame.specs.declared.command_identifier.CommandIdentifier.the-variants.{ReportAttributes}
 use Rattle.frame.specs.declared.answer.Answer.the-variants.{Reply}
-use Rattle.frame.specs.declared.answer.Refusal.the-variants.{ReplyTooLong, NotAStore, EmptyReport, NotReportable}
+use Rattle.frame.specs.declared.answer.Refusal.the-variants.{ReplyTooLong, NotAStore, EmptyReport}
 use Rattle.frame.specs.Header.{replyHead}
 use Rattle.frame.specs.Answer.{Outcome, noState, seen, refused}
-use Rattle.frame.specs.Encoded.{encodeAll, fits}
-use Rattle.frame.proofs.Walks.{all-snoc}
+use Rattle.frame.specs.Encoded.{encodeAll}
 use Rattle.frame.proofs.Codes.{refusal-nonzero}
-use Rattle.store.specs.declared.lookup.Found.{Found}
-use Rattle.store.specs.declared.lookup.Found.the-variants.{At, Nothing}
-use Rattle.store.specs.Contents.{nameOf, findOf, reportable}
+use Rattle.store.specs.Contents.{nameOf}
 use Rattle.store.specs.Layout.{isStore}
-use Rattle.server.specs.Report.{ReportRecord, encode, recordOf, Reported, all, trouble, reportBy, reportFrom, reportReply, unasked, listed, reportOf}
+use Rattle.server.specs.Report.{ReportRecord, encode, Reported, all, trouble, reportFrom, reportReply, unasked, listed, reportOf}
 use Rattle.readers.specs.Reading.{read}
 use Rattle.readers.specs.Replies.{reportFrameOf}
 use Rattle.readers.specs.Sendable.{ReportSendable}
@@ -28,40 +25,8 @@ use Rattle.readers.specs.Served.{ReportSent}
 use Rattle.readers.proofs.Reaching.{passed}
 use Rattle.readers.proofs.Wholes.{found-whole}
 use Rattle.readers.proofs.Outs.{sends-replied}
+use Rattle.readers.proofs.Finding.{Reports, made-report}
 use Rattle.readers.proofs.Answers.{seen-zero, read-sent}
-
--- ---- every record of a report can be sent
-
-abbrev Good : Reported → Type 0
-Good (all rs) = All ReportSendable rs
-Good (trouble why) = Unit {0}
-
-abbrev Ids : List ℕ → Type 0
-Ids ids = All (λ (id : ℕ). id < 2 ^ 16) ids
-
-module _ (form : ℕ) (s : List ℕ) (store : isStore form s ≡ true) (room head : ℕ) where
-  by-found : (id : ℕ) → id < 2 ^ 16 → (rs : List ReportRecord) → All ReportSendable rs → (rest : List ReportRecord → Reported)
-      → ((longer : List ReportRecord) → All ReportSendable longer → Good (rest longer))
-      → (f : Found) → findOf form s (nameOf 0 id) ≡ f → Good (reportBy s room head id rs rest f)
-  by-found id b rs h rest k (At a) e = go (reportable a) (fits encode room head longer)
-    where
-      longer : List ReportRecord
-      longer = rs ++ (recordOf s id a ∷ [])
-
-      good : All ReportSendable longer
-      good = all-snoc ReportSendable rs (recordOf s id a) h (b, found-whole form s (nameOf 0 id) a store e)
-
-      go : (x y : Bool) → Good (cond x (cond y (rest longer) (trouble ReplyTooLong)) (trouble NotReportable))
-      go true true = k longer good
-      go true false = tt
-      go false y = tt
-  by-found id b rs h rest k Nothing e = tt
-
-  good-from : (ids : List ℕ) → Ids ids → (rs : List ReportRecord) → All ReportSendable rs → Good (reportFrom form s room head rs ids)
-  unfolding reportFrom
-  good-from [] t rs h = h
-  good-from (id ∷ ids) t rs h =
-      by-found id (t .0) rs h (λ longer. reportFrom form s room head longer ids) (λ longer w. good-from ids (t .1) longer w) (findOf form s (nameOf 0 id)) refl
 
 -- ---- THE PROMISE
 
@@ -72,7 +37,7 @@ listed-is (id ∷ ids) room rest z = refl
 
 module _ (back : ReportFrames) (room sequence size : ℕ) (reply : List ℕ) where
   -- what was sent is all records, and they are read
-  by-report : (y : Reported) → Good y → seen (Reply size) reply noState ≡ reportReply room (replyHead (unasked sequence) ReportAttributes) y
+  by-report : (y : Reported) → Reports ReportSendable y → seen (Reply size) reply noState ≡ reportReply room (replyHead (unasked sequence) ReportAttributes) y
       → (rs : List ReportRecord) × (y ≡ all rs) × (reportFrameOf (take size reply) ≡ read rs)
   unfolding reportReply
   by-report (all rs) g e =
@@ -95,5 +60,6 @@ report-sent back form s sequence ids room short size reply e =
     let e₂ : seen (Reply size) reply noState ≡ two = e ∙ p .1 in
     let q = passed room (leb 3 room) one ReplyTooLong noState (seen-zero two size reply noState e₂) in
     let e₃ : seen (Reply size) reply noState ≡ one = e₂ ∙ q .1 in
-    by-report back room sequence size reply y (good-from form s (p .0) room 3 ids short [] tt)
+    by-report back room sequence size reply y
+    (made-report form s room 3 ReportSendable (λ id. id < 2 ^ 16) (λ id b a f. (b, found-whole form s (nameOf 0 id) a (p .0) f)) ids short)
     (e₃ ∙ listed-is ids room (reportReply room head y) (seen-zero one size reply noState e₃))

@@ -25,7 +25,7 @@ module _ (f : List ℕ) (at size : ℕ) where
   own = take size (drop at f)
 
   -- what is behind the first n bytes of a record lies n bytes later in the frame
-  behind : (n : ℕ) → take (size - n) (drop (at + n) f) ≡ drop n own
+  pub behind : (n : ℕ) → take (size - n) (drop (at + n) f) ≡ drop n own
   behind n = sym (drop-take n size (drop at f) ∙ ap (take (size - n)) (drop-drop n at f))
 
   id-is : {id : ℕ} → id ≡ unsignedAt part 0 2 → id ≡ unsignedAt own 0 2

@@ -6,4 +6,5 @@ pub mod Values  -- where a value lies, and its number
 pub mod Sendable  -- the records that a reply can hold
 pub mod Back  -- what was written is read back, and nothing else is accepted
 pub mod Served  -- reading what was served gives the records that were made
+pub mod Numbers  -- the number that is read is the number in the store
 pub mod Inside  -- what the code's answers say
