@@ -42,3 +42,4 @@ pub mod ServesBack  -- the promise, command by command
 -- The number comes through.
 pub mod Numbered  -- the number of a whole value is that of its bytes alone
 pub mod Through  -- the number that is read is the number in the store
+pub mod WorkedNumbers  -- over store T, by computing

@@ -1,24 +1,21 @@
 -- The number of a whole value is that of its bytes alone, wherever they stand; so the number of an attribute of a store is that of its
 -- value as it is sent. Assumes nothing.
-use mathlib.Core.Path.{_≡_, refl, ap, _∙_, sym, subst}
+use mathlib.Core.Path.{_≡_, refl, sym, ap, _∙_}
 use mathlib.Core.Bool.{Bool, true, false, cond}
 use mathlib.Core.List.{List}
-use Prim.Native.Nat.{ℕ, _+_, _≤_, min}
+use Prim.Native.Nat.{ℕ, _≤_, min}
 use native.Mathlib.Omega.{arith}
 use lib.ListN.{length, take, drop, length-take}
 use lib.Seq.{take-take}
 use lib.Dec.{leb}
-use lib.IntN.{ℤ, pos}
+use lib.IntN.{pos}
 use borrow.Author.Tests.{leb-true, leb-false}
 use Rattle.types.specs.Number.{le, unsignedAt, signedOf, signedAt}
 use Rattle.types.specs.Ids.{sizeOf, isSigned}
 use Rattle.types.specs.Value.{plainAt, numberBy, numberAt}
-use Rattle.types.specs.Extent.{extentOf}
 use Rattle.types.specs.declared.ids.Size.{Size}
 use Rattle.types.specs.declared.ids.Size.the-variants.{Bytes, Varies}
-use Rattle.types.specs.declared.value.Number.{Number}
 use Rattle.types.specs.declared.value.Number.the-variants.{Value, None}
-use Rattle.types.specs.declared.extent.Extent.the-variants.{End}
 use Rattle.types.proofs.Extents.{extent-fixed, upto-end}
 use Rattle.store.specs.declared.lookup.Attribute.{Attribute}
 use Rattle.store.specs.declared.lookup.Found.{Found}

@@ -1,6 +1,6 @@
 -- The number that is read from a frame is the number of the attribute in the store: both are the number of the value's bytes. Assumes
 -- nothing.
-use mathlib.Core.Path.{_≡_, refl, sym, ap, _∙_, subst}
+use mathlib.Core.Path.{_≡_, sym, ap, _∙_, subst}
 use mathlib.Core.Bool.{Bool, true, false, cond}
 use mathlib.Core.List.{List, [], _∷_, map}
 use mathlib.Core.Option.{none, some}
@@ -20,8 +20,9 @@ use Rattle.store.specs.declared.lookup.Found.the-variants.{At}
 use Rattle.store.specs.Contents.{nameOf, findOf}
 use Rattle.store.specs.Layout.{isStore}
 use Rattle.store.specs.Value.{valueOf, numberedBy, numberOf}
+use Rattle.reporting.specs.declared.entry.Entry.{Entry}
 use Rattle.read.specs.Read.{ReadRecord, value, failure, encode, idAt, idsFrom, recordFor}
-use Rattle.server.specs.Report.{ReportRecord, reportRecord, Reported, all, reportFrom, reportOf}
+use Rattle.server.specs.Report.{ReportRecord, reportRecord, all, reportFrom, reportOf}
 use Rattle.readers.specs.declared.layout.Layout.the-variants.{ReadStatus, Report}
 use Rattle.readers.specs.declared.value.ValueIn.{ValueIn}
 use Rattle.readers.specs.Reading.{Read, read, unreadable, mapped, kth, Span, cutOut, recordsOf}
@@ -126,34 +127,40 @@ module _ (form : ℕ) (s : List ℕ) where
 
 -- ---- THE THEOREMS
 
-made-tells : (form : ℕ) (s : List ℕ) (h : ZclHeader) → isStore form s ≡ true → (fit : ReadRecord → Bool) (id : ℕ) → Unit {0}
-    → ReadTells form s (h .«manufacturer_code» .0) (recordFor form s h fit id)
-made-tells form s h store fit id u =
-    made-read form s h (ReadTells form s (h .«manufacturer_code» .0)) id (found-tells form s store (nameOf (h .«manufacturer_code» .0) id)) (λ status k. tt) fit
+-- every value that a read is answered with was found
+read-made-tells : (form limit : ℕ) (s : List ℕ) (l : List Entry) (h : ZclHeader) (body : List ℕ) (room : ℕ) → isStore form s ≡ true
+    → All (ReadTells form s (h .«manufacturer_code» .0)) (readMade form limit s l h body room)
+read-made-tells form limit s l h body room store =
+    keeps-shortened encode (recordFor form s h) room 3 (ReadTells form s (h .«manufacturer_code» .0)) (λ id. Unit {0})
+    (λ fit id u. made-read form s h (ReadTells form s (h .«manufacturer_code» .0)) id
+    (found-tells form s store (nameOf (h .«manufacturer_code» .0) id)) (λ status k. tt) fit)
+    (idsFrom body 0)
+    (every-read (idAt body) (length body) (λ id. Unit {0}) (λ p id q e. tt))
 
 pub read-number : ReadNumber
 unfolding readReplyOf recordsOf readReplyHeld
 read-number form limit s n l cluster unicast frame room h typed asks size reply after e k id t v w i =
     let f : List ℕ = take size reply in
-    let body : List ℕ = drop (h .body) frame in
-    let Good : ReadRecord → Type 0 = ReadTells form s (h .«manufacturer_code» .0) in
-    let made : readReplyOf f ≡ read (readMade form limit s l h body room) =
-    read-served form limit s n l cluster unicast frame room h typed asks size reply after e in
+    let code : ℕ = h .«manufacturer_code» .0 in
+    let made = read-served form limit s n l cluster unicast frame room h typed asks size reply after e in
     let reached = by-command form limit s n l cluster unicast frame room h ReadAttributes asks (seen-zero _ size reply after e) in
-    let good : All Good (readMade form limit s l h body room) =
-    keeps-shortened encode (recordFor form s h) room 3 Good (λ q. Unit {0}) (made-tells form s h (reached .store)) (idsFrom body 0)
-    (every-read (idAt body) (length body) (λ q. Unit {0}) (λ p r q g. tt)) in
-    let y = in-reply (λ (x : Span). readRecord (cutOut f x)) (readHeld f) Good (spansOf ReadAttributesResponse ReadStatus f) _ made good k _ i in
-    read-tells form s (h .«manufacturer_code» .0) f (y .0) id t v w (y .1) (y .2)
+    let good = read-made-tells form limit s l h (drop (h .body) frame) room (reached .store) in
+    let y = in-reply (λ (x : Span). readRecord (cutOut f x)) (readHeld f) (ReadTells form s code) (spansOf ReadAttributesResponse ReadStatus f) _ made good k _ i in
+    read-tells form s code f (y .0) id t v w (y .1) (y .2)
+
+-- every value of a report was found
+report-made-tells : (form : ℕ) (s : List ℕ) (ids : List ℕ) (room : ℕ) → isStore form s ≡ true → All (λ (id : ℕ). id < 2 ^ 16) ids
+    → (rs : List ReportRecord) → reportFrom form s room 3 [] ids ≡ all rs → All (ReportTells form s) rs
+report-made-tells form s ids room store short rs e =
+    subst (Reports (ReportTells form s)) e
+    (made-report form s room 3 (ReportTells form s) (λ id. id < 2 ^ 16) (λ id b. found-tells form s store (nameOf 0 id)) ids short)
 
 pub report-number : ReportNumber
 unfolding reportFrameOf recordsOf reportFrameHeld reportOf
 report-number form s sequence ids room short size reply e k id t v w i =
     let f : List ℕ = take size reply in
     let sent = report-sent form s sequence ids room short size reply e in
-    let store : isStore form s ≡ true = passed room (isStore form s) _ NotAStore noState (seen-zero _ size reply noState e) .0 in
-    let good : All (ReportTells form s) (sent .0) =
-    subst (Reports (ReportTells form s)) (sent .1)
-    (made-report form s room 3 (ReportTells form s) (λ q. q < 2 ^ 16) (λ q b a g. found-tells form s store (nameOf 0 q) a g) ids short) in
+    let store = passed room (isStore form s) _ NotAStore noState (seen-zero _ size reply noState e) .0 in
+    let good = report-made-tells form s ids room store short (sent .0) (sent .1) in
     let y = in-reply (λ (x : Span). reportedRecord (cutOut f x)) (reportHeld f) (ReportTells form s) (spansOf ReportAttributes Report f) _ (sent .2) good k _ i in
     report-tells form s f (y .0) id t v w (y .1) (y .2)
