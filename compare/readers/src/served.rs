@@ -9,11 +9,11 @@ use reading::replies::Readings;
 use crate::frames::Frames;
 use crate::round_trip;
 
-const REQUESTS: usize = 160_000;
-const LISTS: usize = 40_000;
+const REQUESTS: usize = 440_000;
+const LISTS: usize = 110_000;
 
 /// At least so many must have a reply that is read back.
-const READ_BACK: usize = 70_000;
+const READ_BACK: usize = 200_000;
 
 /// So many of each are served at a time.
 const BATCH: usize = 1000;
