@@ -43,3 +43,5 @@ pub mod ServesBack  -- the promise, command by command
 pub mod Numbered  -- the number of a whole value is that of its bytes alone
 pub mod Through  -- the number that is read is the number in the store
 pub mod WorkedNumbers  -- over store T, by computing
+pub mod Views  -- what an answer says tells the answer
+pub mod Unique  -- no second answer fits
