@@ -45,3 +45,4 @@ pub mod Through  -- the number that is read is the number in the store
 pub mod WorkedNumbers  -- over store T, by computing
 pub mod Views  -- what an answer says tells the answer
 pub mod Unique  -- no second answer fits
+pub mod Worked  -- the bench replies, read
