@@ -62,7 +62,7 @@ reportFrameOf f = recordsOf reportedRecord f (spansOf ReportAttributes Report f)
 
 unfoldable pub failuresFrom : Layout → List ℕ → ℕ → Read (List Span)
 failuresFrom layout f p =
-    cond (leb (length f) p) (unreadable RecordCut)
+    cond (leb (length f) p) (unreadable RecordCut)  -- no byte
     (cond (eqb (length f) (p + 1) && eqb (getD f p 0) 0) (read []) (spansFrom (lengthOf layout) f p))
 
 unfoldable pub failuresOf : CommandIdentifier → Layout → List ℕ → Read (List Span)
