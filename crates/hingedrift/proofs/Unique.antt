@@ -8,8 +8,11 @@ use Rattle.frame.specs.Answer.{Outcome, noState}
 use Rattle.store.specs.Value.{Telling}
 use Rattle.hingedrift.specs.Tables.{keyOf, configOf, Left, left, noResult, Configuration, configurationAs, newLeft, configureLeft, clearLeft, markLeft, askLeft, configurationLeft}
 use Rattle.hingedrift.specs.Serving.{handed, Lent, lent, unsupportedLeft, reportLeft, handleLeft}
+use Rattle.hingedrift.specs.Reading.{Told, told, ValueFields, SettingFields}
 use Rattle.hingedrift.specs.Unique.{HdNumberOnce, HdHandleRequestOnce, HdUnsupportedClusterOnce, HdReportOnce, HdTableNewOnce, HdConfigureOnce}
 use Rattle.hingedrift.specs.Unique.{HdClearOnce, HdConfigurationOnce, HdAskOnce, HdMarkOnce}
+use Rattle.hingedrift.specs.Unique.{HdReadCheckOnce, HdReadRecordOnce, HdWriteCheckOnce, HdWriteRecordOnce, HdConfigureCheckOnce, HdConfigureRecordOnce}
+use Rattle.hingedrift.specs.Unique.{HdConfigurationCheckOnce, HdConfigurationRecordOnce, HdDiscoverCheckOnce, HdDiscoverRecordOnce, HdDefaultResponseOnce, HdReportCheckOnce, HdReportRecordOnce}
 
 -- ---- what is seen of a call tells all that it left
 
@@ -30,6 +33,17 @@ one-table o r q bs cs e f = let w = one-outcome o r q bs cs noResult noResult e 
 -- a call that changes no more than a reply
 pub one-reply : (o : Outcome (Unit {0})) (r q m n : ℕ) (x y : List ℕ) → handed r m x noState ≡ o → handed q n y noState ≡ o → (r ≡ q) × ((m ≡ n) × (x ≡ y))
 one-reply o r q m n x y e f = let w = one-handed o r q m n x y noState noState e f in (w .0, (w .1 .0, w .1 .1 .0))
+
+-- a call of a reader
+pub one-told : {R : Type 0} {o : Told R} {m n : ℕ} {x y : R} → told m x ≡ o → told n y ≡ o → (m ≡ n) × (x ≡ y)
+one-told {R} p q = let e = p ∙ sym q in (ap (λ (z : Told R). z .number) e, ap (λ (z : Told R). z .result) e)
+
+one-value : {v w : ValueFields} → v ≡ w
+    → (v .type ≡ w .type) × ((v .start ≡ w .start) × ((v .len ≡ w .len) × ((v .numbered ≡ w .numbered) × (v .number ≡ w .number))))
+one-value e = ((λ i. e i .type), ((λ i. e i .start), ((λ i. e i .len), ((λ i. e i .numbered), (λ i. e i .number)))))
+
+one-setting : {v w : SettingFields} → v ≡ w → (v .type ≡ w .type) × ((v .minimum ≡ w .minimum) × ((v .maximum ≡ w .maximum) × (v .change ≡ w .change)))
+one-setting e = ((λ i. e i .type), ((λ i. e i .minimum), ((λ i. e i .maximum), (λ i. e i .change))))
 
 -- src/serving.rt
 
@@ -69,3 +83,68 @@ hd-ask-once table cluster attribute now value r q x y e f = let w = one-outcome 
 
 pub hd-mark-once : HdMarkOnce
 hd-mark-once table cluster attribute now value r q bs cs e f = one-table (markLeft table (keyOf cluster attribute) now value) r q bs cs e f
+
+-- src/reading.rt
+
+pub hd-read-check-once : HdReadCheckOnce
+hd-read-check-once frame r r′ n n′ e f = one-told e f
+
+pub hd-read-record-once : HdReadRecordOnce
+hd-read-record-once frame k r r′ found found′ id id′ status status′ t t′ start start′ len len′ numbered numbered′ number number′ e f =
+    let w = one-told e f in
+    let c = w .1 in
+    (w .0, ((λ i. c i .found), ((λ i. c i .id), ((λ i. c i .status), one-value (λ i. c i .value)))))
+
+pub hd-write-check-once : HdWriteCheckOnce
+hd-write-check-once frame r r′ n n′ e f = one-told e f
+
+pub hd-write-record-once : HdWriteRecordOnce
+hd-write-record-once frame k r r′ found found′ status status′ id id′ e f =
+    let w = one-told e f in
+    let c = w .1 in
+    (w .0, ((λ i. c i .found), ((λ i. c i .status), (λ i. c i .id))))
+
+pub hd-configure-check-once : HdConfigureCheckOnce
+hd-configure-check-once frame r r′ n n′ e f = one-told e f
+
+pub hd-configure-record-once : HdConfigureRecordOnce
+hd-configure-record-once frame k r r′ found found′ status status′ direction direction′ id id′ e f =
+    let w = one-told e f in
+    let c = w .1 in
+    (w .0, ((λ i. c i .found), ((λ i. c i .status), ((λ i. c i .direction), (λ i. c i .id)))))
+
+pub hd-configuration-check-once : HdConfigurationCheckOnce
+hd-configuration-check-once frame r r′ n n′ e f = one-told e f
+
+pub hd-configuration-record-once : HdConfigurationRecordOnce
+hd-configuration-record-once frame k r r′ found found′ status status′ direction direction′ id id′ t t′ minimum minimum′ maximum maximum′ change change′ e f =
+    let w = one-told e f in
+    let c = w .1 in
+    (w .0, ((λ i. c i .head .found), ((λ i. c i .head .status), ((λ i. c i .head .direction), ((λ i. c i .head .id), one-setting c)))))
+
+pub hd-discover-check-once : HdDiscoverCheckOnce
+hd-discover-check-once frame r r′ complete complete′ records records′ e f =
+    let w = one-told e f in
+    let c = w .1 in
+    (w .0, ((λ i. c i .complete), (λ i. c i .count)))
+
+pub hd-discover-record-once : HdDiscoverRecordOnce
+hd-discover-record-once frame k r r′ found found′ id id′ t t′ e f =
+    let w = one-told e f in
+    let c = w .1 in
+    (w .0, ((λ i. c i .found), ((λ i. c i .id), (λ i. c i .type))))
+
+pub hd-default-response-once : HdDefaultResponseOnce
+hd-default-response-once frame r r′ command command′ status status′ e f =
+    let w = one-told e f in
+    let c = w .1 in
+    (w .0, ((λ i. c i .command), (λ i. c i .status)))
+
+pub hd-report-check-once : HdReportCheckOnce
+hd-report-check-once frame r r′ n n′ e f = one-told e f
+
+pub hd-report-record-once : HdReportRecordOnce
+hd-report-record-once frame k r r′ found found′ id id′ t t′ start start′ len len′ numbered numbered′ number number′ e f =
+    let w = one-told e f in
+    let c = w .1 in
+    (w .0, ((λ i. c i .found), ((λ i. c i .id), one-value (λ i. c i .value))))

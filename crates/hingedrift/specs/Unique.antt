@@ -8,6 +8,9 @@ use lib.IntN.{ℤ}
 use Rattle.frame.specs.Answer.{noState}
 use Rattle.hingedrift.specs.Tables.{keyOf, configOf, left, noResult, configurationAs, newLeft, configureLeft, clearLeft, markLeft, askLeft, configurationLeft}
 use Rattle.hingedrift.specs.Serving.{handed, numberHanded, lent, numberLeft, unsupportedLeft, reportLeft, handleLeft}
+use Rattle.hingedrift.specs.Reading.{told, valueAs, readAs, reportAs, writeAs, configureAs, settingAs, sizedAs, discoverAs, responseAs}
+use Rattle.hingedrift.specs.Reading.{readChecked, writeChecked, configureChecked, configurationChecked, reportChecked, discoverChecked}
+use Rattle.hingedrift.specs.Reading.{readRecorded, reportRecorded, writeRecorded, configureRecorded, configurationRecorded, discoverRecorded, responseTold}
 
 -- src/serving.rt
 abbrev pub HdNumberOnce : Type 0
@@ -76,3 +79,97 @@ HdMarkOnce =
     → left r bs noResult ≡ markLeft table (keyOf cluster attribute) now value
     → left q cs noResult ≡ markLeft table (keyOf cluster attribute) now value
     → (r ≡ q) × (bs ≡ cs)
+
+-- src/reading.rt
+abbrev pub HdReadCheckOnce : Type 0
+HdReadCheckOnce =
+    (frame : List ℕ) (r r′ records records′ : ℕ)
+    → told r records ≡ readChecked frame
+    → told r′ records′ ≡ readChecked frame
+    → (r ≡ r′) × (records ≡ records′)
+
+abbrev pub HdReadRecordOnce : Type 0
+HdReadRecordOnce =
+    (frame : List ℕ) (k r r′ found found′ id id′ status status′ t t′ start start′ len len′ numbered numbered′ : ℕ) (number number′ : ℤ)
+    → told r (readAs found id status (valueAs t start len numbered number)) ≡ readRecorded frame k
+    → told r′ (readAs found′ id′ status′ (valueAs t′ start′ len′ numbered′ number′)) ≡ readRecorded frame k
+    → (r ≡ r′) × ((found ≡ found′) × ((id ≡ id′) × ((status ≡ status′) ×
+    ((t ≡ t′) × ((start ≡ start′) × ((len ≡ len′) × ((numbered ≡ numbered′) × (number ≡ number′))))))))
+
+abbrev pub HdWriteCheckOnce : Type 0
+HdWriteCheckOnce =
+    (frame : List ℕ) (r r′ failures failures′ : ℕ)
+    → told r failures ≡ writeChecked frame
+    → told r′ failures′ ≡ writeChecked frame
+    → (r ≡ r′) × (failures ≡ failures′)
+
+abbrev pub HdWriteRecordOnce : Type 0
+HdWriteRecordOnce =
+    (frame : List ℕ) (k r r′ found found′ status status′ id id′ : ℕ)
+    → told r (writeAs found status id) ≡ writeRecorded frame k
+    → told r′ (writeAs found′ status′ id′) ≡ writeRecorded frame k
+    → (r ≡ r′) × ((found ≡ found′) × ((status ≡ status′) × (id ≡ id′)))
+
+abbrev pub HdConfigureCheckOnce : Type 0
+HdConfigureCheckOnce =
+    (frame : List ℕ) (r r′ failures failures′ : ℕ)
+    → told r failures ≡ configureChecked frame
+    → told r′ failures′ ≡ configureChecked frame
+    → (r ≡ r′) × (failures ≡ failures′)
+
+abbrev pub HdConfigureRecordOnce : Type 0
+HdConfigureRecordOnce =
+    (frame : List ℕ) (k r r′ found found′ status status′ direction direction′ id id′ : ℕ)
+    → told r (configureAs found status direction id) ≡ configureRecorded frame k
+    → told r′ (configureAs found′ status′ direction′ id′) ≡ configureRecorded frame k
+    → (r ≡ r′) × ((found ≡ found′) × ((status ≡ status′) × ((direction ≡ direction′) × (id ≡ id′))))
+
+abbrev pub HdConfigurationCheckOnce : Type 0
+HdConfigurationCheckOnce =
+    (frame : List ℕ) (r r′ records records′ : ℕ)
+    → told r records ≡ configurationChecked frame
+    → told r′ records′ ≡ configurationChecked frame
+    → (r ≡ r′) × (records ≡ records′)
+
+abbrev pub HdConfigurationRecordOnce : Type 0
+HdConfigurationRecordOnce =
+    (frame : List ℕ) (k r r′ found found′ status status′ direction direction′ id id′ t t′ minimum minimum′ maximum maximum′ change change′ : ℕ)
+    → told r (settingAs (configureAs found status direction id) t minimum maximum change) ≡ configurationRecorded frame k
+    → told r′ (settingAs (configureAs found′ status′ direction′ id′) t′ minimum′ maximum′ change′) ≡ configurationRecorded frame k
+    → (r ≡ r′) × ((found ≡ found′) × ((status ≡ status′) × ((direction ≡ direction′) × ((id ≡ id′) ×
+    ((t ≡ t′) × ((minimum ≡ minimum′) × ((maximum ≡ maximum′) × (change ≡ change′))))))))
+
+abbrev pub HdDiscoverCheckOnce : Type 0
+HdDiscoverCheckOnce =
+    (frame : List ℕ) (r r′ complete complete′ records records′ : ℕ)
+    → told r (sizedAs complete records) ≡ discoverChecked frame
+    → told r′ (sizedAs complete′ records′) ≡ discoverChecked frame
+    → (r ≡ r′) × ((complete ≡ complete′) × (records ≡ records′))
+
+abbrev pub HdDiscoverRecordOnce : Type 0
+HdDiscoverRecordOnce =
+    (frame : List ℕ) (k r r′ found found′ id id′ t t′ : ℕ)
+    → told r (discoverAs found id t) ≡ discoverRecorded frame k
+    → told r′ (discoverAs found′ id′ t′) ≡ discoverRecorded frame k
+    → (r ≡ r′) × ((found ≡ found′) × ((id ≡ id′) × (t ≡ t′)))
+
+abbrev pub HdDefaultResponseOnce : Type 0
+HdDefaultResponseOnce =
+    (frame : List ℕ) (r r′ command command′ status status′ : ℕ)
+    → told r (responseAs command status) ≡ responseTold frame
+    → told r′ (responseAs command′ status′) ≡ responseTold frame
+    → (r ≡ r′) × ((command ≡ command′) × (status ≡ status′))
+
+abbrev pub HdReportCheckOnce : Type 0
+HdReportCheckOnce =
+    (frame : List ℕ) (r r′ records records′ : ℕ)
+    → told r records ≡ reportChecked frame
+    → told r′ records′ ≡ reportChecked frame
+    → (r ≡ r′) × (records ≡ records′)
+
+abbrev pub HdReportRecordOnce : Type 0
+HdReportRecordOnce =
+    (frame : List ℕ) (k r r′ found found′ id id′ t t′ start start′ len len′ numbered numbered′ : ℕ) (number number′ : ℤ)
+    → told r (reportAs found id (valueAs t start len numbered number)) ≡ reportRecorded frame k
+    → told r′ (reportAs found′ id′ (valueAs t′ start′ len′ numbered′ number′)) ≡ reportRecorded frame k
+    → (r ≡ r′) × ((found ≡ found′) × ((id ≡ id′) × ((t ≡ t′) × ((start ≡ start′) × ((len ≡ len′) × ((numbered ≡ numbered′) × (number ≡ number′)))))))

@@ -1,7 +1,6 @@
 -- The value as it lies, and its number where it has one. Assumes nothing.
 use borrow.Author.Needs.{needs}
 use mathlib.Core.Path.{sym, ap, _∙_}
-use lib.IntN.{ℤ}
 use Rattle.types.specs.declared.value.Number.{Number}
 use Rattle.types.proofs.Machine.{came-back}
 use Rattle.hingedrift.specs.Reading.{valueAs, numberFields}

@@ -34,7 +34,9 @@ returns-3 : tie.Need-returns-3
 returns-3 c = told-so _ _ configurationRecordIs (c .before .before .configuration-reply-record .ensures) (c .enum-told .given .1)
 
 returns-4 : tie.Need-returns-4
-returns-4 c = told-refused _ _ configurationRecordIs (c .before .before .before .before .configuration-reply-record .ensures) (c .before .before .says3 .given .1) _ _ (c .number .ensures) refl
+returns-4 c =
+    told-refused _ _ configurationRecordIs (c .before .before .before .before .configuration-reply-record .ensures) (c .before .before .says3 .given .1)
+    _ _ (c .number .ensures) refl
 
 pub hd-configuration-record-spec : {M : Type 1} → statement M
 hd-configuration-record-spec =

@@ -28,7 +28,9 @@ returns-2 : tie.Need-returns-2
 returns-2 c = told-so _ _ configureRecordIs (c .before .before .configure-reply-record .ensures) (c .enum-told .given .1)
 
 returns-3 : tie.Need-returns-3
-returns-3 c = told-refused _ _ configureRecordIs (c .before .before .before .before .configure-reply-record .ensures) (c .before .before .says2 .given .1) _ _ (c .number .ensures) refl
+returns-3 c =
+    told-refused _ _ configureRecordIs (c .before .before .before .before .configure-reply-record .ensures) (c .before .before .says2 .given .1)
+    _ _ (c .number .ensures) refl
 
 pub hd-configure-record-spec : {M : Type 1} → statement M
 hd-configure-record-spec =

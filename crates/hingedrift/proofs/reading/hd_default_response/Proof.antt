@@ -22,7 +22,9 @@ returns : tie.Need-returns
 returns c = told-so _ _ responseIs (c .before .before .before .read-default-response .ensures) (c .before .says .given .1)
 
 returns-2 : tie.Need-returns-2
-returns-2 c = told-refused _ _ responseIs (c .before .before .before .before .read-default-response .ensures) (c .before .before .says2 .given .1) _ _ (c .number .ensures) refl
+returns-2 c =
+    told-refused _ _ responseIs (c .before .before .before .before .read-default-response .ensures) (c .before .before .says2 .given .1)
+    _ _ (c .number .ensures) refl
 
 pub hd-default-response-spec : {M : Type 1} → statement M
 hd-default-response-spec =

@@ -22,7 +22,9 @@ returns : tie.Need-returns
 returns c = told-so _ _ discoveryIs (c .before .before .before .check-discover-reply .ensures) (c .before .says .given .1)
 
 returns-2 : tie.Need-returns-2
-returns-2 c = told-refused _ _ discoveryIs (c .before .before .before .before .check-discover-reply .ensures) (c .before .before .says2 .given .1) _ _ (c .number .ensures) refl
+returns-2 c =
+    told-refused _ _ discoveryIs (c .before .before .before .before .check-discover-reply .ensures) (c .before .before .says2 .given .1)
+    _ _ (c .number .ensures) refl
 
 pub hd-discover-check-spec : {M : Type 1} → statement M
 hd-discover-check-spec =

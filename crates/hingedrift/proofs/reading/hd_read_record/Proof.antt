@@ -1,10 +1,10 @@
 -- The record that the reader gave is handed on, with its value. Assumes nothing.
 use borrow.Author.Needs.{needs}
-use mathlib.Core.Path.{refl, _∙_}
+use mathlib.Core.Path.{refl}
 use denote.Ref.{now}
 use Rattle.readers.specs.Inside.{readRecordIs}
-use Rattle.hingedrift.specs.Reading.{told, readAs}
-use Rattle.hingedrift.proofs.Telling.{told-so, told-refused}
+use Rattle.hingedrift.specs.Reading.{readAs}
+use Rattle.hingedrift.proofs.Telling.{told-so, told-refused, told-within}
 use Rattle.hingedrift.proofs.reading.hd_read_record.Statement.{statement}
 use Rattle.hingedrift.proofs.reading.hd_read_record.Tie as tie
 
@@ -32,17 +32,25 @@ number-requires c κs = search needs
 returns : tie.Need-returns
 returns c =
     let x = c .before .before .before .before .before .before .before .says in
-    (λ i. told 0 (readAs 1 (x .given .0 .0 .0) 0 (c .hand-value .ensures i)))
-    ∙ told-so _ _ (readRecordIs (now (c .before .before .before .before .before .before .before .before .before .before .before .args .frame))) (c .before .before .before .before .before .before .before .before .before .read-reply-record .ensures) (x .given .1)
+    told-within _ _ (readRecordIs (now (c .before .before .before .before .before .before .before .before .before .before .before .args .frame)))
+    (c .before .before .before .before .before .before .before .before .before .read-reply-record .ensures) (x .given .1)
+    (readAs 1 (x .given .0 .0 .0) 0) (c .hand-value .ensures) refl
 
 returns-2 : tie.Need-returns-2
-returns-2 c = told-so _ _ (readRecordIs (now (c .before .before .before .before .before .args .frame))) (c .before .before .before .read-reply-record .ensures) (c .before .says2 .given .1)
+returns-2 c =
+    told-so _ _ (readRecordIs (now (c .before .before .before .before .before .args .frame)))
+    (c .before .before .before .read-reply-record .ensures) (c .before .says2 .given .1)
 
 returns-3 : tie.Need-returns-3
-returns-3 c = told-so _ _ (readRecordIs (now (c .before .before .before .before .args .frame))) (c .before .before .read-reply-record .ensures) (c .enum-told .given .1)
+returns-3 c =
+    told-so _ _ (readRecordIs (now (c .before .before .before .before .args .frame)))
+    (c .before .before .read-reply-record .ensures) (c .enum-told .given .1)
 
 returns-4 : tie.Need-returns-4
-returns-4 c = told-refused _ _ (readRecordIs (now (c .before .before .before .before .before .before .args .frame))) (c .before .before .before .before .read-reply-record .ensures) (c .before .before .says3 .given .1) _ _ (c .number .ensures) refl
+returns-4 c =
+    told-refused _ _ (readRecordIs (now (c .before .before .before .before .before .before .args .frame)))
+    (c .before .before .before .before .read-reply-record .ensures) (c .before .before .says3 .given .1)
+    _ _ (c .number .ensures) refl
 
 pub hd-read-record-spec : {M : Type 1} → statement M
 hd-read-record-spec =

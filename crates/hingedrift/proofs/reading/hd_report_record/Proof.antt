@@ -1,10 +1,10 @@
 -- The record that the reader gave is handed on, with its value. Assumes nothing.
 use borrow.Author.Needs.{needs}
-use mathlib.Core.Path.{refl, _∙_}
+use mathlib.Core.Path.{refl}
 use denote.Ref.{now}
 use Rattle.readers.specs.Inside.{reportRecordIs}
-use Rattle.hingedrift.specs.Reading.{told, reportAs}
-use Rattle.hingedrift.proofs.Telling.{told-so, told-refused}
+use Rattle.hingedrift.specs.Reading.{reportAs}
+use Rattle.hingedrift.proofs.Telling.{told-so, told-refused, told-within}
 use Rattle.hingedrift.proofs.reading.hd_report_record.Statement.{statement}
 use Rattle.hingedrift.proofs.reading.hd_report_record.Tie as tie
 
@@ -29,14 +29,20 @@ number-requires c κs = search needs
 returns : tie.Need-returns
 returns c =
     let x = c .before .before .before .before .before .before .before .says in
-    (λ i. told 0 (reportAs 1 (x .given .0 .0 .0) (c .hand-value .ensures i)))
-    ∙ told-so _ _ (reportRecordIs (now (c .before .before .before .before .before .before .before .before .before .before .before .args .frame))) (c .before .before .before .before .before .before .before .before .before .report-frame-record .ensures) (x .given .1)
+    told-within _ _ (reportRecordIs (now (c .before .before .before .before .before .before .before .before .before .before .before .args .frame)))
+    (c .before .before .before .before .before .before .before .before .before .report-frame-record .ensures) (x .given .1)
+    (reportAs 1 (x .given .0 .0 .0)) (c .hand-value .ensures) refl
 
 returns-2 : tie.Need-returns-2
-returns-2 c = told-so _ _ (reportRecordIs (now (c .before .before .before .before .args .frame))) (c .before .before .report-frame-record .ensures) (c .enum-told .given .1)
+returns-2 c =
+    told-so _ _ (reportRecordIs (now (c .before .before .before .before .args .frame)))
+    (c .before .before .report-frame-record .ensures) (c .enum-told .given .1)
 
 returns-3 : tie.Need-returns-3
-returns-3 c = told-refused _ _ (reportRecordIs (now (c .before .before .before .before .before .before .args .frame))) (c .before .before .before .before .report-frame-record .ensures) (c .before .before .says2 .given .1) _ _ (c .number .ensures) refl
+returns-3 c =
+    told-refused _ _ (reportRecordIs (now (c .before .before .before .before .before .before .args .frame)))
+    (c .before .before .before .before .report-frame-record .ensures) (c .before .before .says2 .given .1)
+    _ _ (c .number .ensures) refl
 
 pub hd-report-record-spec : {M : Type 1} → statement M
 hd-report-record-spec =

@@ -28,7 +28,9 @@ returns-2 : tie.Need-returns-2
 returns-2 c = told-so _ _ writeRecordIs (c .before .before .write-reply-record .ensures) (c .enum-told .given .1)
 
 returns-3 : tie.Need-returns-3
-returns-3 c = told-refused _ _ writeRecordIs (c .before .before .before .before .write-reply-record .ensures) (c .before .before .says2 .given .1) _ _ (c .number .ensures) refl
+returns-3 c =
+    told-refused _ _ writeRecordIs (c .before .before .before .before .write-reply-record .ensures) (c .before .before .says2 .given .1)
+    _ _ (c .number .ensures) refl
 
 pub hd-write-record-spec : {M : Type 1} → statement M
 hd-write-record-spec =
