@@ -2,6 +2,8 @@
  * Hingedrift for C: a Zigbee attribute server over a store of values, and a reporting table that says which attributes report, how
  * often, and what each last reported.
  *
+ * It also reads what a server sends back: the replies, and Report Attributes frames.
+ *
  * The caller keeps the store and the table as bytes and lends them to each call, with their length. A table is HD_TABLE_BYTES bytes;
  * hd_table_new makes them one, and docs/TABLE.md has the layout. A store's layout is that of document 01.
  *
@@ -29,7 +31,7 @@ extern "C" {
 #define HD_OK 0
 /* or why not. The request is for another cluster than the store's. */
 #define HD_OTHER_CLUSTER 1
-/* The request is too short for a header. */
+/* The request, or the frame to read, is too short for a header. */
 #define HD_HEADER_SHORT 2
 /* Its frame type is reserved. */
 #define HD_RESERVED_FRAME_TYPE 3
@@ -45,6 +47,8 @@ extern "C" {
 #define HD_NOT_A_TABLE 8
 /* There is no such attribute, or its value has no number. */
 #define HD_NO_NUMBER 9
+/* The frame is not what the call reads: another frame type or command, or bytes that stand in no such reply. */
+#define HD_NOT_SUCH_A_REPLY 10
 /* The list of attributes to report is empty. */
 #define HD_EMPTY_REPORT 11
 /* An attribute to report is missing or not reportable. */
@@ -102,6 +106,76 @@ uint8_t hd_unsupported_cluster(const uint16_t *served, size_t served_len, uint16
  * *frame_used.
  */
 uint8_t hd_report(const uint8_t *store, size_t store_len, uint8_t sequence, const uint16_t *ids, size_t ids_len, uint8_t *frame, size_t frame_len, size_t *frame_used);
+
+/*
+ * The readers: what a device sent back, the bytes of a ZCL frame. For a reply with records there is a check, which counts them, and a
+ * function for record k, from 0. Both look at the whole frame in every call, so that neither supposes that the other was called before:
+ *   HD_OK                the whole frame can be read. Where it has no record k, *found is 0 and so is every other result;
+ *   HD_HEADER_SHORT      it is too short for a header;
+ *   HD_RECORD_CUT        a record is cut, a value has no extent, or a body that cannot be empty is; also where that is behind record k;
+ *   HD_NOT_SUCH_A_REPLY  it is no global command, its command is another, or bytes stand in it that no such reply has.
+ * Of several faults the first in the frame counts. After a refusal every result is 0. A manufacturer code in the header is passed over.
+ *
+ * A status is its byte as it came. A value is told by its type, by `value`, the offset of its first byte in the frame, and by its
+ * length; a string's length field is part of it. *numbered is 1 where its type has a number, and *number is that number, as hd_number gives it: Int types with their sign, every
+ * other type without one and so never negative, but that a value of eight bytes keeps its bit pattern. Types of 16 bytes and of no fixed
+ * length have none: *numbered and *number are then 0.
+ */
+
+/* Writes to *records how many records the reply to Read Attributes has. */
+uint8_t hd_read_check(const uint8_t *frame, size_t frame_len, size_t *records);
+
+/*
+ * Record k of the reply to Read Attributes: 1 to *found, its attribute to *id, and its status, 0 for success. A success has a value; a
+ * failure leaves 0 in all that tells of one.
+ */
+uint8_t hd_read_record(const uint8_t *frame, size_t frame_len, size_t k, uint8_t *found, uint16_t *id, uint8_t *status, uint8_t *type, size_t *value, size_t *value_len, uint8_t *numbered, int64_t *number);
+
+/*
+ * Writes to *failures how many failures the reply to Write Attributes, or to Write Attributes Undivided, has. 0 is success: the body is
+ * one byte 00. A status 00 in a list of failures gets HD_NOT_SUCH_A_REPLY, an empty body HD_RECORD_CUT.
+ */
+uint8_t hd_write_check(const uint8_t *frame, size_t frame_len, size_t *failures);
+
+/* Failure k of the reply to Write Attributes: 1 to *found, its status, and the attribute that was not written to *id. */
+uint8_t hd_write_record(const uint8_t *frame, size_t frame_len, size_t k, uint8_t *found, uint8_t *status, uint16_t *id);
+
+/* Writes to *failures how many failures the reply to Configure Reporting has. 0 is success, and it is refused as a write reply is. */
+uint8_t hd_configure_check(const uint8_t *frame, size_t frame_len, size_t *failures);
+
+/* Failure k of the reply to Configure Reporting: 1 to *found, its status, the direction's byte, and the attribute to *id. */
+uint8_t hd_configure_record(const uint8_t *frame, size_t frame_len, size_t k, uint8_t *found, uint8_t *status, uint8_t *direction, uint16_t *id);
+
+/* Writes to *records how many records the reply to Read Reporting Configuration has. */
+uint8_t hd_configuration_check(const uint8_t *frame, size_t frame_len, size_t *records);
+
+/*
+ * Record k of the reply to Read Reporting Configuration: 1 to *found, its status, 0 for success, the direction's byte, and the attribute
+ * to *id. A success has the attribute's type and three numbers; a failure leaves 0 in these four. The change has no sign, whatever the
+ * type: its bytes as they came. It is 0 where the type has none.
+ */
+uint8_t hd_configuration_record(const uint8_t *frame, size_t frame_len, size_t k, uint8_t *found, uint8_t *status, uint8_t *direction, uint16_t *id, uint8_t *type, uint16_t *minimum, uint16_t *maximum, uint64_t *change);
+
+/*
+ * Writes to *complete the reply's byte, 1 where no attribute was left out and 0 where there are more, and to *records how many attributes
+ * the reply to Discover Attributes lists. Any other such byte gets HD_NOT_SUCH_A_REPLY, an empty body HD_RECORD_CUT.
+ */
+uint8_t hd_discover_check(const uint8_t *frame, size_t frame_len, uint8_t *complete, size_t *records);
+
+/* Attribute k of the reply to Discover Attributes: 1 to *found, the attribute to *id, and its type. */
+uint8_t hd_discover_record(const uint8_t *frame, size_t frame_len, size_t k, uint8_t *found, uint16_t *id, uint8_t *type);
+
+/*
+ * A Default Response: the command that it answers, and the status. It has one record, so there is one function. HD_RECORD_CUT where the
+ * two bytes are not there; bytes behind them are passed over.
+ */
+uint8_t hd_default_response(const uint8_t *frame, size_t frame_len, uint8_t *command, uint8_t *status);
+
+/* Writes to *records how many records a Report Attributes frame has. */
+uint8_t hd_report_check(const uint8_t *frame, size_t frame_len, size_t *records);
+
+/* Record k of a Report Attributes frame: 1 to *found, its attribute to *id, and its value. */
+uint8_t hd_report_record(const uint8_t *frame, size_t frame_len, size_t k, uint8_t *found, uint16_t *id, uint8_t *type, size_t *value, size_t *value_len, uint8_t *numbered, int64_t *number);
 
 #ifdef __cplusplus
 }

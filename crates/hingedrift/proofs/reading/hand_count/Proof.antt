@@ -20,7 +20,7 @@ returns c = search needs
 
 returns-2 : tie.Need-returns-2
 returns-2 c =
-    told-refused 0 (λ n. n) countIs refl (c .before .before .count2 .given .1)
+    told-refused _ _ countIs refl (c .before .before .count2 .given .1)
     _ _ (c .number .ensures) refl
 
 pub hand-count-spec : {M : Type 1} → statement M

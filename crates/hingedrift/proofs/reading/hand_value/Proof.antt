@@ -1,7 +1,9 @@
 -- The value as it lies, and its number where it has one. Assumes nothing.
 use borrow.Author.Needs.{needs}
 use mathlib.Core.Path.{sym, ap, _∙_}
+use lib.IntN.{ℤ}
 use Rattle.types.specs.declared.value.Number.{Number}
+use Rattle.types.specs.declared.value.Number.the-variants.{Value}
 use Rattle.types.proofs.Machine.{came-back}
 use Rattle.hingedrift.specs.Reading.{valueAs, numberFields}
 use Rattle.hingedrift.proofs.reading.hand_value.Statement.{statement}
@@ -16,7 +18,7 @@ enum-told c = search needs
 returns : tie.Need-returns
 returns c =
     let v = c .before .before .before .before .args .v in
-    ap (valueAs (v .«type_id» .0) (v .start) (v .len) 1) (came-back _ (c .known-told .given .0 .1))
+    ap (λ (z : ℤ). numberFields (Value z) (valueAs (v .«type_id» .0) (v .start) (v .len))) (came-back _ (c .known-told .given .0 .1))
     ∙ ap (λ (n : Number). numberFields n (valueAs (v .«type_id» .0) (v .start) (v .len))) (sym (c .before .says .given .1))
 
 returns-2 : tie.Need-returns-2
