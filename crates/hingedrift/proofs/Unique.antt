@@ -12,7 +12,8 @@ use Rattle.hingedrift.specs.Reading.{Told, told, ValueFields, SettingFie
 use Rattle.hingedrift.specs.Unique.{HdNumberOnce, HdHandleRequestOnce, HdUnsupportedClusterOnce, HdReportOnce, HdTableNewOnce, HdConfigureOnce}
 use Rattle.hingedrift.specs.Unique.{HdClearOnce, HdConfigurationOnce, HdAskOnce, HdMarkOnce}
 use Rattle.hingedrift.specs.Unique.{HdReadCheckOnce, HdReadRecordOnce, HdWriteCheckOnce, HdWriteRecordOnce, HdConfigureCheckOnce, HdConfigureRecordOnce}
-use Rattle.hingedrift.specs.Unique.{HdConfigurationCheckOnce, HdConfigurationRecordOnce, HdDiscoverCheckOnce, HdDiscoverRecordOnce, HdDefaultResponseOnce, HdReportCheckOnce, HdReportRecordOnce}
+use Rattle.hingedrift.specs.Unique.{HdConfigurationCheckOnce, HdConfigurationRecordOnce, HdDiscoverCheckOnce, HdDiscoverRecordOnce}
+use Rattle.hingedrift.specs.Unique.{HdDefaultResponseOnce, HdReportCheckOnce, HdReportRecordOnce}
 
 -- ---- what is seen of a call tells all that it left
 
