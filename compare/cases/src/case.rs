@@ -3,7 +3,8 @@
 use std::fmt;
 
 use reading::commands::serve_lent;
-use reading::table::entries;
+use reading::store::cluster_of;
+use reading::table::{entries, to_bytes};
 
 use crate::hex::hex;
 
@@ -32,6 +33,18 @@ pub struct Seen {
 }
 
 impl Case {
+    /// A unicast request to the store's own cluster, with an empty table.
+    pub fn over(store: &[u8], request: &[u8], room: usize) -> Self {
+        Self {
+            store: store.to_vec(),
+            table: to_bytes(&[]),
+            cluster: cluster_of(store).unwrap_or(0),
+            unicast: 1,
+            request: request.to_vec(),
+            room,
+        }
+    }
+
     /// Document 01's answer.
     pub fn document(&self) -> Seen {
         let mut store = self.store.clone();

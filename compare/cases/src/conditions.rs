@@ -30,6 +30,28 @@ impl Condition {
         Self::Collection,
     ];
 
+    /// Its name in docs/DIFFERENCES.md.
+    pub fn name(self) -> &'static str {
+        match self {
+            Self::BooleanAboveOne => "a Boolean above 1",
+            Self::InvalidString => "a string of length ff",
+            Self::InvalidLongString => "a long string of length ffff",
+            Self::NotUtf8 => "a whole character string that is not UTF-8",
+            Self::Collection => "an array, structure, set or bag that has an extent",
+        }
+    }
+
+    /// The smallest value that fulfils it: a type code and bytes.
+    pub fn smallest(self) -> &'static [u8] {
+        match self {
+            Self::BooleanAboveOne => &[0x10, 0x02],
+            Self::InvalidString => &[0x41, 0xff],
+            Self::InvalidLongString => &[0x43, 0xff, 0xff],
+            Self::NotUtf8 => &[0x42, 0x01, 0x80],
+            Self::Collection => &[0x4c, 0x00, 0x00],
+        }
+    }
+
     /// The condition that `value`, a type code and bytes, fulfils.
     pub fn of(value: &[u8]) -> Option<Self> {
         let (&code, bytes) = value.split_first()?;
@@ -69,6 +91,21 @@ impl Condition {
                 matches!(reading::kind(code), Kind::Series | Kind::Structure)
                     && matches!(reading::extent(code, bytes, 0), Extent::End(_))
             }
+        }
+    }
+}
+
+#[cfg(test)]
+mod tests {
+    use super::*;
+
+    #[test]
+    fn names_of_the_page() {
+        let page = include_str!("../../../docs/DIFFERENCES.md");
+        for condition in Condition::ALL {
+            let row = format!("\n| {} | `", condition.name());
+            assert_eq!(page.matches(&row).count(), 2, "{row}");
+            assert_eq!(Condition::of(condition.smallest()), Some(condition));
         }
     }
 }

@@ -2,12 +2,11 @@
 
 use cases::kinds::{self, Call, Kind};
 use cases::{Case, Seen};
+use frames::sides::{self, Stands};
 use oracle::Oracle;
 use reading::commands::Answer;
 use reading::store::{attributes, is_store};
 use reading::table::entries;
-
-use crate::sides::{self, Stands};
 
 /// What came of it.
 pub struct Compared {

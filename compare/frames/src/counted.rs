@@ -3,8 +3,7 @@
 use std::collections::HashMap;
 
 use cases::Condition;
-
-use crate::sides::Stands;
+use frames::sides::Stands;
 
 /// At least so many must agree with the Rust.
 const AGREED: usize = 1_000_000;

@@ -13,7 +13,6 @@ mod compare;
 mod counted;
 mod others;
 mod shorten;
-mod sides;
 
 use std::process::ExitCode;
 use std::time::Instant;

@@ -2,6 +2,7 @@
 
 use cases::{Case, Condition, Seen};
 use oracle::{Oracle, Outcome, Request};
+use reading::store::is_store;
 use reading::table::entries;
 
 /// How the Rust stands to document 01's answer.
@@ -16,37 +17,46 @@ pub enum Stands {
 
 /// An error where the Rust differs and no condition lets it.
 pub fn rust(oracle: &mut Oracle, case: &Case, document: &Seen) -> Result<Stands, String> {
-    if matches!(document.number, 7 | 8) {
+    let Some(outcome) = asked(oracle, case)? else {
         return Ok(Stands::NotAsked);
+    };
+    if agrees(document, &outcome) {
+        return Ok(Stands::Agrees);
     }
-    let table = entries(&case.table).map_err(|broken| format!("no table ({broken:?})"))?;
+    let trouble = || format!("document 01:\n{document}the Rust:\n{}", shown(&outcome));
+    let listed = listed(case, &outcome).map(Stands::Differs);
+    listed.ok_or_else(trouble)
+}
+
+/// What the Rust says and leaves; nothing for a store or a table that has no
+/// counterpart in it. An error where it panics.
+pub fn asked(oracle: &mut Oracle, case: &Case) -> Result<Option<Outcome>, String> {
+    let (true, Ok(table)) = (is_store(&case.store), entries(&case.table)) else {
+        return Ok(None);
+    };
     let request = Request {
         cluster: case.cluster,
         unicast: case.unicast != 0,
         frame: &case.request,
         room: case.room,
     };
-    let outcome = oracle.handle(&case.store, &table, &request)?;
-    if agrees(document, &outcome) {
-        return Ok(Stands::Agrees);
-    }
-    match Condition::of_frame(&case.store, &case.request) {
-        // a listed difference is one way only: no reply, and no other table
-        Some(condition) if outcome.reply.is_none() && outcome.table == table => {
-            Ok(Stands::Differs(condition))
-        }
-        _ => Err(format!(
-            "document 01:\n{document}the Rust:\n{}",
-            shown(&outcome)
-        )),
-    }
+    oracle.handle(&case.store, &table, &request).map(Some)
 }
 
-fn agrees(document: &Seen, outcome: &Outcome) -> bool {
-    let reply = (document.number == 0).then(|| document.reply());
+/// Whether the Rust, which says `None` to every refusal, says and leaves the
+/// same.
+pub fn agrees(seen: &Seen, outcome: &Outcome) -> bool {
+    let reply = (seen.number == 0).then(|| seen.reply());
     reply == outcome.reply.as_deref()
-        && document.store == outcome.store
-        && entries(&document.table).as_deref() == Ok(&outcome.table)
+        && seen.store == outcome.store
+        && entries(&seen.table).as_deref() == Ok(&outcome.table)
+}
+
+/// The condition that lets the Rust differ so. A listed difference is one way
+/// only: no reply, and no other table.
+pub fn listed(case: &Case, outcome: &Outcome) -> Option<Condition> {
+    let one_way = outcome.reply.is_none() && entries(&case.table).as_deref() == Ok(&outcome.table);
+    Condition::of_frame(&case.store, &case.request).filter(|_| one_way)
 }
 
 fn shown(outcome: &Outcome) -> String {

@@ -88,8 +88,9 @@ impl Driver {
         Ok(wrong.find_map(|(at, trouble)| Some((at, trouble?))))
     }
 
-    /// The answers to all of these, in their order.
-    fn answers(&mut self, calls: &[&Call]) -> Result<Vec<Result<Answer, String>>, String> {
+    /// The answers to all of these, in their order; an error inside where ours
+    /// wrote what it is not to write.
+    pub fn answers(&mut self, calls: &[&Call]) -> Result<Vec<Result<Answer, String>>, String> {
         let mut answers = Vec::with_capacity(calls.len());
         let mut calls = calls.iter();
         while !calls.as_slice().is_empty() {

@@ -14,7 +14,7 @@ mod readers;
 pub use answer::Answer;
 pub use call::Call;
 pub use driver::Driver;
-pub use held::{Held, lent_list, replied};
+pub use held::{Held, lent_list, replied, served};
 pub use readers::{Reader, Row, wrong_rows};
 
 /// What stands where a function is to write, and around what it is lent.

@@ -136,10 +136,10 @@ mod tests {
     /// As docs/DIFFERENCES.md has them.
     #[test]
     fn frames_of_the_page() {
-        let values = ["1002", "41ff", "43ffff", "420180", "4c0000"];
-        let expected: Vec<String> = values
-            .iter()
-            .flat_map(|value| {
+        let expected: Vec<String> = Condition::ALL
+            .into_iter()
+            .flat_map(|condition| {
+                let value = hex(condition.smallest());
                 let alone = ["02", "03"].map(|command| format!("0000{command}0000{value}"));
                 let behind = format!("0000050000{value}01002000");
                 alone.into_iter().chain([behind])
