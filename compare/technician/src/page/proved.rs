@@ -1,0 +1,38 @@
+//! What is proved, what was run, and what is taken on trust.
+
+use super::block::{Block, heading, list, text};
+
+pub fn section() -> Vec<Block> {
+    vec![
+        heading("What is proved, and what is not"),
+        text(
+            "Proved, for every store, table, frame and reply length, not only for those that were run:",
+        ),
+        list(&[
+            "The new server's answer is the one that a written definition gives: the number it returns, every byte of the reply buffer, and \
+             every byte of store and table afterwards. No second answer meets the contract.",
+            "The number of a value is one definition over all widths and types, and every function that reads a number is proved equal to it. \
+             By it a value of an unsigned type of up to 7 bytes is never negative.",
+            "Bad frames, stores and tables are refused by number, and what each refusal leaves is part of the definition.",
+        ]),
+        text("Shown by runs, not proved:"),
+        list(&[
+            "That the new server answers as the old one. The runs are the one on this page and, in the gate (`make test`), a million random frames \
+             and a million calls of the reporting table.",
+            "That the definitions say what document 01 says. They are short enough to be read against it (docs/READING.md); the new server is held to an \
+             independent reading of it, written in Rust, on every frame of every run.",
+        ]),
+        text("Taken on trust:"),
+        list(&[
+            "The prover and the compiler of Rattle, the C compiler and linker that join the archive to its caller, and the machine. On a machine that is \
+             not x86-64 the archive runs under an emulator.",
+            "The caller in C: no pointer is null, and the buffers of one call do not overlap.",
+            "Stand-ins for five crates that the old server needs and that were not at hand (`byte`, `heapless`, `spin`, `zigbee-macros`, `zigbee-core`), \
+             and the store under it: the old code leaves the store to its user, and here it is one that keeps document 01's rules. \
+             docs/DIFFERENCES.md says what each assumes.",
+        ]),
+        text(
+            "Not covered: the code between the boxes and the head-end, the radio driver, and cluster commands, which both answer with UNSUP_COMMAND here.",
+        ),
+    ]
+}
