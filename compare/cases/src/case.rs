@@ -75,14 +75,15 @@ impl Seen {
     }
 }
 
+/// In the form of compare/FRAMES.md.
 impl fmt::Display for Case {
     fn fmt(&self, f: &mut fmt::Formatter<'_>) -> fmt::Result {
-        writeln!(f, "  store    {}", hex(&self.store))?;
+        writeln!(f, "  store    {}", or_none(&self.store))?;
         writeln!(f, "  table    {}", shown(&self.table))?;
         writeln!(f, "  cluster  {:04x}", self.cluster)?;
         writeln!(f, "  unicast  {}", self.unicast)?;
-        writeln!(f, "  request  {}", hex(&self.request))?;
-        writeln!(f, "  room     {}", self.room)
+        writeln!(f, "  room     {}", self.room)?;
+        writeln!(f, "  request  {}", or_none(&self.request))
     }
 }
 
@@ -102,6 +103,13 @@ pub fn shown(table: &[u8]) -> String {
             let used = 1 + reading::table::SLOT * entries.len();
             format!("{}, then zeros", hex(&table[..used]))
         }
-        Err(broken) => format!("{} ({broken:?})", hex(table)),
+        Err(broken) => format!("{}  # {broken:?}", or_none(table)),
+    }
+}
+
+fn or_none(bytes: &[u8]) -> String {
+    match bytes {
+        [] => "none".to_owned(),
+        _ => hex(bytes),
     }
 }

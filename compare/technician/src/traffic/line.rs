@@ -51,7 +51,12 @@ fn table(text: &str) -> Result<Vec<u8>, String> {
     if text == "empty" {
         return Ok(to_bytes(&[]));
     }
-    let table = bytes(text)?;
+    let (start, filled) = match text.strip_suffix(", then zeros") {
+        Some(start) => (start, SIZE),
+        None => (text, 0),
+    };
+    let mut table = bytes(start)?;
+    table.resize(table.len().max(filled), 0);
     match table.len() {
         SIZE => Ok(table),
         other => Err(format!("a table has {SIZE} bytes, these are {other}")),
@@ -70,12 +75,13 @@ fn cluster(text: &str) -> Result<Option<u16>, String> {
     }
 }
 
+/// A byte, of which only 0 means no.
 fn unicast(text: &str) -> Result<u8, String> {
-    match text {
-        "0" => Ok(0),
-        "1" => Ok(1),
+    let byte = count(text).map(u8::try_from);
+    match byte {
+        Ok(Ok(byte)) => Ok(byte),
         _ => Err(format!(
-            "unicast is 0 or 1, not `{}`",
+            "`{}` is no number from 0 to 255",
             text.escape_default()
         )),
     }

@@ -2,6 +2,7 @@
 
 use cases::stores::bench;
 use cases::{Case, hex};
+use reading::table::SIZE;
 
 use super::*;
 
@@ -60,6 +61,18 @@ fn store_and_table_carry_on() {
 }
 
 #[test]
+fn a_printed_frame_is_a_file() {
+    let mut tried = 0;
+    for frame in crate::frame::random(4000, 5) {
+        if frame.case.table.len() == SIZE {
+            assert_eq!(cases_of(&frame.case.to_string()), [frame.case]);
+            tried += 1;
+        }
+    }
+    assert!(tried > 3000);
+}
+
+#[test]
 fn every_bad_line_is_named() {
     for (line, why) in [
         ("stor 00", "no word"),
@@ -72,8 +85,9 @@ fn every_bad_line_is_named() {
         ("table", "missing"),
         ("cluster fc", "four hex digits"),
         ("cluster 21fc00", "four hex digits"),
-        ("unicast 2", "0 or 1"),
-        ("unicast", "0 or 1"),
+        ("unicast 256", "from 0 to 255"),
+        ("unicast", "from 0 to 255"),
+        ("table 0g, then zeros", "`g`"),
         ("room", "no number"),
         ("room -1", "no number"),
         ("room +1", "no number"),
