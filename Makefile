@@ -9,3 +9,8 @@ run:
 # The gate.
 test:
 	.ci/run
+
+# The old server and ours on the frames of compare/sample.txt; writes results/results.html.
+.PHONY: compare
+compare:
+	compare/run compare/sample.txt
