@@ -26,6 +26,7 @@ pub fn run(arguments: &Arguments) -> Result<usize, String> {
     let (many, frames) = frames(&arguments.from)?;
     set_current_dir(&arguments.root)
         .map_err(|trouble| format!("{}: {trouble}", arguments.root.display()))?;
+    page::clear()?;
     let mut sides = Sides::start()?;
     let results = Results {
         counted: counted(&mut sides, many, frames)?,

@@ -1,6 +1,7 @@
 //! What was measured, from a file of its own in simple Markdown: paragraphs,
-//! lists and tables. Its headings become paragraphs, since it is a part of this
-//! page; a line of dashes and colons in a table is its rule.
+//! lists, tables and code. It is a part of this page: its title is left out, and
+//! its other headings become paragraphs. A line of dashes and colons in a table
+//! is its rule.
 
 use std::fs;
 use std::io::ErrorKind;
@@ -27,7 +28,7 @@ fn blocks(file: &str) -> Vec<Block> {
             add_item(&mut blocks, item);
         } else if let Some(code) = line.strip_prefix("    ") {
             add_code(&mut blocks, code);
-        } else if !trimmed.is_empty() {
+        } else if !trimmed.is_empty() && !trimmed.starts_with("# ") {
             add_text(&mut blocks, after_gap, trimmed);
         }
         after_gap = trimmed.is_empty() || trimmed.starts_with('#');
@@ -65,9 +66,7 @@ fn add_code(blocks: &mut Vec<Block>, line: &str) {
 
 fn add_text(blocks: &mut Vec<Block>, after_gap: bool, line: &str) {
     match blocks.last_mut() {
-        Some(Block::Text(text) | Block::Outcome { text, .. }) if !after_gap => {
-            *text += &format!(" {line}")
-        }
+        Some(Block::Text(text)) if !after_gap => *text += &format!(" {line}"),
         _ => blocks.push(text(line.trim_start_matches('#').trim())),
     }
 }
@@ -79,11 +78,11 @@ mod tests {
 
     #[test]
     fn simple_markdown() {
-        let file = "# Speed\n\nTwo lines\nof text.\n\n| a | b |\n|---|---:|\n| 1 | 2 |\n\n- one\n- two\n\n    make it\n";
+        let file = "# Speed\n\nTwo lines\nof text.\n\n## Calls\n| a | b |\n|---|---:|\n| 1 | 2 |\n\n- one\n- two\n\n    make it\n";
         let table = Table::of(&["a", "b"], vec![vec!["1".to_owned(), "2".to_owned()]]);
         let expected = [
-            text("Speed"),
             text("Two lines of text."),
+            text("Calls"),
             table,
             list(&["one", "two"]),
             Block::Code("make it\n".to_owned()),
