@@ -4,6 +4,8 @@
 mod answers;
 mod block;
 mod html;
+mod incident;
+mod listed;
 mod markdown;
 mod proved;
 mod sections;

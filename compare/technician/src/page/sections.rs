@@ -1,11 +1,7 @@
-//! The sections of the page.
+//! The sections of the page; the longer ones have files of their own.
 
-use cases::hex;
-
-use super::answers::{buffers, replies, with_stores};
 use super::block::{Block, Table, code, heading, text};
-use super::proved;
-use crate::commands::Command;
+use super::{incident, listed, proved};
 use crate::counted::Row;
 use crate::results::Results;
 
@@ -15,9 +11,9 @@ pub const TITLE: &str = "Old and new attribute server on the same frames";
 pub fn all(results: &Results, speed: Option<Vec<Block>>) -> Vec<Block> {
     [
         start(results),
-        incident(results),
+        incident::section(results),
         counts(results),
-        listed(results),
+        listed::section(results),
         speed_section(speed),
         proved::section(),
         again(results),
@@ -60,58 +56,6 @@ fn start(results: &Results) -> Vec<Block> {
     blocks
 }
 
-fn incident(results: &Results) -> Vec<Block> {
-    let counters = results.counters.iter();
-    let name = |counter: u32| code(&format!("{counter:08x}"));
-    let served = counters.clone().map(|row| {
-        let [old, new] = replies(&row.ran);
-        vec![
-            name(row.counter),
-            code(&hex(&row.ran.frame.case.request)),
-            old,
-            new,
-        ]
-    });
-    let numbers = counters.map(|row| {
-        let new = match row.new {
-            (0, number) => number.to_string(),
-            (refused, _) => format!("refused ({refused})"),
-        };
-        vec![
-            name(row.counter),
-            new,
-            row.document.to_string(),
-            row.signed().to_string(),
-        ]
-    });
-    let served = served.collect();
-    let numbers = numbers.collect();
-    vec![
-        heading("The rollback counter"),
-        text(
-            "The counter is an unsigned number of 32 bits (type 23). A read of it, around the value at which its top bit is set. Its four bytes stand at the \
-             end of the reply, the lowest first:",
-        ),
-        Table::of(&["counter", "request", "reply, old", "reply, new"], served),
-        text("The number that the head-end is to work with:"),
-        Table::of(
-            &[
-                "counter",
-                "new (`hd_number`)",
-                "independent reading",
-                "the glue: as told, not run here",
-            ],
-            numbers,
-        ),
-        text(
-            "The bytes in the replies are right in both servers. What went wrong is the number that was made of them: the glue code read every integer \
-             as signed. From `7fffffff` to `80000000` its number fell from 2147483647 to -2147483648, so that the older image passed for the newer one. \
-             The glue code was not at hand; its column is what reading the same four bytes as signed gives. `hd_number` gives the number by the \
-             attribute's type: a signed type keeps its sign, an unsigned one has none.",
-        ),
-    ]
-}
-
 fn counts(results: &Results) -> Vec<Block> {
     let counted = &results.counted;
     let mut rows: Vec<Vec<String>> = counted
@@ -144,47 +88,6 @@ fn counts(results: &Results) -> Vec<Block> {
         blocks.push(Table::of(&["difference", "command", "frames"], by_name));
     }
     blocks
-}
-
-fn listed(results: &Results) -> Vec<Block> {
-    let rows = results.listed.iter().map(|listed| {
-        let request = &listed.ran.frame.case.request;
-        let [old, new] = with_stores(&listed.ran);
-        let name = listed.condition.name().to_owned();
-        let command = Command::of(request).name().to_owned();
-        vec![name, command, code(&hex(request)), old, new]
-    });
-    let rows = rows.collect();
-    let behind = results.buffers.iter().map(|(name, ran)| {
-        let case = &ran.frame.case;
-        let [old, new] = buffers(ran);
-        let room = case.room.to_string();
-        vec![
-            (*name).to_owned(),
-            code(&hex(&case.request)),
-            room,
-            old,
-            new,
-        ]
-    });
-    let behind = behind.collect();
-    vec![
-        heading("The listed differences, by their smallest frames"),
-        text(
-            "All stand in docs/DIFFERENCES.md. To step over a value that it does not store, the old server reads it with a reader that refuses some values \
-             whose end is known; there it ends without a reply, or without the records behind. The new one steps over them. These frames were \
-             run for this page, over store T of document 01, with room for 6 bytes of reply:",
-        ),
-        Table::of(&["value", "command", "frame", "old", "new"], rows),
-        text(
-            "In two more the reply buffer itself differs, outside of what is sent. It was all zeros before the old call; the new server leaves zeros \
-             behind a reply and after a refusal, whatever was in it:",
-        ),
-        Table::of(
-            &["what", "frame", "room", "buffer, old", "buffer, new"],
-            behind,
-        ),
-    ]
 }
 
 fn speed_section(speed: Option<Vec<Block>>) -> Vec<Block> {

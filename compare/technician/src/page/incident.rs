@@ -1,0 +1,61 @@
+//! The rollback counter in frames, and as a number.
+
+use cases::hex;
+
+use super::answers::replies;
+use super::block::{Block, Table, code, heading, text};
+use crate::counter::Counter;
+use crate::results::Results;
+
+pub fn section(results: &Results) -> Vec<Block> {
+    vec![
+        heading("The rollback counter"),
+        text(
+            "The counter is an unsigned number of 32 bits (type 23). A read of it, around the value at which its top bit is set. Its four bytes stand at the \
+             end of the reply, the lowest first:",
+        ),
+        served(results),
+        text("The number that the head-end is to work with:"),
+        numbers(results),
+        text(
+            "The bytes in the replies are right in both servers. What went wrong is the number that was made of them: the glue code read every integer \
+             as signed. From `7fffffff` to `80000000` its number fell from 2147483647 to -2147483648, so that the older image passed for the newer one. \
+             The glue code was not at hand; its column is what reading the same four bytes as signed gives. `hd_number` gives the number by the \
+             attribute's type: a signed type keeps its sign, an unsigned one has none.",
+        ),
+    ]
+}
+
+/// A read of it, by both.
+fn served(results: &Results) -> Block {
+    let rows = results.counters.iter().map(|row| {
+        let [old, new] = replies(&row.ran);
+        let request = code(&hex(&row.ran.frame.case.request));
+        vec![name(row), request, old, new]
+    });
+    let head = ["counter", "request", "reply, old", "reply, new"];
+    Table::of(&head, rows.collect())
+}
+
+/// Its number, by all.
+fn numbers(results: &Results) -> Block {
+    let rows = results.counters.iter().map(|row| {
+        let new = match row.new {
+            (0, number) => number.to_string(),
+            (refused, _) => format!("refused ({refused})"),
+        };
+        let [document, signed] = [row.document, row.signed().into()];
+        vec![name(row), new, document.to_string(), signed.to_string()]
+    });
+    let head = [
+        "counter",
+        "new (`hd_number`)",
+        "independent reading",
+        "the glue: as told, not run here",
+    ];
+    Table::of(&head, rows.collect())
+}
+
+fn name(row: &Counter) -> String {
+    code(&format!("{:08x}", row.counter))
+}
