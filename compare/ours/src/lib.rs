@@ -15,7 +15,7 @@ pub use answer::Answer;
 pub use call::Call;
 pub use driver::Driver;
 pub use held::{Held, lent_list, replied, served};
-pub use readers::{Reader, Row, wrong_rows};
+pub use readers::{Reader, Row, value_number, wrong_rows};
 
 /// What stands where a function is to write, and around what it is lent.
 const BEFORE: u8 = 0xa5;

@@ -137,6 +137,21 @@ impl Held {
     }
 }
 
+impl Call {
+    /// Record k of the reply to a read, alone.
+    pub fn read_record(frame: &[u8], k: usize) -> Self {
+        Self::read(frame, &Row::new(Reader::ReadRecord, k, 0, &[]).asked())
+    }
+}
+
+/// What came of such a call: the number that it returned, and the value's,
+/// which is the last result.
+pub fn value_number(answer: &Answer) -> (u8, i64) {
+    let row = answer.left(1);
+    let last = row.last_chunk().expect("a row has its results");
+    (row[0], i64::from_le_bytes(*last))
+}
+
 /// The rows in which ours says otherwise, each with what ours says.
 pub fn wrong_rows(rows: &[Row], answer: &Answer) -> Vec<String> {
     rows.iter()

@@ -2,7 +2,7 @@
 //! it by old and new, and its number.
 
 use cases::stores::single;
-use cases::{Case, unhex};
+use cases::{Case, Seen, unhex};
 
 use crate::frame::Frame;
 use crate::sides::{Ran, Sides};
@@ -18,6 +18,8 @@ pub struct Counter {
     pub ran: Ran,
     /// What hd_number returned, and the number that it gave.
     pub new: (u8, i64),
+    /// What hd_read_record returned of the new one's reply, and the number.
+    pub read: (u8, i64),
     /// The number by the independent reading.
     pub document: i64,
 }
@@ -35,10 +37,13 @@ fn one(sides: &mut Sides, counter: u32) -> Result<Counter, String> {
     let store = single(0x23, 2, &counter.to_le_bytes());
     let case = Case::over(&store, &unhex(READ), 64);
     let frame = Frame::new(format!("a read of counter {counter:08x}"), case);
+    let ran = sides.one(frame)?;
+    let reply = ran.new.as_ref().map_or(&[][..], Seen::reply).to_vec();
     Ok(Counter {
         counter,
-        ran: sides.one(frame)?,
+        ran,
         new: sides.number(&store, 1)?,
+        read: sides.number_read(&reply)?,
         document: reading::store::number(&store, 1).expect("a counter has a number"),
     })
 }
@@ -52,11 +57,11 @@ impl Counter {
     /// What is wrong with it.
     pub fn trouble(&self) -> Option<String> {
         match self.ran.verdict() {
-            Verdict::Equal if self.new == (0, self.document) => None,
+            Verdict::Equal if [self.new, self.read] == [(0, self.document); 2] => None,
             Verdict::Unlisted(text) => Some(text),
             _ => Some(format!(
-                "the number of counter {:08x} is {}; hd_number returned {} and gave {}\n",
-                self.counter, self.document, self.new.0, self.new.1
+                "the number of counter {:08x} is {}; hd_number returned and gave {:?}, hd_read_record {:?}\n",
+                self.counter, self.document, self.new, self.read
             )),
         }
     }

@@ -3,7 +3,7 @@
 use cases::Seen;
 use frames::sides::asked;
 use oracle::{Oracle, Outcome};
-use ours::{Call, Driver, served};
+use ours::{Call, Driver, served, value_number};
 
 use crate::frame::Frame;
 
@@ -75,5 +75,12 @@ impl Sides {
     pub fn number(&mut self, store: &[u8], attribute: u16) -> Result<(u8, i64), String> {
         let answer = self.driver.answer(&Call::number(store, attribute))?;
         Ok((answer.number, answer.results[0].cast_signed()))
+    }
+
+    /// The number of the value that the reply to a read begins with, as the
+    /// new one's reader gives it: what it returned, and the number.
+    pub fn number_read(&mut self, reply: &[u8]) -> Result<(u8, i64), String> {
+        let answer = self.driver.answer(&Call::read_record(reply, 0))?;
+        Ok(value_number(&answer))
     }
 }

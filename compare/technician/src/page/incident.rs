@@ -20,8 +20,8 @@ pub fn section(results: &Results) -> Vec<Block> {
         text(
             "The bytes in the replies are right in both servers. What went wrong is the number that was made of them: the glue code read every integer \
              as signed. From `7fffffff` to `80000000` its number fell from 2147483647 to -2147483648, so that the older image passed for the newer one. \
-             The glue code was not at hand; its column is what reading the same four bytes as signed gives. `hd_number` gives the number by the \
-             attribute's type: a signed type keeps its sign, and any other of up to 7 bytes has none. (An unsigned number of 8 bytes keeps its bits in a \
+             The glue code was not at hand; its column is what reading the same four bytes as signed gives. `hd_read_record` at the head-end and `hd_number` in \
+             the box give the number by the type of the value, and are proved to give the same: a signed type keeps its sign, and any other of up to 7 bytes has none. (An unsigned number of 8 bytes keeps its bits in a \
              signed number of 64 bits, as document 01 says: from `8000000000000000` on it reads as negative.)",
         ),
     ]
@@ -41,20 +41,32 @@ fn served(results: &Results) -> Block {
 /// Its number, by all.
 fn numbers(results: &Results) -> Block {
     let rows = results.counters.iter().map(|row| {
-        let new = match row.new {
-            (0, number) => number.to_string(),
-            (refused, _) => format!("refused ({refused})"),
-        };
+        let [read, new] = [row.read, row.new].map(given);
         let [document, signed] = [row.document, row.signed().into()];
-        vec![name(row), new, document.to_string(), signed.to_string()]
+        vec![
+            name(row),
+            read,
+            new,
+            document.to_string(),
+            signed.to_string(),
+        ]
     });
     let head = [
         "counter",
-        "new (`hd_number`)",
+        "read from the reply (`hd_read_record`)",
+        "in the box (`hd_number`)",
         "independent reading",
         "the glue: as told, not run here",
     ];
     Table::of(&head, rows.collect())
+}
+
+/// A number, or that it was refused.
+fn given(said: (u8, i64)) -> String {
+    match said {
+        (0, number) => number.to_string(),
+        (refused, _) => format!("refused ({refused})"),
+    }
 }
 
 fn name(row: &Counter) -> String {

@@ -13,6 +13,8 @@ pub fn section() -> Vec<Block> {
              every byte of store and table afterwards. No second answer meets the contract.",
             "The number of a value is one definition over all widths and types, and every function that reads a number is proved equal to it. \
              By it a value of an unsigned type of up to 7 bytes is never negative.",
+            "Reading a reply of the new server, or a report, gives back exactly the records that it wrote, and for each value the number that the \
+             attribute has in the store.",
             "Bad frames, stores and tables are refused by number, and what each refusal leaves is part of the definition.",
         ]),
         text("Shown by runs, not proved:"),
