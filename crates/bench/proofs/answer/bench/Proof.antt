@@ -1,0 +1,73 @@
+-- Cut short, or the store and the request behind it. Assumes nothing.
+use mathlib.Core.Path.{ap, _∙_}
+use denote.Ref.{now}
+use Rattle.bench.specs.Bench.{decimal}
+use Rattle.bench.proofs.Says.{bench-cut, bench-whole}
+use borrow.Author.Needs.{needs}
+use Rattle.bench.proofs.answer.bench.Statement.{statement}
+use Rattle.bench.proofs.answer.bench.Tie as tie
+
+u16-at-requires : tie.Need-u16-at-requires
+u16-at-requires c κs = search needs
+
+cast-n : tie.Need-cast-n
+cast-n c = search needs
+
+add-end : tie.Need-add-end
+add-end c = search needs
+
+number-requires : tie.Need-number-requires
+number-requires c κs = search needs
+
+put-number-requires : tie.Need-put-number-requires
+put-number-requires c κs = search needs
+
+same-length : tie.Need-same-length
+same-length c = search needs
+
+returns : tie.Need-returns
+returns c =
+    let a = c .before .before .before .before .before .before .before .before .before .args in
+    c .before .before .put-number .ensures ∙ ap decimal (c .before .before .before .number .ensures) ∙ bench-cut (now (a .input)) _ (c .before .before .before .before .before .before .u16-at .ensures) (c .before .before .before .before .before .if1 .taken)
+
+part-requires : tie.Need-part-requires
+part-requires c κs = search needs
+
+sub-served : tie.Need-sub-served
+sub-served c = search needs
+
+part-served-start : tie.Need-part-served-start
+part-served-start c = search needs
+
+part-served-end : tie.Need-part-served-end
+part-served-end c = search needs
+
+served-requires : tie.Need-served-requires
+served-requires c κs = search needs
+
+same-length-2 : tie.Need-same-length-2
+same-length-2 c = search needs
+
+returns-2 : tie.Need-returns-2
+returns-2 c =
+    let a = c .before .before .before .before .before .before .before .before .before .before .args in
+    c .before .before .served .ensures ∙ bench-whole (now (a .input)) _ _ (c .before .before .before .before .before .before .before .u16-at .ensures) (c .before .before .before .before .before .before .if1 .left) (c .before .before .before .before .before .part .ensures)
+
+pub bench-spec : {M : Type 1} → statement M
+bench-spec =
+    tie.close
+    (tie.spec
+    u16-at-requires
+    cast-n
+    add-end
+    number-requires
+    put-number-requires
+    same-length
+    returns
+    part-requires
+    sub-served
+    part-served-start
+    part-served-end
+    served-requires
+    same-length-2
+    returns-2)
