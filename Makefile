@@ -1,8 +1,13 @@
 # Two commands from a fresh machine with the Rattle kit on PATH.
-.PHONY: run test
+.PHONY: run replay test
 
-# Proves what the replay program stands on, builds it and runs it: how many recorded answers ours agree with.
+# Proves what the bench program stands on, builds it and runs it on document 01's frame 1 over store T.
 run:
+	rt check bench
+	.ci/x86-64 target/bin/bench < crates/bench/stdin && echo
+
+# The same of the replay program: how many recorded answers ours agree with.
+replay:
 	rt check replay
 	.ci/x86-64 target/bin/replay < crates/replay/stdin
 

@@ -2,7 +2,7 @@
 use mathlib.Core.Path.{_≡_, refl, sym, ap, _∙_}
 use mathlib.Core.Bool.{Bool, true, false}
 use mathlib.Core.List.{List, [], _∷_, _++_}
-use Prim.Native.Nat.{ℕ, _+_, _-_, _≤_, _<_}
+use Prim.Native.Nat.{ℕ, _+_, _≤_, _<_}
 use native.Mathlib.Omega.{arith}
 use lib.ListN.{length, take, drop, length-drop}
 use lib.Seq.{take-all}
@@ -64,13 +64,12 @@ unfolding benchOf
 bench-cut input n e h = let k : length input < 2 + lengthOf input = omega (arith, e) in rw (lt-leb (2 + lengthOf input) (length input) k) refl
 
 -- the request is what is left behind the store
-pub bench-whole : (input store : List ℕ) (n : ℕ) → n ≡ lengthOf input → 2 + n ≤ length input → store ≡ take n (drop 2 input)
-    → said (servedOf store (take (length input - (2 + n)) (drop (2 + n) input))) ≡ benchOf input
+pub bench-whole : (input store request : List ℕ) (n : ℕ) → n ≡ lengthOf input → 2 + n ≤ length input
+    → store ≡ take n (drop 2 input) → request ≡ take (length input) (drop (2 + n) input) → said (servedOf store request) ≡ benchOf input
 unfolding benchOf
-bench-whole input store n e h q =
+bench-whole input store request n e h p q =
     let k : 2 + lengthOf input ≤ length input = omega (arith, e) in
-    let r : length (drop (2 + n) input) ≤ length input - (2 + n) = simp length-drop (omega arith) in
-    ap (λ (l : List ℕ). said (servedOf store l)) (take-all (length input - (2 + n)) (drop (2 + n) input) r)
-    ∙ ap (λ (l : List ℕ). said (servedOf l (drop (2 + n) input))) q
+    let r : length (drop (2 + n) input) ≤ length input = simp length-drop (omega arith) in
+    (λ i. said (servedOf (p i) ((q ∙ take-all (length input) (drop (2 + n) input) r) i)))
     ∙ ap (λ (m : ℕ). said (servedOf (take m (drop 2 input)) (drop (2 + m) input))) e
     ∙ rw (le-leb (2 + lengthOf input) (length input) k) refl

@@ -48,5 +48,7 @@ pub(crate) fn bench(input: &[u8], out: &mut [u8]) -> usize
     if input.len() < end {
         return put_number(out, Refusal::NotAStore.number());
     }
-    served(part(input, 2, n), &input[end..], out)
+    let store = part(input, 2, n);
+    let request = part(input, end, input.len());
+    served(store, request, out)
 }

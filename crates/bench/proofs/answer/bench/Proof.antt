@@ -27,20 +27,15 @@ same-length c = search needs
 
 returns : tie.Need-returns
 returns c =
-    let a = c .before .before .before .before .before .before .before .before .before .args in
-    c .before .before .put-number .ensures ∙ ap decimal (c .before .before .before .number .ensures) ∙ bench-cut (now (a .input)) _ (c .before .before .before .before .before .before .u16-at .ensures) (c .before .before .before .before .before .if1 .taken)
+    c .before .before .put-number .ensures
+    ∙ ap decimal (c .before .before .before .number .ensures)
+    ∙ bench-cut (now (c .before .before .before .before .before .before .before .before .before .args .input)) _ (c .before .before .before .before .before .before .u16-at .ensures) (c .before .before .before .before .before .if1 .taken)
 
 part-requires : tie.Need-part-requires
 part-requires c κs = search needs
 
-sub-served : tie.Need-sub-served
-sub-served c = search needs
-
-part-served-start : tie.Need-part-served-start
-part-served-start c = search needs
-
-part-served-end : tie.Need-part-served-end
-part-served-end c = search needs
+part-requires-2 : tie.Need-part-requires-2
+part-requires-2 c κs = search needs
 
 served-requires : tie.Need-served-requires
 served-requires c κs = search needs
@@ -50,8 +45,8 @@ same-length-2 c = search needs
 
 returns-2 : tie.Need-returns-2
 returns-2 c =
-    let a = c .before .before .before .before .before .before .before .before .before .before .args in
-    c .before .before .served .ensures ∙ bench-whole (now (a .input)) _ _ (c .before .before .before .before .before .before .before .u16-at .ensures) (c .before .before .before .before .before .before .if1 .left) (c .before .before .before .before .before .part .ensures)
+    c .before .before .served .ensures
+    ∙ bench-whole (now (c .before .before .before .before .before .before .before .before .before .before .args .input)) _ _ _ (c .before .before .before .before .before .before .before .u16-at .ensures) (c .before .before .before .before .before .before .if1 .left) (c .before .before .before .before .before .part .ensures) (c .before .before .before .before .part2 .ensures)
 
 pub bench-spec : {M : Type 1} → statement M
 bench-spec =
@@ -65,9 +60,7 @@ bench-spec =
     same-length
     returns
     part-requires
-    sub-served
-    part-served-start
-    part-served-end
+    part-requires-2
     served-requires
     same-length-2
     returns-2)
