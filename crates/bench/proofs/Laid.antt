@@ -21,15 +21,22 @@ two-laid d p x y h =
     ∙ ap (λ (l : List ℕ). l ++ (y ∷ [])) (take-suc-set d p x (omega arith))
     ∙ append-snoc (take p d) x (y ∷ [])
 
+-- the digits of a byte and of those behind it
+hex-cons : (bytes : List ℕ) (i : ℕ) → i < length bytes
+    → hex (drop i bytes) ≡ glyph (getD bytes i 0 / 16 % 16) ∷ glyph (getD bytes i 0 % 16) ∷ hex (drop (i + 1) bytes)
+unfolding hex
+hex-cons bytes i k = ap hex (drop-cons bytes i 0 k) ∙ rw (add-one i) refl
+
 -- a byte's two digits laid, and the digits of the bytes behind it to come
 pub hex-step : (d bytes : List ℕ) (p i : ℕ) → p + 1 < length d → i < length bytes
-    → take (p + 2) (set (set d p (glyph (getD bytes i 0 / 16 % 16))) (p + 1) (glyph (getD bytes i 0 % 16))) ++ hex (drop (i + 1) bytes) ≡ take p d ++ hex (drop i bytes)
-unfolding hex
+    → take (p + 2) (set (set d p (glyph (getD bytes i 0 / 16 % 16))) (p + 1) (glyph (getD bytes i 0 % 16))) ++ hex (drop (i + 1) bytes)
+    ≡ take p d ++ hex (drop i bytes)
 hex-step d bytes p i h k =
-    let b : ℕ = getD bytes i 0 in
-    ap (λ (l : List ℕ). l ++ hex (drop (i + 1) bytes)) (two-laid d p (glyph (b / 16 % 16)) (glyph (b % 16)) h)
-    ∙ append-assoc (take p d) (glyph (b / 16 % 16) ∷ glyph (b % 16) ∷ []) (hex (drop (i + 1) bytes))
-    ∙ ap (λ (l : List ℕ). take p d ++ l) (sym (ap hex (drop-cons bytes i 0 k) ∙ ap (λ (n : ℕ). (glyph (b / 16 % 16) ∷ glyph (b % 16) ∷ []) ++ hex (drop n bytes)) (sym (add-one i))))
+    let x : ℕ = glyph (getD bytes i 0 / 16 % 16) in
+    let y : ℕ = glyph (getD bytes i 0 % 16) in
+    ap (λ (l : List ℕ). l ++ hex (drop (i + 1) bytes)) (two-laid d p x y h)
+    ∙ append-assoc (take p d) (x ∷ y ∷ []) (hex (drop (i + 1) bytes))
+    ∙ ap (λ (l : List ℕ). take p d ++ l) (sym (hex-cons bytes i k))
 
 -- none is to come
 pub hex-done : (bytes : List ℕ) (i : ℕ) → length bytes ≤ i → hex (drop i bytes) ≡ []
@@ -46,7 +53,8 @@ decimal-one d n h k =
     let e : n % 16 ≡ n % 10 = omega arith in
     rw (lt-ltb n 10 k) (take-suc-set d 0 (glyph (n % 16)) h ∙ ap (λ (m : ℕ). glyph m ∷ []) e)
 
-pub decimal-two : (d : List ℕ) (n : ℕ) → 1 < length d → 10 ≤ n → take 2 (set (set d 0 (glyph (n / 10 % 10 % 16))) 1 (glyph (n % 10 % 16))) ≡ decimal n
+pub decimal-two : (d : List ℕ) (n : ℕ) → 1 < length d → 10 ≤ n
+    → take 2 (set (set d 0 (glyph (n / 10 % 10 % 16))) 1 (glyph (n % 10 % 16))) ≡ decimal n
 decimal-two d n h k =
     let e : n / 10 % 10 % 16 ≡ n / 10 % 10 = omega arith in
     let f : n % 10 % 16 ≡ n % 10 = omega arith in

@@ -1,7 +1,7 @@
 -- What is said of an answer, and of a store that is none, cut or whole (`specs/Bench.antt`). Assumes nothing.
-use mathlib.Core.Path.{_≡_, refl, sym, ap, _∙_}
+use mathlib.Core.Path.{_≡_, refl, ap, _∙_}
 use mathlib.Core.Bool.{Bool, true, false}
-use mathlib.Core.List.{List, [], _∷_, _++_}
+use mathlib.Core.List.{List, [], _∷_}
 use Prim.Native.Nat.{ℕ, _+_, _≤_, _<_}
 use native.Mathlib.Omega.{arith}
 use lib.ListN.{length, take, drop, length-drop}
@@ -16,8 +16,8 @@ use Rattle.store.specs.Contents.{clusterOf}
 use Rattle.store.specs.Layout.{isStore}
 use Rattle.store.proofs.Layouts.{store-is}
 use Rattle.reporting.specs.declared.table.ReportingTable.{ReportingTable}
-use Rattle.reporting.specs.Table.{Table, room, tableOf, holding}
-use Rattle.server.specs.Serve.{State, state, serve}
+use Rattle.reporting.specs.Table.{room, tableOf, holding}
+use Rattle.server.specs.Serve.{State, serve}
 use Rattle.bench.specs.Bench.{decimal, hex, said, servedOf, lengthOf, benchOf}
 
 -- ---- an answer

@@ -1,5 +1,6 @@
 -- Cut short, or the store and the request behind it. Assumes nothing.
 use mathlib.Core.Path.{ap, _∙_}
+use native.Mathlib.Omega.{arith}
 use denote.Ref.{now}
 use Rattle.bench.specs.Bench.{decimal}
 use Rattle.bench.proofs.Says.{bench-cut, bench-whole}
@@ -27,9 +28,10 @@ same-length c = search needs
 
 returns : tie.Need-returns
 returns c =
+    let read = c .before .before .before .before .before .before in
     c .before .before .put-number .ensures
     ∙ ap decimal (c .before .before .before .number .ensures)
-    ∙ bench-cut (now (c .before .before .before .before .before .before .before .before .before .args .input)) _ (c .before .before .before .before .before .before .u16-at .ensures) (c .before .before .before .before .before .if1 .taken)
+    ∙ bench-cut (now (read .before .before .before .args .input)) (read .u16-at .result) (read .u16-at .ensures) (omega arith)
 
 part-requires : tie.Need-part-requires
 part-requires c κs = search needs
@@ -45,8 +47,11 @@ same-length-2 c = search needs
 
 returns-2 : tie.Need-returns-2
 returns-2 c =
+    let read = c .before .before .before .before .before .before .before in
+    let parts = c .before .before .before .before in
     c .before .before .served .ensures
-    ∙ bench-whole (now (c .before .before .before .before .before .before .before .before .before .before .args .input)) _ _ _ (c .before .before .before .before .before .before .before .u16-at .ensures) (c .before .before .before .before .before .before .if1 .left) (c .before .before .before .before .before .part .ensures) (c .before .before .before .before .part2 .ensures)
+    ∙ bench-whole (now (read .before .before .before .args .input)) _ _ (read .u16-at .result) (read .u16-at .ensures) (omega arith)
+    (parts .before .part .ensures) (parts .part2 .ensures)
 
 pub bench-spec : {M : Type 1} → statement M
 bench-spec =

@@ -1,6 +1,7 @@
 -- Too long for a store, or served over the copy. Assumes nothing.
 use mathlib.Core.Path.{_≡_, sym, ap, _∙_}
-use Prim.Native.Nat.{_≤_}
+use mathlib.Core.List.{List}
+use Prim.Native.Nat.{ℕ}
 use native.Mathlib.Omega.{arith}
 use lib.ListN.{length, take}
 use denote.Ref.{now}
@@ -20,13 +21,18 @@ same-length : tie.Need-same-length
 same-length c = search needs
 
 -- the copy is the store
-abbrev store-copied : (c : tie.After-put-run) → take (length (now (c .before .before .before .before .before .before .before .args .store))) (c .put-run .last .0) ≡ now (c .before .before .before .before .before .before .before .args .store)
+abbrev lent : tie.After-put-run → List ℕ
+lent c = now (c .before .before .before .before .before .before .before .args .store)
+
+abbrev store-copied : (c : tie.After-put-run) → take (length (lent c)) (c .put-run .last .0) ≡ lent c
 store-copied c = copied _ _ _ _ (omega arith) (c .put-run .ensures)
 
 returns : tie.Need-returns
 returns c =
     let a = c .before .before .before .before .before .before .before .before .before .args in
-    c .before .before .put-number .ensures ∙ ap decimal (c .before .before .before .number .ensures) ∙ said-too-long (now (a .store)) (now (a .request)) (omega arith)
+    c .before .before .put-number .ensures
+    ∙ ap decimal (c .before .before .before .number .ensures)
+    ∙ said-too-long (now (a .store)) (now (a .request)) (omega arith)
 
 buffer-requires : tie.Need-buffer-requires
 buffer-requires c κs = search needs
@@ -66,10 +72,14 @@ same-length-2 c = search needs
 
 returns-2 : tie.Need-returns-2
 returns-2 c =
-    let a = c .before .before .before .before .before .before .before .before .before .before .before .before .before .before .before .before .before .before .before .before .args in
-    let h = c .before .before .before .before .before .before .before .handle-request in
+    let called = c .before .before .before .before .before .before .before in
+    let cluster = called .before .before in
+    let table = cluster .before in
+    let copy = table .before .before .before in
+    let a = copy .before .before .before .before .before .before .before .args in
     c .before .before .put-answer .ensures
-    ∙ said-served (now (a .store)) (c .before .before .before .before .before .before .before .before .before .before .before .before .before .put-run .last .0) (now (a .request)) _ (c .before .before .before .before .before .before .before .before .before .before .new .result) _ (h .result .answer) _ (store-copied (c .before .before .before .before .before .before .before .before .before .before .before .before .before)) (c .before .before .before .before .before .before .before .before .before .before .new .ensures) (c .before .before .before .before .before .before .before .before .before .cluster-of .ensures) (h .ensures)
+    ∙ said-served (now (a .store)) (copy .put-run .last .0) (now (a .request)) _ (table .new .result) _ (called .handle-request .result .answer) _
+    (store-copied copy) (table .new .ensures) (cluster .cluster-of .ensures) (called .handle-request .ensures)
 
 pub served-spec : {M : Type 1} → statement M
 served-spec =

@@ -1,9 +1,9 @@
 -- The number alone, or the number, a space and the reply. Assumes nothing.
 use mathlib.Core.Path.{_≡_, refl, sym, ap, _∙_}
 use mathlib.Core.List.{_++_}
-use Prim.Native.Nat.{ℕ, _≤_}
+use Prim.Native.Nat.{ℕ}
 use native.Mathlib.Omega.{arith}
-use lib.ListN.{length, take, length-set}
+use lib.ListN.{take, length-set}
 use denote.Ref.{now}
 use Rattle.frame.specs.Answer.{answerLength}
 use Rattle.bench.specs.Bench.{decimal, hex}
@@ -42,10 +42,14 @@ reply-len-requires c κs = search needs
 part-requires : tie.Need-part-requires
 part-requires c κs = search needs
 
+-- the part is the reply
+abbrev reply-is : (c : tie.After-part) → now (c .part .result) ≡ take (answerLength (c .before .before .before .before .before .before .before .args .answer)) (now (c .before .before .before .before .before .before .before .args .reply))
+reply-is c = c .part .ensures ∙ ap (λ (n : ℕ). take n (now (c .before .before .before .before .before .before .before .args .reply))) (c .before .reply-len .ensures)
+
 put-hex-requires : tie.Need-put-hex-requires
 put-hex-requires c κs =
     let a = c .before .before .before .before .before .before .before .args in
-    let k : length (now (c .part .result)) ≤ length (now (a .reply)) = no-longer (now (c .part .result)) (now (a .reply)) (c .before .reply-len .result) (c .part .ensures) in
+    let k = no-longer (now (c .part .result)) (now (a .reply)) (answerLength (a .answer)) (reply-is c) in
     simp length-set (omega (arith, k))
 
 same-length-2 : tie.Need-same-length-2
@@ -53,13 +57,11 @@ same-length-2 c = c .before .before .put-hex .kept .0 ∙ simp length-set refl
 
 returns-2 : tie.Need-returns-2
 returns-2 c =
-    let a = c .before .before .before .before .before .before .before .before .before .before .args in
-    let number = c .before .before .before .before .before .before .before .number .ensures in
-    let reply : now (c .before .before .before .part .result) ≡ take (answerLength (a .answer)) (now (a .reply)) =
-    c .before .before .before .part .ensures ∙ ap (λ (n : ℕ). take n (now (a .reply))) (c .before .before .before .before .reply-len .ensures) in
+    let test = c .before .before .before .before .before .before in
+    let a = test .before .before .before .before .args in
     c .before .before .put-hex .ensures
-    ∙ (λ i. two-laid (now (a .out)) 0 48 32 (omega arith) i ++ hex (reply i))
-    ∙ sym (said-reply (a .answer) (now (a .reply)) (sym number ∙ c .before .before .before .before .before .before .if1 .left))
+    ∙ (λ i. two-laid (now (a .out)) 0 48 32 (omega arith) i ++ hex (reply-is (c .before .before .before) i))
+    ∙ sym (said-reply (a .answer) (now (a .reply)) (sym (test .before .number .ensures) ∙ test .if1 .left))
 
 pub put-answer-spec : {M : Type 1} → statement M
 put-answer-spec =
