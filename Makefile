@@ -1,5 +1,5 @@
 # Two commands from a fresh machine with the Rattle kit on PATH.
-.PHONY: run replay test
+.PHONY: run replay lib test
 
 # Proves what the bench program stands on, builds it and runs it on document 01's frame 1 over store T.
 run:
@@ -10,6 +10,10 @@ run:
 replay:
 	rt check replay
 	.ci/x86-64 target/bin/replay < crates/replay/stdin
+
+# The archive and the header for C programs, in target/lib.
+lib:
+	@.ci/archive
 
 # The gate.
 test:
