@@ -12,7 +12,9 @@
  * what the earlier records did stays done, after HD_TOO_LONG what the records up to there did, and after HD_NOTHING_TO_SEND all that the
  * command did.
  *
- * No pointer may be null. Between the buffers and results of one call no byte may be shared.
+ * No pointer may be null, also not one that is lent with length 0; otherwise a length of 0 may come with any pointer, one past the end of an
+ * array too, since nothing is read or written there. Between the buffers and results of one call no byte may be shared: lent buffers do not
+ * overlap. A pointer to numbers wider than a byte is aligned for them, as C has it of any object.
  */
 #ifndef HINGEDRIFT_H
 #define HINGEDRIFT_H
@@ -53,6 +55,35 @@ extern "C" {
 #define HD_EMPTY_REPORT 11
 /* An attribute to report is missing or not reportable. */
 #define HD_NOT_REPORTABLE 12
+
+/* The commands of requests, and of replies and reports: the last byte of a frame's header. */
+#define HD_READ 0x00
+#define HD_READ_REPLY 0x01
+#define HD_WRITE 0x02
+#define HD_WRITE_UNDIVIDED 0x03
+/* It answers both writes. */
+#define HD_WRITE_REPLY 0x04
+#define HD_WRITE_NO_RESPONSE 0x05
+#define HD_CONFIGURE 0x06
+#define HD_CONFIGURE_REPLY 0x07
+#define HD_READ_CONFIGURATION 0x08
+#define HD_READ_CONFIGURATION_REPLY 0x09
+#define HD_REPORT 0x0a
+#define HD_DEFAULT_RESPONSE 0x0b
+#define HD_DISCOVER 0x0c
+#define HD_DISCOVER_REPLY 0x0d
+
+/* The statuses inside replies. They are no numbers that a call returns. */
+#define HD_STATUS_SUCCESS 0x00
+#define HD_STATUS_UNSUP_COMMAND 0x81
+#define HD_STATUS_UNSUPPORTED_ATTRIBUTE 0x86
+#define HD_STATUS_INVALID_VALUE 0x87
+#define HD_STATUS_READ_ONLY 0x88
+#define HD_STATUS_INSUFFICIENT_SPACE 0x89
+#define HD_STATUS_NOT_FOUND 0x8b
+#define HD_STATUS_UNREPORTABLE_ATTRIBUTE 0x8c
+#define HD_STATUS_INVALID_DATA_TYPE 0x8d
+#define HD_STATUS_UNSUPPORTED_CLUSTER 0xc3
 
 /* Makes the bytes an empty table, whatever they were. HD_NOT_A_TABLE where table_len is not HD_TABLE_BYTES. */
 uint8_t hd_table_new(uint8_t *table, size_t table_len);
