@@ -1,0 +1,278 @@
+/*
+ * An in-room box, small: a store with four attributes, requests on standard input and replies on standard output, and reports when they are
+ * due. It needs no heap: the store, the table and the buffers are arrays of a fixed size.
+ *
+ * One line of input is one thing that happens:
+ *   HEX             a request comes in; its reply is written in hex, a refusal as its number
+ *   tick N          N seconds pass
+ *   set ID VALUE    the hardware changes a value: ID in four hex digits, VALUE decimal
+ *   # ..            nothing, and so an empty line
+ * After each of the first three, every report that is due is written as 'report HEX'. With --read each reply and report is read back as the
+ * head-end does it, and the text stands behind it.
+ *
+ * A line that is none of these is named on standard error, changes nothing, and makes the exit status 1.
+ */
+#include <errno.h>
+#include <inttypes.h>
+#include <stdio.h>
+#include <stdlib.h>
+#include <string.h>
+
+#include "headend.h"
+#include "hex.h"
+#include "hingedrift.h"
+
+enum { CLUSTER = 0xfc21 };
+
+/* The longest frame, in and out, and the longest line: a frame as digits. */
+enum { FRAME_BYTES = 80, LINE_CHARS = 2 * FRAME_BYTES };
+
+/* Where in the store the values stand, behind the head and four entries. */
+enum { COUNTER_AT = 4 + 4 * 8, LEVEL_AT = COUNTER_AT + 4, TEMPERATURE_AT = LEVEL_AT + 1, NAME_AT = TEMPERATURE_AT + 2, NAME_ROOM = 17, STORE_BYTES = NAME_AT + NAME_ROOM };
+
+/* An entry's access. */
+enum { READ_ONLY = 0, WRITABLE = 1, REPORTABLE = 2 };
+
+/* A two-byte number, its low byte first as everywhere in the store. */
+#define TWO(n) (n) & 0xff, (n) >> 8
+
+/* The store: a head, an entry for each attribute in the order of their ids, then their values in the same order without gaps. */
+static uint8_t store[STORE_BYTES] = {
+    TWO(CLUSTER),            /* the cluster */
+    TWO(4),                  /* how many attributes */
+
+    TWO(COUNTER),            /* the rollback counter: id */
+    0x23,                    /*   type: Uint32 */
+    READ_ONLY | REPORTABLE,  /*   access */
+    TWO(COUNTER_AT),         /*   where its value stands */
+    TWO(4),                  /*   the value's room */
+
+    TWO(LEVEL),              /* the lamp's level: id */
+    0x20,                    /*   type: Uint8 */
+    WRITABLE | REPORTABLE,   /*   access */
+    TWO(LEVEL_AT),           /*   where its value stands */
+    TWO(1),                  /*   the value's room */
+
+    TWO(TEMPERATURE),        /* the temperature: id */
+    0x29,                    /*   type: Int16 */
+    READ_ONLY | REPORTABLE,  /*   access */
+    TWO(TEMPERATURE_AT),     /*   where its value stands */
+    TWO(2),                  /*   the value's room */
+
+    TWO(NAME),               /* the room's name: id */
+    CHARACTER_STRING,        /*   type */
+    WRITABLE,                /*   access */
+    TWO(NAME_AT),            /*   where its value stands */
+    TWO(NAME_ROOM),          /*   the value's room: a length and 16 characters */
+
+    0x00, 0x00, 0x00, 0x80,  /* the counter: 2147483648, its top bit set */
+    7,                       /* the level */
+    0x38, 0xff,              /* the temperature in hundredths: -200 */
+    3, '2', '1', '2',        /* the name: its length, its characters; the rest of its room is zero */
+};
+
+/* What the hardware changes by itself: where it stands, how wide it is, and what fits. */
+static const struct wire {
+    uint16_t id;
+    size_t at, width;
+    int64_t least, most;
+} wires[] = {
+    { COUNTER, COUNTER_AT, 4, 0, UINT32_MAX },
+    { LEVEL, LEVEL_AT, 1, 0, UINT8_MAX },
+    { TEMPERATURE, TEMPERATURE_AT, 2, INT16_MIN, INT16_MAX },
+};
+
+/* What can be reported. Only what the head-end configured is: an ask for another attribute is a no. */
+static const uint16_t reportable[] = { COUNTER, LEVEL, TEMPERATURE };
+
+static uint8_t table[HD_TABLE_BYTES];
+static uint32_t now;
+static uint8_t sequence;
+static int reads_back;
+
+/* Ends the program: a number that these buffers cannot get. */
+static void stop(const char *call, uint8_t number)
+{
+    fprintf(stderr, "box: %s: %u\n", call, number);
+    exit(2);
+}
+
+/* A frame that leaves the box, and with --read what the head-end makes of it. */
+static void send_frame(const uint8_t *frame, size_t n)
+{
+    uint8_t number;
+
+    hex_print(frame, n);
+    if (reads_back) {
+        printf("  ");
+        number = print_frame(frame, n);
+        if (number != HD_OK)
+            stop("the head-end cannot read the frame", number);
+    }
+    putchar('\n');
+}
+
+static void serve(const uint8_t *request, size_t n)
+{
+    uint8_t reply[FRAME_BYTES], number;
+    size_t used;
+
+    number = hd_handle_request(store, sizeof store, table, sizeof table, CLUSTER, 1, request, n, reply, sizeof reply, &used);
+    if (number == HD_NOT_A_STORE || number == HD_NOT_A_TABLE)
+        stop("the box's own bytes are refused", number);
+    if (number == HD_OK)
+        send_frame(reply, used);
+    else
+        printf("%u\n", number);
+}
+
+/* Reports an attribute if that is due. It is marked with the value that was sent, so that the next ask measures from there. */
+static void report_if_due(uint16_t id)
+{
+    uint8_t frame[FRAME_BYTES], due, number;
+    size_t used;
+    int64_t value;
+
+    if ((number = hd_number(store, sizeof store, id, &value)) != HD_OK)
+        stop("hd_number", number);
+    if ((number = hd_ask(table, sizeof table, CLUSTER, id, now, value, &due)) != HD_OK)
+        stop("hd_ask", number);
+    if (!due)
+        return;
+    if ((number = hd_report(store, sizeof store, sequence, &id, 1, frame, sizeof frame, &used)) != HD_OK)
+        stop("hd_report", number);
+    sequence++;
+    printf("report ");
+    send_frame(frame, used);
+    if ((number = hd_mark(table, sizeof table, CLUSTER, id, now, value)) != HD_OK)
+        stop("hd_mark", number);
+}
+
+/* A decimal number with nothing behind it. strtoll would pass over blanks and a plus sign in front. */
+static int decimal(const char *text, int64_t least, int64_t most, int64_t *number)
+{
+    const char *first = text[0] == '-' ? text + 1 : text;
+    char *end;
+    long long n;
+
+    if (first[0] < '0' || first[0] > '9')
+        return 0;
+    errno = 0;
+    n = strtoll(text, &end, 10);
+    if (errno != 0 || *end != '\0' || n < least || n > most)
+        return 0;
+    *number = n;
+    return 1;
+}
+
+/* 'tick N'. The clock ends with its 32 bits: it does not turn back to 0, since no time passes for the table then. */
+static int tick(const char *text)
+{
+    int64_t seconds;
+
+    if (!decimal(text, 0, UINT32_MAX - now, &seconds))
+        return 0;
+    now += (uint32_t)seconds;
+    return 1;
+}
+
+/* 'set ID VALUE', from behind the first blank. */
+static int set(const char *text)
+{
+    uint8_t id[2];
+    int64_t value;
+    size_t i, k;
+
+    if (strlen(text) < 6 || text[4] != ' ' || !hex_read(text, 4, id, sizeof id))
+        return 0;
+    for (i = 0; i < sizeof wires / sizeof wires[0]; i++) {
+        if (wires[i].id != 256 * id[0] + id[1])
+            continue;
+        if (!decimal(text + 5, wires[i].least, wires[i].most, &value))
+            return 0;
+        for (k = 0; k < wires[i].width; k++)
+            store[wires[i].at + k] = (uint8_t)((uint64_t)value >> (8 * k));
+        return 1;
+    }
+    return 0;
+}
+
+/* One line, of `n` characters, a 0 behind them. 0 where it is none. */
+static int happens(const char *line, size_t n)
+{
+    uint8_t request[FRAME_BYTES];
+    size_t i;
+
+    if (n == 0 || line[0] == '#')
+        return 1;
+    if (strlen(line) != n)
+        return 0; /* a 0 inside would hide what is behind it */
+    if (strncmp(line, "tick ", 5) == 0) {
+        if (!tick(line + 5))
+            return 0;
+    } else if (strncmp(line, "set ", 4) == 0) {
+        if (!set(line + 4))
+            return 0;
+    } else if (hex_read(line, n, request, sizeof request)) {
+        serve(request, n / 2);
+    } else {
+        return 0;
+    }
+    for (i = 0; i < sizeof reportable / sizeof reportable[0]; i++)
+        report_if_due(reportable[i]);
+    return 1;
+}
+
+/* What next_line found: a line, one that is longer than the buffer, or none. */
+enum found { LINE, LONG_LINE, NO_LINE };
+
+/*
+ * The next line, without its end. A line that does not fit is read to its end all the same: its rest is no line of its own, and its start is
+ * not the line that was sent.
+ */
+static enum found next_line(char line[LINE_CHARS + 1], size_t *n)
+{
+    enum found found = LINE;
+    int c = getchar();
+
+    *n = 0;
+    if (c == EOF)
+        return NO_LINE;
+    for (; c != '\n' && c != EOF; c = getchar()) {
+        if (*n < LINE_CHARS)
+            line[(*n)++] = (char)c;
+        else
+            found = LONG_LINE;
+    }
+    line[*n] = '\0';
+    return found;
+}
+
+int main(int argc, char **argv)
+{
+    char line[LINE_CHARS + 1];
+    size_t n;
+    enum found found;
+    unsigned long count = 0;
+    int status = 0;
+
+    reads_back = argc == 2 && strcmp(argv[1], "--read") == 0;
+    if (argc > 1 && !reads_back) {
+        fprintf(stderr, "usage: box [--read]\n");
+        return 2;
+    }
+    if (hd_table_new(table, sizeof table) != HD_OK)
+        stop("no new table", HD_NOT_A_TABLE);
+    while ((found = next_line(line, &n)) != NO_LINE) {
+        count++;
+        if (found == LONG_LINE || !happens(line, n)) {
+            fprintf(stderr, "line %lu: %s\n", count, found == LONG_LINE ? "too long" : "no request, tick or set");
+            status = 1;
+        }
+    }
+    if (ferror(stdin) || fflush(stdout) != 0 || ferror(stdout)) {
+        fprintf(stderr, "box: input or output failed\n");
+        status = 1;
+    }
+    return status;
+}
