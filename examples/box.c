@@ -28,7 +28,14 @@ enum { CLUSTER = 0xfc21 };
 enum { FRAME_BYTES = 80, LINE_CHARS = 2 * FRAME_BYTES };
 
 /* Where in the store the values stand, behind the head and four entries. */
-enum { COUNTER_AT = 4 + 4 * 8, LEVEL_AT = COUNTER_AT + 4, TEMPERATURE_AT = LEVEL_AT + 1, NAME_AT = TEMPERATURE_AT + 2, NAME_ROOM = 17, STORE_BYTES = NAME_AT + NAME_ROOM };
+enum {
+    COUNTER_AT = 4 + 4 * 8,
+    LEVEL_AT = COUNTER_AT + 4,
+    TEMPERATURE_AT = LEVEL_AT + 1,
+    NAME_AT = TEMPERATURE_AT + 2,
+    NAME_ROOM = 17,
+    STORE_BYTES = NAME_AT + NAME_ROOM
+};
 
 /* An entry's access. */
 enum { READ_ONLY = 0, WRITABLE = 1, REPORTABLE = 2 };

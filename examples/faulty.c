@@ -2,6 +2,7 @@
  * A program with faults, on demand: by it examples/run sees that a tool finds them. 'none' has no fault, 'bounds' reads behind an array,
  * 'heap' behind what was allocated.
  */
+#include <stdio.h>
 #include <stdlib.h>
 #include <string.h>
 
@@ -19,5 +20,6 @@ int main(int argc, char **argv)
     if (strcmp(argv[1], "heap") == 0)
         read = heap[behind];
     free((void *)heap);
-    return read * 0;
+    printf("%d\n", read); /* valgrind passes over a read that nothing needs */
+    return 0;
 }

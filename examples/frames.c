@@ -147,6 +147,25 @@ static void others(void)
     check(hd_report(store, store_len, 0x30, readable, 1, frame, MOST, &used) == HD_NOT_REPORTABLE, "a report", "not reportable");
 }
 
+/* Length 0, with pointers one past the end of an array: each is a refusal that the header names, or an empty list. */
+static void nothing_lent(void)
+{
+    uint16_t ids[1] = { 0 };
+    uint8_t store[MOST], table[HD_TABLE_BYTES], frame[MOST], reply[MOST], *end = reply + MOST;
+    size_t store_len = bytes(T, store), n = bytes("002a000000", frame), used = 77;
+    int64_t value = 77;
+
+    check(hd_table_new(table, sizeof table) == HD_OK && hd_table_new(end, 0) == HD_NOT_A_TABLE, "length 0", "a table");
+    check(hd_handle_request(end, 0, table, sizeof table, CLUSTER, 1, frame, n, reply, MOST, &used) == HD_NOT_A_STORE, "length 0", "the store");
+    check(hd_handle_request(store, store_len, end, 0, CLUSTER, 1, frame, n, reply, MOST, &used) == HD_NOT_A_TABLE, "length 0", "the table");
+    check(hd_handle_request(store, store_len, table, sizeof table, CLUSTER, 1, end, 0, reply, MOST, &used) == HD_HEADER_SHORT, "length 0", "the request");
+    check(hd_handle_request(store, store_len, table, sizeof table, CLUSTER, 1, frame, n, end, 0, &used) == HD_TOO_LONG, "length 0", "the reply");
+    check(hd_unsupported_cluster(ids + 1, 0, CLUSTER, 1, frame, n, reply, MOST, &used) == HD_OK && used == 5, "length 0", "the served clusters");
+    check(hd_report(store, store_len, 0, ids + 1, 0, reply, MOST, &used) == HD_EMPTY_REPORT && used == 0, "length 0", "the report's attributes");
+    check(hd_number(end, 0, 0, &value) == HD_NOT_A_STORE && value == 0, "length 0", "a number's store");
+    check(hd_read_check(end, 0, &used) == HD_HEADER_SHORT && used == 0, "length 0", "a reply to read");
+}
+
 int main(void)
 {
     commands();
@@ -154,6 +173,7 @@ int main(void)
     numbers();
     damages();
     others();
+    nothing_lent();
     printf("frames: %u checks, %u failed\n", checks, failures);
     return failures != 0;
 }
