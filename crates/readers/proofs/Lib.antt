@@ -3,7 +3,7 @@
 pub mod Spans  -- records that follow one another
 pub mod Lengths  -- every layout moves on
 pub mod Measured  -- how long a record is, test by test
-pub mod Lying  -- a span is as long as its layout says; one with a value reaches behind its type
+pub mod SpanSizes  -- a span is as long as its layout says; one with a value reaches behind its type
 pub mod Sweeping  -- a pass over the records
 pub mod Bodies  -- where they start
 pub mod Records  -- a pass over the spans gives the records
@@ -43,6 +43,7 @@ pub mod ServesBack  -- the promise, command by command
 pub mod Numbered  -- the number of a whole value is that of its bytes alone
 pub mod Through  -- the number that is read is the number in the store
 pub mod WorkedNumbers  -- over store T, by computing
+-- No second answer, and the bench replies.
 pub mod Views  -- what an answer says tells the answer
 pub mod Unique  -- no second answer fits
 pub mod Worked  -- the bench replies, read

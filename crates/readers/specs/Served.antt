@@ -41,6 +41,7 @@ use Rattle.readers.specs.Replies.{Discovery, discovery, Response, readRe
 
 -- ---- the records that a command made, behind a head of three bytes
 
+-- those that the reply holds; a walk that broke has no reply, and what is said of it here never counts
 abbrev pub kept : {R : Type 0} → Way (List R) → List R
 kept (through rs) = rs
 kept (broken rs) = rs

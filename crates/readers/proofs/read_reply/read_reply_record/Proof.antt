@@ -8,7 +8,7 @@ use Rattle.readers.specs.Replies.{spansOf}
 use Rattle.readers.specs.Values.{readHeld, readReplyHeld}
 use Rattle.readers.specs.Inside.{Stand}
 use Rattle.readers.proofs.Records.{stands, refused, past, there, none-of}
-use Rattle.readers.proofs.Lying.{span-long, read-behind}
+use Rattle.readers.proofs.SpanSizes.{span-long, read-behind}
 use Rattle.readers.proofs.Values.{status-is, read-failed, read-held}
 use borrow.Author.Needs.{needs}
 use Rattle.readers.proofs.read_reply.read_reply_record.Statement.{statement}

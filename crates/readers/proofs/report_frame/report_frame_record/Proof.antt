@@ -7,7 +7,7 @@ use Rattle.readers.specs.Replies.{spansOf}
 use Rattle.readers.specs.Values.{reportHeld, reportFrameHeld}
 use Rattle.readers.specs.Inside.{Stand}
 use Rattle.readers.proofs.Records.{stands, refused, past, there, none-of}
-use Rattle.readers.proofs.Lying.{span-long, report-behind}
+use Rattle.readers.proofs.SpanSizes.{span-long, report-behind}
 use Rattle.readers.proofs.Values.{report-held}
 use borrow.Author.Needs.{needs}
 use Rattle.readers.proofs.report_frame.report_frame_record.Statement.{statement}
