@@ -10,3 +10,5 @@ pub mod Unique
 pub mod Kept
 -- demand 3 of what the functions left
 pub mod Logged
+-- the number of a value, from the store to the head-end
+pub mod Through

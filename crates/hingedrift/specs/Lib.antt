@@ -3,4 +3,5 @@ pub mod Tables  -- the reporting table through its bytes
 pub mod Serving  -- the server, a number and a report frame
 pub mod Reading  -- the readers' functions
 pub mod Log  -- what the functions left, and demand 3 of it
+pub mod Numbers  -- the number of a value, from the store to the head-end
 pub mod Unique  -- no second answer fits a contract

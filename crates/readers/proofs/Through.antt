@@ -164,3 +164,34 @@ report-number form s sequence ids room short size reply e k id t v w i =
     let good = report-made-tells form s ids room store short (sent .0) (sent .1) in
     let y = in-reply (λ (x : Span). reportedRecord (cutOut f x)) (reportHeld f) (ReportTells form s) (spansOf ReportAttributes Report f) _ (sent .2) good k _ i in
     report-tells form s f (y .0) id t v w (y .1) (y .2)
+
+-- ---- of a read reply, a record has a value only where it is one
+
+module _ {B : Type 0} (h : Span → B) where
+  from-list : (l : List Span) (k : ℕ) (y : B) → getElem? (map h l) k ≡ some y → (x : Span) × (h x ≡ y)
+  from-list [] k y e = let z : _≡_ {A = ℕ} 0 1 = cc in absurd (omega arith)
+  from-list (x ∷ l) zero y e = (x, cc)
+  from-list (x ∷ l) (suc k) y e = from-list l k y e
+
+  from-reply : (spans : Read (List Span)) (k : ℕ) (y : B) → kth k (mapped (map h) spans) ≡ read (some y) → (x : Span) × (h x ≡ y)
+  from-reply (read l) k y e = let there : getElem? (map h l) k ≡ some y = cc in from-list l k y there
+  from-reply (unreadable why) k y e = let z : _≡_ {A = ℕ} 0 1 = cc in absurd (omega arith)
+
+-- a record with these parts, if any
+abbrev IsValue : ReadRecord → Type 0
+IsValue r = (id : ℕ) × (t : ℕ) × (v : List ℕ) × (r ≡ value id t v)
+
+pub read-held : (f : List ℕ) (k : ℕ) (r : ReadRecord) (w : ValueIn) → kth k (readReplyHeld f) ≡ read (some (held r (some w))) → IsValue r
+unfolding readReplyHeld readRecord
+read-held f k r w e =
+    let y = from-reply (readHeld f) (spansOf ReadAttributesResponse ReadStatus f) k _ e in
+    go (y .0) (eqb (getD (cutOut f (y .0)) 2 0) 0) (y .1)
+  where
+    go : (x : Span) (c : Bool)
+        → held (cond c (value (unsignedAt (cutOut f x) 0 2) (getD (cutOut f x) 3 0) (drop 4 (cutOut f x))) (failure (unsignedAt (cutOut f x) 0 2) (getD (cutOut f x) 2 0))) (cond c (some (valueIn f x 3)) none) ≡ held r (some w)
+        → IsValue r
+    go x true e = (unsignedAt (cutOut f x) 0 2, getD (cutOut f x) 3 0, drop 4 (cutOut f x), sym (ap (λ (y : Held ReadRecord). y .is) e))
+    go x false e =
+        let o : none ≡ some w = ap (λ (y : Held ReadRecord). y .value) e in
+        let z : _≡_ {A = ℕ} 0 1 = cc in
+        absurd (omega arith)

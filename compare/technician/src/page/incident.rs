@@ -21,7 +21,8 @@ pub fn section(results: &Results) -> Vec<Block> {
             "The bytes in the replies are right in both servers. What went wrong is the number that was made of them: the glue code read every integer \
              as signed. From `7fffffff` to `80000000` its number fell from 2147483647 to -2147483648, so that the older image passed for the newer one. \
              The glue code was not at hand; its column is what reading the same four bytes as signed gives. `hd_read_record` at the head-end and `hd_number` in \
-             the box give the number by the type of the value, each proved equal to one definition: a signed type keeps its sign, and any other of up to 7 bytes has none. (An unsigned number of 8 bytes keeps its bits in a \
+             the box give the number by the type of the value: a signed type keeps its sign, and any other of up to 7 bytes has none. That both give the same, for every store \
+             and every read that is answered, is proved (`HdReadNumber`). (An unsigned number of 8 bytes keeps its bits in a \
              signed number of 64 bits, as document 01 says: from `8000000000000000` on it reads as negative.)",
         ),
     ]
