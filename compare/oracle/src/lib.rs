@@ -16,7 +16,7 @@ use zigbee_core::zdo::ClusterRequest;
 
 use lists::Lists;
 pub use others::{report, unsupported_cluster};
-use server::Server;
+pub use server::Server;
 
 /// A frame that comes in.
 #[derive(Debug, Clone, Copy)]

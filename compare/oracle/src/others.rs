@@ -1,6 +1,6 @@
 //! The Rust's responder for unserved clusters, and its report frames.
 
-use reading::store::{find, value};
+use reading::store::find;
 use zigbee_cluster_library::reporting::AttributeReportBuilder;
 use zigbee_cluster_library::server::UnsupportedClusterResponder;
 use zigbee_cluster_library::types::codec::ZclKind;
@@ -23,16 +23,16 @@ pub fn unsupported_cluster(served: &[u16], request: &Request<'_>) -> Option<Vec<
     Some(buffer)
 }
 
-/// The frame that the Rust's builder makes of these attributes. One that is
-/// missing or not reportable cannot be given to it: its types forbid it.
-pub fn report(store: &[u8], sequence: u8, ids: &[u16], room: usize) -> Option<Vec<u8>> {
-    let mut buffer = vec![0; room];
-    let mut builder = AttributeReportBuilder::new(&mut buffer, sequence).ok()?;
+/// The length of the frame that the Rust's builder makes of these attributes,
+/// at the start of `frame`. One that is missing or not reportable cannot be
+/// given to it: its types forbid it.
+pub fn report(store: &[u8], sequence: u8, ids: &[u16], frame: &mut [u8]) -> Option<usize> {
+    let mut builder = AttributeReportBuilder::new(frame, sequence).ok()?;
     for &id in ids {
         let attribute = find(store, id).filter(|attribute| attribute.access & 2 != 0)?;
-        builder = pushed(builder, id, attribute.type_code, value(store, id)?)?;
+        builder = pushed(builder, id, attribute.type_code, attribute.value(store)?)?;
     }
-    Some(builder.finish().ok()?.asdu().to_vec())
+    Some(builder.finish().ok()?.asdu().len())
 }
 
 /// A stored value of type `CODE`, which is sent as its bytes.

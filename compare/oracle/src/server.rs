@@ -1,14 +1,18 @@
-//! A cluster served from a store.
+//! A cluster served from a store. Its calls allocate nothing.
 
-use std::cell::RefCell;
+use std::cell::{Ref, RefCell};
 
-use reading::store::{check, cluster_of, find, value, write};
+use reading::store::{check, cluster_of, find};
+use reading::table::Entry;
 use reading::{Extent, extent};
 use zigbee_cluster_library::frame::Status;
 use zigbee_cluster_library::reporting::{AttributeReporting, ReportingTable};
 use zigbee_cluster_library::server::ClusterServer;
 use zigbee_cluster_library::types::descriptors::{AttrInfo, Cluster};
 use zigbee_cluster_library::types::ids::{AttributeId, ClusterId, TypeId};
+
+use crate::lists::Lists;
+use crate::tables;
 
 pub struct Server {
     /// The Rust lends the server unchangeably, also for a write.
@@ -18,7 +22,11 @@ pub struct Server {
 }
 
 impl Server {
-    pub fn new(store: &[u8], attributes: &'static [AttrInfo], table: ReportingTable<16>) -> Self {
+    pub(crate) fn new(
+        store: &[u8],
+        attributes: &'static [AttrInfo],
+        table: ReportingTable<16>,
+    ) -> Self {
         Self {
             store: RefCell::new(store.to_vec()),
             attributes,
@@ -26,7 +34,20 @@ impl Server {
         }
     }
 
-    pub fn into_parts(self) -> (Vec<u8>, ReportingTable<16>) {
+    /// To be asked many times: its attribute list lives as long as the program.
+    pub fn held(store: &[u8], table: &[Entry]) -> Self {
+        Self::new(store, Lists::default().of(store), tables::of(table))
+    }
+
+    pub fn store(&self) -> Ref<'_, Vec<u8>> {
+        self.store.borrow()
+    }
+
+    pub fn table(&self) -> &ReportingTable<16> {
+        &self.table
+    }
+
+    pub(crate) fn into_parts(self) -> (Vec<u8>, ReportingTable<16>) {
         (self.store.into_inner(), self.table)
     }
 }
@@ -43,16 +64,18 @@ impl ClusterServer for Server {
 
     fn encode_value(&self, id: AttributeId, out: &mut [u8], offset: &mut usize) -> Status {
         let store = self.store.borrow();
-        let (Some(attribute), Some(value)) = (find(&store, id.0), value(&store, id.0)) else {
+        let attribute = find(&store, id.0);
+        let value = attribute.and_then(|attribute| attribute.value(&store));
+        let (Some(attribute), Some(value)) = (attribute, value) else {
             return Status::UnsupportedAttribute;
         };
-        let record = [&[attribute.type_code], value].concat();
-        let end = *offset + record.len();
+        let end = *offset + 1 + value.len();
         // all of it or nothing
-        let Some(place) = out.get_mut(*offset..end) else {
+        let Some([type_code, place @ ..]) = out.get_mut(*offset..end) else {
             return Status::InsufficientSpace;
         };
-        place.copy_from_slice(&record);
+        *type_code = attribute.type_code;
+        place.copy_from_slice(value);
         *offset = end;
         Status::Success
     }
@@ -66,14 +89,15 @@ impl ClusterServer for Server {
     ) -> Status {
         let mut store = self.store.borrow_mut();
         let code = type_id.as_u8();
-        if let Err(status) = check(&store, id.0, code) {
-            return status_of(status);
-        }
+        let attribute = match check(&store, id.0, code) {
+            Ok(attribute) => attribute,
+            Err(status) => return status_of(status),
+        };
         let Extent::End(end) = extent(code, bytes, *offset) else {
             // the Rust finds this out itself as it steps over the value
             return Status::InvalidValue;
         };
-        let status = write(&mut store, id.0, code, &bytes[*offset..end]);
+        let status = attribute.set(&mut store, &bytes[*offset..end]);
         if status == 0x00 {
             *offset = end;
         }

@@ -33,6 +33,26 @@ impl Attribute {
         bytes.get(self.offset..self.offset + self.room)
     }
 
+    /// The value, as it is sent; `None` where it does not end in the body.
+    pub fn value<'a>(&self, bytes: &'a [u8]) -> Option<&'a [u8]> {
+        let (sent, _) = parted(self.type_code, self.body(bytes)?)?;
+        Some(sent)
+    }
+
+    /// Puts one whole value of the attribute's type in place of its own, and
+    /// gives the status.
+    pub fn set(&self, bytes: &mut [u8], value: &[u8]) -> u8 {
+        // a string's length byte stands before it; behind ff there is nothing
+        if self.room < value.len() {
+            return 0x87;
+        }
+        let body = &mut bytes[self.offset..self.offset + self.room];
+        let (stored, unused) = body.split_at_mut(value.len());
+        stored.copy_from_slice(value);
+        unused.fill(0);
+        0x00
+    }
+
     /// A type that a store may hold, and the room that it asks for.
     fn has_its_room(&self) -> bool {
         match kind(self.type_code) {
@@ -52,17 +72,21 @@ pub fn cluster_of(bytes: &[u8]) -> Option<u16> {
     Some(short(bytes.get(0..2)?))
 }
 
-/// The entries of the contents; `None` where the bytes end before they do.
-pub fn attributes(bytes: &[u8]) -> Option<Vec<Attribute>> {
+/// The entries of the contents, one after the other; `None` where the bytes
+/// end before they do.
+fn entries(bytes: &[u8]) -> Option<impl Iterator<Item = Attribute>> {
     let count = usize::from(short(bytes.get(2..4)?));
     let contents = bytes.get(4..4 + 8 * count)?;
-    Some(contents.chunks(8).map(Attribute::new).collect())
+    Some(contents.chunks_exact(8).map(Attribute::new))
+}
+
+/// The entries of the contents; `None` where the bytes end before they do.
+pub fn attributes(bytes: &[u8]) -> Option<Vec<Attribute>> {
+    Some(entries(bytes)?.collect())
 }
 
 pub fn find(bytes: &[u8], id: u16) -> Option<Attribute> {
-    attributes(bytes)?
-        .into_iter()
-        .find(|attribute| attribute.id == id)
+    entries(bytes)?.find(|attribute| attribute.id == id)
 }
 
 /// A body parted into the value that is sent and the unused bytes behind it.
@@ -111,9 +135,7 @@ pub fn is_store(bytes: &[u8]) -> bool {
 
 /// The value of an attribute, as it is sent.
 pub fn value(bytes: &[u8], id: u16) -> Option<&[u8]> {
-    let attribute = find(bytes, id)?;
-    let (sent, _) = parted(attribute.type_code, attribute.body(bytes)?)?;
-    Some(sent)
+    find(bytes, id)?.value(bytes)
 }
 
 /// The number of the value of an attribute, or the number of the refusal: 7
@@ -142,17 +164,8 @@ pub fn check(bytes: &[u8], id: u16, type_code: u8) -> Result<Attribute, u8> {
 /// Writes one whole value of type `type_code` to an attribute of a store, and
 /// gives the status.
 pub fn write(bytes: &mut [u8], id: u16, type_code: u8, value: &[u8]) -> u8 {
-    let attribute = match check(bytes, id, type_code) {
-        Ok(attribute) => attribute,
-        Err(status) => return status,
-    };
-    // a string's length byte stands before it; behind ff there is nothing
-    if attribute.room < value.len() {
-        return 0x87;
+    match check(bytes, id, type_code) {
+        Ok(attribute) => attribute.set(bytes, value),
+        Err(status) => status,
     }
-    let body = &mut bytes[attribute.offset..attribute.offset + attribute.room];
-    let (stored, unused) = body.split_at_mut(value.len());
-    stored.copy_from_slice(value);
-    unused.fill(0);
-    0x00
 }

@@ -11,8 +11,10 @@ pub fn one(random: &mut Random, kinds: &mut Kinds) -> Result<Held, String> {
     let named = |trouble: String| format!("{trouble}, {list}");
     // bytes that are no store have no counterpart in the Rust
     if answer.number != 7 {
-        let rust = oracle::report(&list.store, list.sequence, &list.ids, list.room);
-        if rust != (answer.number == 0).then(|| answer.reply.clone()) {
+        let mut frame = vec![0; list.room];
+        let used = oracle::report(&list.store, list.sequence, &list.ids, &mut frame);
+        let rust = used.map(|used| &frame[..used]);
+        if rust != (answer.number == 0).then_some(&answer.reply[..]) {
             return Err(named(format!("document 01 {answer:?}, the Rust {rust:?}")));
         }
     }
