@@ -1,0 +1,82 @@
+//! What compare/speed/run found out and this program cannot: a line each.
+
+use std::collections::HashMap;
+
+#[derive(Debug, Default, PartialEq, Eq)]
+pub struct Facts {
+    /// The kit that made the archive, as it names itself.
+    pub kit: Option<String>,
+    /// The bytes of the archive's code.
+    pub text: Option<u64>,
+    /// Why there are no counts.
+    pub uncounted: Option<String>,
+    /// Instructions a call, by row and side.
+    counts: HashMap<(String, String), u64>,
+}
+
+impl Facts {
+    pub fn parsed(file: &str) -> Result<Self, String> {
+        let mut facts = Self::default();
+        for line in file.lines() {
+            facts
+                .take(line)
+                .ok_or_else(|| format!("not understood: `{line}`"))?;
+        }
+        Ok(facts)
+    }
+
+    fn take(&mut self, line: &str) -> Option<()> {
+        let (word, rest) = line.split_once(' ')?;
+        match word {
+            "kit" => self.kit = Some(rest.to_owned()),
+            "text" => self.text = Some(rest.parse().ok()?),
+            "uncounted" => self.uncounted = Some(rest.to_owned()),
+            "count" => {
+                let [row, side, many] = rest.split(' ').collect::<Vec<&str>>()[..] else {
+                    return None;
+                };
+                let place = (row.to_owned(), side.to_owned());
+                self.counts.insert(place, many.parse().ok()?);
+            }
+            _ => return None,
+        }
+        Some(())
+    }
+
+    /// Of the row of this word, on the old side and on the new one.
+    pub fn counts(&self, row: &str) -> Option<[u64; 2]> {
+        let of = |side: &str| self.counts.get(&(row.to_owned(), side.to_owned())).copied();
+        Some([of("old")?, of("new")?])
+    }
+}
+
+#[cfg(test)]
+mod tests {
+    use super::*;
+
+    #[test]
+    fn what_is_understood() {
+        let file = "kit a kit 5\ntext 77\ncount 4/read-1 old 10\ncount 4/read-1 new 25\ncount 64/read-1 old 3\n";
+        let facts = Facts::parsed(file).expect("it is understood");
+        assert_eq!(facts.kit.as_deref(), Some("a kit 5"));
+        assert_eq!((facts.text, facts.uncounted.as_deref()), (Some(77), None));
+        assert_eq!(facts.counts("4/read-1"), Some([10, 25]));
+        assert_eq!(facts.counts("64/read-1"), None, "one side alone");
+    }
+
+    #[test]
+    fn what_is_not() {
+        for line in [
+            "kit",
+            "text x",
+            "count 4/read-1 old",
+            "count a old 1 2",
+            "speed 1",
+        ] {
+            assert_eq!(
+                Facts::parsed(line),
+                Err(format!("not understood: `{line}`"))
+            );
+        }
+    }
+}

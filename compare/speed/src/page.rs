@@ -1,0 +1,178 @@
+//! The results: a table for the terminal, and a page in simple Markdown.
+
+use crate::calls::ROOM;
+use crate::facts::Facts;
+use crate::machine::processor;
+use crate::measured::Measured;
+use crate::row::Over;
+
+/// How the two were made.
+pub struct Built {
+    /// The compiler of the Rust.
+    pub compiler: &'static str,
+    /// The archive's length.
+    pub archive: u64,
+    pub pairs: usize,
+}
+
+/// In plain text, by what the calls go over.
+pub fn table(measured: &[Measured]) -> String {
+    let sections = Over::ALL.map(|over| {
+        let rows = cells(measured, over).map(|cells| text_line(&cells));
+        let head = text_line(&Measured::HEAD.map(str::to_owned));
+        format!("{}\n{head}{}", over.title(), rows.collect::<String>())
+    });
+    sections.join("\n")
+}
+
+fn cells(measured: &[Measured], over: Over) -> impl Iterator<Item = [String; 7]> {
+    let rows = measured.iter().filter(move |row| row.over == over);
+    rows.map(Measured::cells)
+}
+
+fn text_line(cells: &[String; 7]) -> String {
+    let [name, old, new, ratio, old_count, new_count, count_ratio] = cells;
+    format!(
+        "  {name:22}{old:>9}{new:>9}  {ratio:>24}{old_count:>19}{new_count:>19}{count_ratio:>13}\n"
+    )
+}
+
+pub fn page(measured: &[Measured], facts: &Facts, built: &Built) -> String {
+    let tables = Over::ALL.map(|over| markdown_table(measured, over));
+    [
+        "# Speed\n\n".to_owned(),
+        what_was_run(facts, built),
+        what_a_call_does(),
+        what_the_rows_are(),
+        tables.concat(),
+        "The same command makes this page again:\n\n    make speed\n".to_owned(),
+    ]
+    .concat()
+}
+
+fn what_was_run(facts: &Facts, built: &Built) -> String {
+    let kit = facts.kit.as_deref().unwrap_or("which was not asked");
+    let code = match facts.text {
+        Some(text) => {
+            format!("{text} bytes are code and constants (`size`, text of all its members)")
+        }
+        None => "how many are code was not asked".to_owned(),
+    };
+    let counts = match &facts.uncounted {
+        Some(why) => format!("Instructions were not counted: {why}."),
+        None => "Instructions a call were counted by valgrind's callgrind: of many calls less those of few, by their number.".to_owned(),
+    };
+    let Built {
+        compiler,
+        archive,
+        pairs,
+    } = built;
+    format!(
+        "The old server and the new one, timed by one program on the same frames.
+
+- Old: zigbee-rs' `ClusterServer::handle_request`, `AttributeReportBuilder` and `ReportingTable<16>`, over document 01's store, as the comparison runs them. Compiled by {compiler} at full optimization: no overflow checks, link-time optimization, one unit. A call allocates nothing. Its lock and its list are stand-ins over the standard library's.
+- New: `hd_handle_request`, `hd_report`, `hd_ask` and `hd_mark` of the proved archive libhingedrift.a, as a box calls them. Made by the kit, {kit}. The archive has {archive} bytes, of which {code}.
+- Processor: {processor}. One thread.
+- Both are given the same frames from the same memory, in blocks of about a millisecond, old and new in turn, {pairs} pairs a row. A time is the median over the blocks; a ratio is the median over the pairs, with their quartiles.
+- Before a row is timed both make each of its calls, and replies, stores and tables are compared: they are the same.
+- {counts}
+
+",
+        processor = processor(),
+    )
+}
+
+fn what_a_call_does() -> String {
+    format!(
+        "The two do not do the same work:
+
+- The caller clears no buffer. The new one clears the reply buffer, here {ROOM} bytes, in every call, as document 01 has it; the Rust does not.
+- The new one checks the whole layout of the store and of the table's bytes in every call; the Rust checks neither.
+
+"
+    )
+}
+
+fn what_the_rows_are() -> String {
+    "The calls:
+
+- Read 1 reads the attribute in the middle of the store. The rows of 10 name attributes that are spread over the store of 64; in the store of 4 the same ones come again, all 4 for a read, 3 for a write, 2 for the others.
+- Writes and configures repeat the same values, so that every call meets the same store and table.
+- Refused takes in turn a frame for another cluster, one that is too short for a header, one of a reserved type, one with a cut record, and one with a reply buffer of 2 bytes.
+- Ask and mark go through all 16 attributes of the table in turn; for the asks every second one was marked before.
+
+"
+    .to_owned()
+}
+
+fn markdown_table(measured: &[Measured], over: Over) -> String {
+    let head = Measured::HEAD.join(" | ");
+    let rows: String = cells(measured, over)
+        .map(|cells| format!("| {} |\n", cells.join(" | ")))
+        .collect();
+    format!(
+        "{}:\n\n| {head} |\n|---|---:|---:|---:|---:|---:|---:|\n{rows}\n",
+        over.title()
+    )
+}
+
+#[cfg(test)]
+mod tests {
+    use super::*;
+    use crate::rows::rows;
+    use crate::timing::Timed;
+
+    fn measured() -> Vec<Measured> {
+        let timed = Timed {
+            old: vec![100.0],
+            new: vec![150.0],
+        };
+        let rows = rows();
+        rows.iter()
+            .map(|row| Measured::of(row, &timed, None))
+            .collect()
+    }
+
+    fn built() -> Built {
+        Built {
+            compiler: "rustc 1",
+            archive: 4711,
+            pairs: 3,
+        }
+    }
+
+    #[test]
+    fn every_row_is_in_its_table() {
+        let page = page(&measured(), &Facts::default(), &built());
+        let rows = page.matches(" | 100 | 150 | 1.50 (1.50 to 1.50) | not counted |");
+        assert_eq!(rows.count(), 18);
+        for over in Over::ALL {
+            let (_, behind) = page.split_once(over.title()).expect("it has a table");
+            let table = behind.split("\n\n").nth(1).expect("it has a table");
+            let many = if over == Over::Table { 2 } else { 8 };
+            assert_eq!(table.lines().count(), 2 + many);
+        }
+    }
+
+    #[test]
+    fn what_is_known_is_told() {
+        let facts = Facts::parsed("kit a kit\ntext 99\nuncounted no valgrind here\n");
+        let page = page(&measured(), &facts.expect("it is understood"), &built());
+        for words in [
+            "by rustc 1 at",
+            "kit, a kit.",
+            "4711 bytes, of which 99 bytes are code",
+            "3 pairs",
+            "not counted: no valgrind here.",
+        ] {
+            assert!(page.contains(words), "{words}");
+        }
+    }
+
+    #[test]
+    fn the_terminal_has_a_line_a_row() {
+        let table = table(&measured());
+        assert_eq!(table.matches("1.50 (1.50 to 1.50)").count(), 18);
+        assert_eq!(table.lines().count(), 18 + 3 * 2 + 2);
+    }
+}
