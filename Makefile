@@ -23,3 +23,8 @@ test:
 .PHONY: compare
 compare:
 	compare/run compare/sample.txt
+
+# How long a call takes, the old server's and ours; writes results/speed.md.
+.PHONY: speed
+speed:
+	compare/speed/run

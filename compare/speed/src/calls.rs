@@ -78,20 +78,27 @@ impl Calls {
     /// once, not at every call.
     pub fn many(&self, many: usize, side: &mut impl Side, buffer: &mut [u8; ROOM]) {
         match self {
-            Self::Requests(each) => turns(each, many, |request| {
+            Self::Requests(each) => turns(each, many, side, |side, request| {
                 side.request(request, black_box(&mut buffer[..request.room]))
             }),
-            Self::Reports(each) => turns(each, many, |report| {
+            Self::Reports(each) => turns(each, many, side, |side, report| {
                 side.report(report, black_box(&mut buffer[..]))
             }),
-            Self::Asks(each) => turns(each, many, |ask| side.ask(ask)),
-            Self::Marks(each) => turns(each, many, |mark| side.mark(mark)),
+            Self::Asks(each) => turns(each, many, side, |side, ask| side.ask(ask)),
+            Self::Marks(each) => turns(each, many, side, |side, mark| side.mark(mark)),
         }
     }
 }
 
-fn turns<T>(each: &[T], many: usize, mut call: impl FnMut(&T) -> Said) {
+/// The compiler is to know nothing of a call's inputs, nor that its answer is
+/// not looked at.
+fn turns<T, S: Side>(
+    each: &[T],
+    many: usize,
+    side: &mut S,
+    mut call: impl FnMut(&mut S, &T) -> Said,
+) {
     for one in each.iter().cycle().take(many) {
-        black_box(call(black_box(one)));
+        black_box(call(black_box(&mut *side), black_box(one)));
     }
 }

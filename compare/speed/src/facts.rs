@@ -9,7 +9,7 @@ pub struct Facts {
     /// The bytes of the archive's code.
     pub text: Option<u64>,
     /// Why there are no counts.
-    pub uncounted: Option<String>,
+    uncounted: Option<String>,
     /// Instructions a call, by row and side.
     counts: HashMap<(String, String), u64>,
 }
@@ -43,6 +43,12 @@ impl Facts {
         Some(())
     }
 
+    /// Why nothing was counted, where nothing was.
+    pub fn uncounted(&self) -> Option<&str> {
+        let why = self.uncounted.as_deref().unwrap_or("nobody did");
+        self.counts.is_empty().then_some(why)
+    }
+
     /// Of the row of this word, on the old side and on the new one.
     pub fn counts(&self, row: &str) -> Option<[u64; 2]> {
         let of = |side: &str| self.counts.get(&(row.to_owned(), side.to_owned())).copied();
@@ -59,9 +65,10 @@ mod tests {
         let file = "kit a kit 5\ntext 77\ncount 4/read-1 old 10\ncount 4/read-1 new 25\ncount 64/read-1 old 3\n";
         let facts = Facts::parsed(file).expect("it is understood");
         assert_eq!(facts.kit.as_deref(), Some("a kit 5"));
-        assert_eq!((facts.text, facts.uncounted.as_deref()), (Some(77), None));
+        assert_eq!((facts.text, facts.uncounted()), (Some(77), None));
         assert_eq!(facts.counts("4/read-1"), Some([10, 25]));
         assert_eq!(facts.counts("64/read-1"), None, "one side alone");
+        assert_eq!(Facts::default().uncounted(), Some("nobody did"));
     }
 
     #[test]

@@ -51,14 +51,14 @@ pub fn page(measured: &[Measured], facts: &Facts, built: &Built) -> String {
 }
 
 fn what_was_run(facts: &Facts, built: &Built) -> String {
-    let kit = facts.kit.as_deref().unwrap_or("which was not asked");
+    let kit = facts.kit.as_deref().unwrap_or("which it does not name");
     let code = match facts.text {
         Some(text) => {
-            format!("{text} bytes are code and constants (`size`, text of all its members)")
+            format!("its code and constants have {text} (`size`, text of all its members)")
         }
-        None => "how many are code was not asked".to_owned(),
+        None => "how many are code was not looked at".to_owned(),
     };
-    let counts = match &facts.uncounted {
+    let counts = match facts.uncounted() {
         Some(why) => format!("Instructions were not counted: {why}."),
         None => "Instructions a call were counted by valgrind's callgrind: of many calls less those of few, by their number.".to_owned(),
     };
@@ -71,9 +71,9 @@ fn what_was_run(facts: &Facts, built: &Built) -> String {
         "The old server and the new one, timed by one program on the same frames.
 
 - Old: zigbee-rs' `ClusterServer::handle_request`, `AttributeReportBuilder` and `ReportingTable<16>`, over document 01's store, as the comparison runs them. Compiled by {compiler} at full optimization: no overflow checks, link-time optimization, one unit. A call allocates nothing. Its lock and its list are stand-ins over the standard library's.
-- New: `hd_handle_request`, `hd_report`, `hd_ask` and `hd_mark` of the proved archive libhingedrift.a, as a box calls them. Made by the kit, {kit}. The archive has {archive} bytes, of which {code}.
+- New: `hd_handle_request`, `hd_report`, `hd_ask` and `hd_mark` of the proved archive libhingedrift.a, as a box calls them. Made by the kit, {kit}. The archive has {archive} bytes; {code}.
 - Processor: {processor}. One thread.
-- Both are given the same frames from the same memory, in blocks of about a millisecond, old and new in turn, {pairs} pairs a row. A time is the median over the blocks; a ratio is the median over the pairs, with their quartiles.
+- Both are given the same frames from the same memory, in blocks of a millisecond or more, old and new in turn, {pairs} pairs a row. A time is the median over the blocks; a ratio is the median over the pairs, with their quartiles.
 - Before a row is timed both make each of its calls, and replies, stores and tables are compared: they are the same.
 - {counts}
 
@@ -161,7 +161,7 @@ mod tests {
         for words in [
             "by rustc 1 at",
             "kit, a kit.",
-            "4711 bytes, of which 99 bytes are code",
+            "4711 bytes; its code and constants have 99 (",
             "3 pairs",
             "not counted: no valgrind here.",
         ] {
