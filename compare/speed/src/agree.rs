@@ -1,8 +1,8 @@
 //! Both sides make a row's calls, and all that can be seen of each is compared,
 //! before anything is timed.
 
-use cases::hex;
-use reading::table::Entry;
+use cases::{hex, shown};
+use reading::table::{Entry, to_bytes};
 
 use crate::calls::ROOM;
 use crate::row::Row;
@@ -12,7 +12,6 @@ use crate::side::{Said, Side};
 const BEFORE: u8 = 0xa5;
 
 /// All that can be seen of a call afterwards.
-#[derive(Debug, Clone, PartialEq, Eq)]
 struct Seen {
     said: Said,
     frame: Vec<u8>,
@@ -25,37 +24,28 @@ struct Seen {
 /// Two rounds, so that the second meets what the first left, as every later one
 /// does: it is to leave it so. An error where the sides differ.
 pub fn agree(row: &Row, old: &mut impl Side, new: &mut impl Side) -> Result<(), String> {
-    first_round_and_second(row, old, new).map_err(|what| format!("{}: {what}", row.word()))
-}
-
-fn first_round_and_second(
-    row: &Row,
-    old: &mut impl Side,
-    new: &mut impl Side,
-) -> Result<(), String> {
-    let first = round(row, old, new)?;
-    let second = round(row, old, new)?;
-    match (first.last(), second.last()) {
-        (Some(first), Some(second))
-            if first.store != second.store || first.table != second.table =>
-        {
-            Err("the second round leaves another store or table than the first".to_owned())
-        }
-        (Some(_), Some(_)) => Ok(()),
-        _ => Err("no calls".to_owned()),
+    let mut round = || round(row, old, new).map_err(|what| format!("{}: {what}", row.word()));
+    let (first, second) = (round()?, round()?);
+    if first.store != second.store || first.table != second.table {
+        return Err(format!(
+            "{}: the second round changes something",
+            row.word()
+        ));
     }
+    Ok(())
 }
 
-/// What was seen, which is the same of both.
-fn round(row: &Row, old: &mut impl Side, new: &mut impl Side) -> Result<Vec<Seen>, String> {
-    let each = (0..row.calls.round()).map(|at| {
+/// What was seen last, which is the same of both.
+fn round(row: &Row, old: &mut impl Side, new: &mut impl Side) -> Result<Seen, String> {
+    let mut last = None;
+    for at in 0..row.calls.round() {
         let (old, new) = (seen(row, at, old)?, seen(row, at, new)?);
-        match difference(row, &old, &new) {
-            None => Ok(new),
-            Some(what) => Err(format!("call {at}: {what}\nold: {old:x?}\nnew: {new:x?}")),
+        if let Some(what) = difference(row, &old, &new) {
+            return Err(format!("call {at}: {what}"));
         }
-    });
-    each.collect()
+        last = Some(new);
+    }
+    last.ok_or("no calls".to_owned())
 }
 
 fn seen(row: &Row, at: usize, side: &mut impl Side) -> Result<Seen, String> {
@@ -85,21 +75,23 @@ fn seen(row: &Row, at: usize, side: &mut impl Side) -> Result<Seen, String> {
 /// The first that differs. Behind the frame it is the new one that document 01
 /// has leave zeros.
 fn difference(row: &Row, old: &Seen, new: &Seen) -> Option<String> {
-    if old.said != new.said {
-        return Some("they say different things".to_owned());
+    let table = |seen: &Seen| shown(&to_bytes(&seen.table));
+    let each = [
+        (
+            "answer",
+            format!("{:?}", old.said),
+            format!("{:?}", new.said),
+        ),
+        ("frame", hex(&old.frame), hex(&new.frame)),
+        ("store", hex(&old.store), hex(&new.store)),
+        ("table", table(old), table(new)),
+    ];
+    if let Some((what, old, new)) = each.into_iter().find(|(_, old, new)| old != new) {
+        return Some(format!("another {what}\n  old  {old}\n  new  {new}"));
     }
-    if old.frame != new.frame {
-        let (old, new) = (hex(&old.frame), hex(&new.frame));
-        return Some(format!("the frames differ: old {old}, new {new}"));
-    }
-    if old.store != new.store {
-        return Some("the stores differ".to_owned());
-    }
-    if old.table != new.table {
-        return Some("the tables differ".to_owned());
-    }
-    let unclear = row.calls.write_frames() && new.behind.iter().any(|&byte| byte != 0);
-    unclear.then(|| "the new one leaves more than zeros behind the frame".to_owned())
+    let cleared = new.behind.iter().all(|&byte| byte == 0);
+    (row.calls.write_frames() && !cleared)
+        .then(|| format!("behind the frame the new one leaves {}", hex(&new.behind)))
 }
 
 #[cfg(test)]
@@ -126,12 +118,15 @@ mod tests {
     fn every_fault_is_seen() {
         assert_eq!(agreed(&row(), None), Ok(()));
         for (fault, words) in [
-            (Fault::Refusal, "they say different things"),
+            (
+                Fault::Refusal,
+                "another answer\n  old  Frame(123)\n  new  Refused",
+            ),
             (Fault::Length, "257 bytes of 256"),
-            (Fault::Frame, "the frames differ: old 182a09"),
-            (Fault::Behind, "more than zeros"),
-            (Fault::Store, "the stores differ"),
-            (Fault::Table, "the tables differ"),
+            (Fault::Frame, "another frame\n  old  182a09"),
+            (Fault::Behind, "leaves 0101"),
+            (Fault::Store, "another store"),
+            (Fault::Table, "another table"),
             (Fault::NoTable, "no table"),
         ] {
             let trouble = agreed(&row(), Some(fault)).expect_err(words);

@@ -3,7 +3,7 @@
 pub const USAGE: &str = "usage: speed --rows, or speed --calls ROW old|new N, or speed --page FILE [--pairs N] [--facts FILE]";
 
 /// So many pairs of blocks are timed unless another number is given.
-const PAIRS: usize = 41;
+const PAIRS: usize = 201;
 
 #[derive(Debug, Clone, Copy, PartialEq, Eq)]
 pub enum Which {

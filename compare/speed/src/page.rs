@@ -73,7 +73,7 @@ fn what_was_run(facts: &Facts, built: &Built) -> String {
 - Old: zigbee-rs' `ClusterServer::handle_request`, `AttributeReportBuilder` and `ReportingTable<16>`, over document 01's store, as the comparison runs them. Compiled by {compiler} at full optimization: no overflow checks, link-time optimization, one unit. A call allocates nothing. Its lock and its list are stand-ins over the standard library's.
 - New: `hd_handle_request`, `hd_report`, `hd_ask` and `hd_mark` of the proved archive libhingedrift.a, as a box calls them. Made by the kit, {kit}. The archive has {archive} bytes; {code}.
 - Processor: {processor}. One thread.
-- Both are given the same frames from the same memory, in blocks of a millisecond or more, old and new in turn, {pairs} pairs a row. A time is the median over the blocks; a ratio is the median over the pairs, with their quartiles.
+- Both are given the same frames from the same memory, in blocks of the same number of calls, old and new in turn, the two of a pair about 0.4 milliseconds together; {pairs} pairs a row. A time is the median over the blocks; a ratio is the median over the pairs, with their quartiles.
 - Before a row is timed both make each of its calls, and replies, stores and tables are compared: they are the same.
 - {counts}
 

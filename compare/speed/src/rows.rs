@@ -125,41 +125,4 @@ fn over_table() -> Vec<Row> {
 }
 
 #[cfg(test)]
-mod tests {
-    use std::collections::HashSet;
-
-    use super::*;
-    use crate::agree::agree;
-    use crate::old::Old;
-    use crate::side::Side;
-    use crate::stand_in::StandIn;
-
-    #[test]
-    fn every_word_is_of_one_row() {
-        let words: HashSet<String> = rows().iter().map(Row::word).collect();
-        assert_eq!(words.len(), 18);
-        assert_eq!(rows().len(), 18);
-        assert!(named("64/read-configuration-10").is_some());
-        assert!(named("64/read").is_none());
-    }
-
-    #[test]
-    fn every_row_repeats() {
-        for row in rows() {
-            let mut old = Old::new(&row.store, &row.table);
-            let mut new = StandIn::new(&row.store, &row.table);
-            assert_eq!(agree(&row, &mut old, &mut new), Ok(()));
-        }
-    }
-
-    #[test]
-    fn configured_as_asked() {
-        for over in ["4", "64"] {
-            let row = named(&format!("{over}/configure-10")).expect("it is one");
-            let mut old = Old::new(&row.store, &row.table);
-            row.calls.one(0, &mut old, &mut [0; 256]);
-            let read = named(&format!("{over}/read-configuration-10")).expect("it is one");
-            assert_eq!(old.table(), Ok(read.table));
-        }
-    }
-}
+mod tests;

@@ -6,8 +6,9 @@ use crate::calls::ROOM;
 use crate::row::Row;
 use crate::side::Side;
 
-/// A block is at least about so long.
-const BLOCK: Duration = Duration::from_millis(1);
+/// The two blocks of a pair take about so long together: much less than a slice
+/// that the system gives to another program, so that few pairs meet one.
+const PAIR: Duration = Duration::from_micros(400);
 
 /// Nanoseconds a call, of each block.
 pub struct Timed {
@@ -18,7 +19,7 @@ pub struct Timed {
 /// So many pairs of blocks, all of the same calls. Which of a pair is first
 /// changes from one to the next.
 pub fn timed(row: &Row, old: &mut impl Side, new: &mut impl Side, pairs: usize) -> Timed {
-    let calls = enough(row, old).max(enough(row, new));
+    let calls = enough(row, old, new);
     let mut timed = Timed {
         old: Vec::with_capacity(pairs),
         new: Vec::with_capacity(pairs),
@@ -36,16 +37,16 @@ pub fn timed(row: &Row, old: &mut impl Side, new: &mut impl Side, pairs: usize) 
     timed
 }
 
-/// How many calls, in whole rounds, fill a block.
-fn enough(row: &Row, side: &mut impl Side) -> usize {
+/// How many calls on each side, in whole rounds, fill a pair.
+fn enough(row: &Row, old: &mut impl Side, new: &mut impl Side) -> usize {
     let mut calls = row.calls.round();
     loop {
-        let time = block(row, side, calls);
-        if time >= BLOCK {
+        let time = block(row, old, calls) + block(row, new, calls);
+        if time >= PAIR {
             return calls;
         }
-        // towards the block's length, but not too fast: the first ones are slow
-        let missing = BLOCK.as_nanos() / time.as_nanos().max(1) + 1;
+        // towards the pair's length, but not too fast: the first ones are slow
+        let missing = PAIR.as_nanos() / time.as_nanos().max(1) + 1;
         calls *= usize::try_from(missing).map_or(10, |missing| missing.clamp(2, 10));
     }
 }
