@@ -13,6 +13,8 @@ pub mod Worked
 pub mod Walks
 -- the records of a reply as bytes, put one behind the other
 pub mod Encoded
+-- two runs put one behind the other, or neither
+pub mod Both
 -- records that end at a known place
 pub mod Sized
 -- a reply that lists records as long as they fit: the loop, the header, the room, and which records

@@ -6,7 +6,7 @@ use mathlib.Core.List.{List}
 use Rattle.frame.specs.Answer.{noState, seen}
 use Rattle.frame.specs.declared.answer.Answer.{Answer}
 use Rattle.frame.specs.Unique.{RefusalNumberOnce, AnswerNumberOnce, ReplyLenOnce, RefuseOnce, FromBitsOnce, RawOnce, ListFailureOnce, ConcludeOnce}
-use Rattle.frame.specs.Unique.{FrameTypeOnce, IsManufacturerSpecificOnce, ReadHeaderOnce, WriteResponseHeaderOnce, BeginReplyOnce, ClearOnce, PutRunOnce}
+use Rattle.frame.specs.Unique.{FrameTypeOnce, IsManufacturerSpecificOnce, ReadHeaderOnce, WriteResponseHeaderOnce, BeginReplyOnce, ClearOnce, PutRunOnce, PutBothOnce}
 use Rattle.frame.specs.Unique.{PutByteOnce, PutU16Once, ToU8Once}
 use Rattle.frame.proofs.Outcome.{seen-same, putting-same}
 
@@ -65,6 +65,9 @@ clear-once buffer x y e f = e ∙ sym f
 
 pub put-run-once : PutRunOnce
 put-run-once buffer at bytes r q x y e f = putting-same r q x y (e ∙ sym f)
+
+pub put-both-once : PutBothOnce
+put-both-once buffer at front back r q x y e f = putting-same r q x y (e ∙ sym f)
 
 pub put-byte-once : PutByteOnce
 put-byte-once buffer at b r q x y e f = putting-same r q x y (e ∙ sym f)

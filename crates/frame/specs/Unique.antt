@@ -3,7 +3,7 @@
 use Prim.Native.Nat.{ℕ}
 use mathlib.Core.Path.{_≡_}
 use mathlib.Core.Bool.{Bool}
-use mathlib.Core.List.{List, [], _∷_}
+use mathlib.Core.List.{List, [], _∷_, _++_}
 use lib.ListN.{length}
 use Rattle.frame.specs.Answer.{refusalNumber, answerNumber, answerLength, noState, seen, refused}
 use Rattle.frame.specs.CommandIdentifier.{commandCode, commandOf}
@@ -95,6 +95,13 @@ PutRunOnce =
     (buffer : List ℕ) (at : ℕ) (bytes : List ℕ) (r q : Put) (x y : List ℕ)
     → putting r x ≡ put buffer at bytes
     → putting q y ≡ put buffer at bytes
+    → (r ≡ q) × (x ≡ y)
+
+abbrev pub PutBothOnce : Type 0
+PutBothOnce =
+    (buffer : List ℕ) (at : ℕ) (front back : List ℕ) (r q : Put) (x y : List ℕ)
+    → putting r x ≡ put buffer at (front ++ back)
+    → putting q y ≡ put buffer at (front ++ back)
     → (r ≡ q) × (x ≡ y)
 
 abbrev pub PutByteOnce : Type 0

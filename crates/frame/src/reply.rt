@@ -1,7 +1,7 @@
 // The reply buffer: cleared, then filled from its start, so that it is always the reply so far and zeros to the end.
 ghost use mathlib.Core.Path.{_≡_};
 ghost use Prim.Native.Nat.{ℕ, _+_, _≤_};
-ghost use mathlib.Core.List.{List, [], _∷_};
+ghost use mathlib.Core.List.{List, [], _∷_, _++_};
 ghost use lib.ListN.{length};
 ghost use Rattle.types.specs.Number.{zeros, bytesOf};
 ghost use Rattle.frame.specs.Reply.{over, putting, put};
@@ -48,6 +48,26 @@ pub fn put_run(buffer: &mut [u8], at: usize, bytes: &[u8]) -> Put
     }
     copy_into(buffer, at, bytes);
     Put::At(at + n)
+}
+
+// Puts two runs, one behind the other, if there is room for both: nothing half-written ever stands.
+pub fn put_both(buffer: &mut [u8], at: usize, front: &[u8], back: &[u8]) -> Put
+    ensures { λ r. ⌜ putting r (now (buffer .exit)) ≡ put (now (buffer .entry)) at (now (front .entry) ++ now (back .entry)) ⌝ }
+{
+    if buffer.len() < at {
+        return Put::Full;
+    }
+    let room = buffer.len() - at;
+    if room < front.len() {
+        return Put::Full;
+    }
+    if room - front.len() < back.len() {
+        return Put::Full;
+    }
+    let Put::At(next) = put_run(buffer, at, front) else {
+        return Put::Full;
+    };
+    put_run(buffer, next, back)
 }
 
 // Puts one byte.

@@ -15,6 +15,7 @@ use frame::header::ZclHeader;
 use frame::header::write_response_header;
 use frame::reply::Put;
 use frame::reply::clear;
+use frame::reply::put_both;
 use frame::reply::put_run;
 use frame::status::Status;
 use store::lookup::Found;
@@ -56,22 +57,9 @@ fn put_failure(reply: &mut [u8], out: usize, id: AttributeId, why: Status) -> Pu
 fn put_value(reply: &mut [u8], out: usize, id: AttributeId, code: u8, value: &[u8]) -> Put
     ensures { λ r. ⌜ putting r (now (reply .exit)) ≡ put (now (reply .entry)) out (encode (valueRecord (id .0) code (now (value .entry)))) ⌝ }
 {
-    if reply.len() < out {
-        return Put::Full;
-    }
-    let room = reply.len() - out;
-    if room < 4 {
-        return Put::Full;
-    }
-    if room - 4 < value.len() {
-        return Put::Full;
-    }
     let n = id.0;
     let four = [(n % 256) as u8, (n / 256 % 256) as u8, 0x00, code];
-    let Put::At(o) = put_run(reply, out, &four) else {
-        return Put::Full;
-    };
-    put_run(reply, o, value)
+    put_both(reply, out, &four, value)
 }
 
 // One id: where an attribute is not found, the record is id and 86; otherwise its value, or 89 where that does not fit. Full where

@@ -1,7 +1,6 @@
 -- The laws that this crate's proofs and its clients' cite, a file for an idea.
 pub mod Defaults  -- the ways of a Default Response
 pub mod Listed  -- a cluster among those that are served, and the ways of the responder
-pub mod Runs  -- two runs of bytes put, or neither
 pub mod Turns  -- one id of a report
 pub mod Going  -- the loop over the ids of a report
 pub mod Whole  -- a report: the store, the header, the list, its ids

@@ -1,6 +1,5 @@
 // The Report Attributes frame (`AttributeReportBuilder` in the Rust; ZCL 2.5.11): a record for each id of a lent list, in its order.
 ghost use mathlib.Core.Path.{_≡_};
-ghost use mathlib.Core.List.{_++_};
 ghost use lib.ListN.{length};
 ghost use Rattle.frame.specs.Answer.{seen, noState};
 ghost use Rattle.frame.specs.Reply.{putting, put};
@@ -16,7 +15,7 @@ use frame::header::ZclHeader;
 use frame::header::write_response_header;
 use frame::reply::Put;
 use frame::reply::clear;
-use frame::reply::put_run;
+use frame::reply::put_both;
 use store::layout::is_store;
 use store::lookup::Found;
 use store::lookup::find;
@@ -25,26 +24,6 @@ use store::lookup::name_of;
 use store::value::value_of;
 use types::ids::AttributeId;
 use types::ids::CommandId;
-
-// Puts two runs, one behind the other, if there is room for both: nothing half-written ever stands.
-fn put_both(buffer: &mut [u8], at: usize, front: &[u8], back: &[u8]) -> Put
-    ensures { λ r. ⌜ putting r (now (buffer .exit)) ≡ put (now (buffer .entry)) at (now (front .entry) ++ now (back .entry)) ⌝ }
-{
-    if buffer.len() < at {
-        return Put::Full;
-    }
-    let room = buffer.len() - at;
-    if room < front.len() {
-        return Put::Full;
-    }
-    if room - front.len() < back.len() {
-        return Put::Full;
-    }
-    let Put::At(next) = put_run(buffer, at, front) else {
-        return Put::Full;
-    };
-    put_run(buffer, next, back)
-}
 
 // Puts id, type and value.
 fn put_record(frame: &mut [u8], out: usize, id: AttributeId, code: u8, value: &[u8]) -> Put

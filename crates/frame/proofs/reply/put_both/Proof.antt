@@ -1,10 +1,10 @@
 -- There is room for both, or nothing is put. Assumes nothing.
 use denote.Ref.{now}
 use native.Mathlib.Omega.{arith}
-use Rattle.server.proofs.Runs.{both-past, both-none, both-put}
+use Rattle.frame.proofs.Both.{both-past, both-none, both-put}
 use borrow.Author.Needs.{needs}
-use Rattle.server.proofs.report.put_both.Statement.{statement}
-use Rattle.server.proofs.report.put_both.Tie as tie
+use Rattle.frame.proofs.reply.put_both.Statement.{statement}
+use Rattle.frame.proofs.reply.put_both.Tie as tie
 
 returns : tie.Need-returns
 returns c = both-past _ _ (now (c .before .before .before .before .args .front)) (now (c .before .before .before .before .args .back)) (omega (arith, c .if1 .taken))
