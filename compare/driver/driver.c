@@ -12,12 +12,9 @@
  * An answer: five numbers (what the function returned; 4 results), then each buffer as it is afterwards, between two walls of 16 bytes. The
  * wall behind has up to 7 more, so that all buffers start at multiples of 8, as lists of numbers must. Results and walls were all a5.
  */
-#define _POSIX_C_SOURCE 199309L /* clock_gettime */
-
 #include <stdio.h>
 #include <stdlib.h>
 #include <string.h>
-#include <time.h>
 
 #include "driver.h"
 
@@ -35,13 +32,6 @@ struct call {
 struct answer {
     uint64_t number;
     union result results[RESULTS];
-};
-
-/* One ask of a row that is timed. */
-struct ask {
-    uint16_t cluster, attribute;
-    uint32_t now;
-    int64_t value;
 };
 
 /* The answers of this batch. Buffers are lent where they stand in them: nothing needs to be copied to show what became of one. */
@@ -78,30 +68,6 @@ static uint8_t *lent(uint64_t length)
     return buffer;
 }
 
-static uint64_t nanoseconds(void)
-{
-    struct timespec now;
-
-    clock_gettime(CLOCK_MONOTONIC, &now);
-    return (uint64_t)now.tv_sec * 1000000000u + (uint64_t)now.tv_nsec;
-}
-
-/* A row of asks on one table: how many were due, and the nanoseconds of all. The time of one, over a pipe, would be the pipe's. */
-static uint8_t timed(const uint8_t *table, size_t table_len, const struct ask *asks, size_t many, union result *results)
-{
-    uint64_t start = nanoseconds(), yeses = 0;
-    uint8_t due, number = HD_OK;
-    size_t i;
-
-    for (i = 0; i < many && number == HD_OK; i++) {
-        number = hd_ask(table, table_len, asks[i].cluster, asks[i].attribute, asks[i].now, asks[i].value, &due);
-        yeses += due;
-    }
-    results[0].used = yeses;
-    results[1].used = nanoseconds() - start;
-    return number;
-}
-
 /* Makes the call. Lists of 16-bit numbers have lengths in bytes on the pipe. */
 static uint8_t answer(uint64_t function, const uint64_t *a, uint8_t *const *b, const uint64_t *len, union result *r)
 {
@@ -132,9 +98,6 @@ static uint8_t answer(uint64_t function, const uint64_t *a, uint8_t *const *b, c
         list = b[1];
         return hd_report(b[0], len[0], (uint8_t)a[0], list, len[1] / 2, b[2], len[2], &r[0].used);
     case 11:
-        list = b[1];
-        return timed(b[0], len[0], list, len[1] / sizeof(struct ask), r);
-    case 12:
         list = b[1];
         return read_rows(b[0], len[0], list, len[1] / sizeof(struct row));
     default:

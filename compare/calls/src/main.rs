@@ -4,14 +4,13 @@
 //!
 //! It prints how often each kind of call came, and fails at the first
 //! disagreement, with the shortest history that it finds to lead there, and
-//! where a kind never came. The speeds are only told.
+//! where a kind never came.
 
 mod call;
 mod damaged;
 mod histories;
 mod kinds;
 mod rust;
-mod speed;
 mod table;
 
 use std::fmt::Write;
@@ -67,17 +66,6 @@ fn run() -> Result<(), String> {
     let missing = kinds.missing();
     if !missing.is_empty() {
         return Err(format!("never reached: {}", missing.join("; ")));
-    }
-    let speed = speed::measured(driver, random)?;
-    if cfg!(target_arch = "x86_64") {
-        println!(
-            "an ask of a full table: {:.0} ns, the Rust {:.0} ns, ratio {:.1}",
-            speed.ours,
-            speed.rust,
-            speed.ours / speed.rust
-        );
-    } else {
-        println!("no speeds: here an emulator runs ours");
     }
     Ok(())
 }

@@ -98,23 +98,9 @@ impl Call {
         Self::new("report", 10, &[sequence.into()], lent, LONG)
     }
 
-    /// Asks, one after the other. The results are how many were due, and how
-    /// long all took, in nanoseconds.
-    pub fn timed(table: &[u8], asks: &[(Key, u32, i64)]) -> Self {
-        let mut row = Vec::new();
-        for (key, now, value) in asks {
-            row.extend(key.cluster.to_le_bytes());
-            row.extend(key.attribute.to_le_bytes());
-            row.extend(now.to_le_bytes());
-            row.extend(value.to_le_bytes());
-        }
-        let lent = [closed(table), closed(&row)];
-        Self::new("timed asks", 11, &[], lent, [8, 8, 0, 0])
-    }
-
     /// Rows of calls of readers, on one frame.
     pub(crate) fn read(frame: &[u8], rows: &[u8]) -> Self {
-        Self::new("readers", 12, &[], [closed(frame), open(rows)], NONE)
+        Self::new("readers", 11, &[], [closed(frame), open(rows)], NONE)
     }
 
     fn new<const N: usize>(
