@@ -2,6 +2,7 @@
 // read as 0.
 ghost use mathlib.Core.Path.{_≡_};
 ghost use Rattle.store.specs.Contents.{clusterOf, countOf, attributeAt, reportable, nameOf, findOf};
+use super::layout::part;
 use frame::header::ManufacturerCode;
 use types::ids::AttributeId;
 use types::ids::ClusterId;
@@ -47,18 +48,30 @@ pub fn count_of(s: &[u8]) -> u16
     u16_at(s, 2)
 }
 
-// Attribute i of the contents.
+// The first attribute of the contents.
+fn first(s: &[u8]) -> Attribute
+    ensures { λ r. ⌜ r ≡ attributeAt 8 (now (s .entry)) 0 ⌝ }
+{
+    Attribute {
+        name: Name(u16_at(s, 4) as u32),
+        type_id: TypeId(byte_at(s, 6)),
+        access: byte_at(s, 7),
+        offset: u16_at(s, 8),
+        room: u16_at(s, 10),
+    }
+}
+
+// Attribute i of the contents: the first one, with the i entries before it left out. The 12 bytes that a whole entry ends are lent
+// as such: their number is then known where they are read, and no byte is asked whether it is there.
 pub fn attribute_at(s: &[u8], i: u16) -> Attribute
     ensures { λ r. ⌜ r ≡ attributeAt 8 (now (s .entry)) i ⌝ }
 {
-    let p = 4 + (i as usize) * 8;
-    Attribute {
-        name: Name(u16_at(s, p) as u32),
-        type_id: TypeId(byte_at(s, p + 2)),
-        access: byte_at(s, p + 3),
-        offset: u16_at(s, p + 4),
-        room: u16_at(s, p + 6),
+    let p = (i as usize) * 8;
+    let end = p + 12;
+    if s.len() < end {
+        return first(part(s, p, 12));
     }
+    first(&s[p..end])
 }
 
 // Whether reports of an attribute may be configured and sent.

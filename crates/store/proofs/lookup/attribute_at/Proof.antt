@@ -1,5 +1,11 @@
--- Each field stands where the entry has it. Assumes nothing.
+-- The entry is read where it stands, whole or as far as it is there. Assumes nothing.
+use Prim.Native.Nat.{_*_}
+use mathlib.Core.Path.{ap, _∙_}
+use native.Mathlib.Nat.{add-sub-cancel-left}
+use lib.ListN.{take, drop}
+use denote.Ref.{now}
 use Rattle.store.specs.Contents.{attributeAt}
+use Rattle.store.proofs.Contents.{first-there}
 use borrow.Author.Needs.{needs}
 use Rattle.store.proofs.lookup.attribute_at.Statement.{statement}
 use Rattle.store.proofs.lookup.attribute_at.Tie as tie
@@ -7,64 +13,50 @@ use Rattle.store.proofs.lookup.attribute_at.Tie as tie
 mul-p : tie.Need-mul-p
 mul-p c = search needs
 
-add-p : tie.Need-add-p
-add-p c = search needs
+add-end : tie.Need-add-end
+add-end c = search needs
 
-u16-at-requires : tie.Need-u16-at-requires
-u16-at-requires c κs = search needs
+part-requires : tie.Need-part-requires
+part-requires c κs = search needs
 
-cast-t7 : tie.Need-cast-t7
-cast-t7 c = search needs
-
-add-byte-at : tie.Need-add-byte-at
-add-byte-at c = search needs
-
-byte-at-requires : tie.Need-byte-at-requires
-byte-at-requires c κs = search needs
-
-add-byte-at-2 : tie.Need-add-byte-at-2
-add-byte-at-2 c = search needs
-
-byte-at-requires-2 : tie.Need-byte-at-requires-2
-byte-at-requires-2 c κs = search needs
-
-add-u16-at : tie.Need-add-u16-at
-add-u16-at c = search needs
-
-u16-at-requires-2 : tie.Need-u16-at-requires-2
-u16-at-requires-2 c κs = search needs
-
-add-u16-at-2 : tie.Need-add-u16-at-2
-add-u16-at-2 c = search needs
-
-u16-at-requires-3 : tie.Need-u16-at-requires-3
-u16-at-requires-3 c κs = search needs
+first-requires : tie.Need-first-requires
+first-requires c κs = search needs
 
 returns : tie.Need-returns
-unfolding attributeAt
-returns c i =
-    record {
-      name = record { 0 = c .before .before .before .before .u16-at .ensures i };
-      «type_id» = record { 0 = c .before .before .before .byte-at .ensures i };
-      access = c .before .before .byte-at2 .ensures i;
-      offset = c .before .u16-at2 .ensures i;
-      room = c .u16-at3 .ensures i;
-    }
+returns c =
+    let g = c .before .before .before .before .args in
+    c .first .ensures ∙ ap (λ l. attributeAt 8 l 0) (c .before .part .ensures) ∙ first-there (now (g .s)) (g .i)
+
+sub-first : tie.Need-sub-first
+sub-first c = search needs
+
+part-first-start : tie.Need-part-first-start
+part-first-start c = search needs
+
+part-first-end : tie.Need-part-first-end
+part-first-end c = search needs
+
+first-requires-2 : tie.Need-first-requires-2
+first-requires-2 c κs = search needs
+
+returns-2 : tie.Need-returns-2
+returns-2 c =
+    let g = c .before .before .before .before .args in
+    c .first2 .ensures
+    ∙ ap (λ n. attributeAt 8 (take n (drop (g .i * 8) (now (g .s)))) 0) (add-sub-cancel-left (g .i * 8) 12)
+    ∙ first-there (now (g .s)) (g .i)
 
 pub attribute-at-spec : {M : Type 1} → statement M
 attribute-at-spec =
     tie.close
     (tie.spec
     mul-p
-    add-p
-    u16-at-requires
-    cast-t7
-    add-byte-at
-    byte-at-requires
-    add-byte-at-2
-    byte-at-requires-2
-    add-u16-at
-    u16-at-requires-2
-    add-u16-at-2
-    u16-at-requires-3
-    returns)
+    add-end
+    part-requires
+    first-requires
+    returns
+    sub-first
+    part-first-start
+    part-first-end
+    first-requires-2
+    returns-2)
