@@ -47,32 +47,24 @@ pub fn text_length(s: &[u8], a: Attribute) -> usize
     n
 }
 
-// Whether a type may stand in a store, and has the room that it must have.
-fn room_ok(a: Attribute) -> bool
-    ensures { λ r. ⌜ r ≡ roomOk a ⌝ }
+// Whether a type may stand in a store and has the room that it must have; of a string, too, whether its length fits the room, in
+// which its length byte stands first, and what it does not use is 0.
+fn body_ok(s: &[u8], a: Attribute) -> bool
+    ensures { λ r. ⌜ r ≡ allOf (roomOk a ∷ lengthOk (now (s .entry)) a ∷ unusedOk (now (s .entry)) a ∷ []) ⌝ }
 {
     let room = a.room as usize;
-    let form = a.type_id.form();
-    match form {
+    let layout = a.type_id.form();
+    match layout {
         Form::Fixed(w) => 1 <= w && w <= 16 && room == w,
-        Form::Text => 1 <= room && room <= 255,
+        Form::Text => {
+            let used = 1 + text_length(s, a);
+            if room < used || 255 < room {
+                return false;
+            }
+            all_zero(part(s, a.offset as usize + used, room - used))
+        }
         _ => false,
     }
-}
-
-// Whether a string's length fits its room, and what it does not use is 0.
-fn text_ok(s: &[u8], a: Attribute) -> bool
-    ensures { λ r. ⌜ r ≡ allOf (lengthOk (now (s .entry)) a ∷ unusedOk (now (s .entry)) a ∷ []) ⌝ }
-{
-    if !is_text(a) {
-        return true;
-    }
-    let used = 1 + text_length(s, a);
-    let room = a.room as usize;
-    if room < used {
-        return false;
-    }
-    all_zero(part(s, a.offset as usize + used, room - used))
 }
 
 // Whether one attribute keeps all conditions, its name `least` or more and its body at `from`.
@@ -89,10 +81,7 @@ fn entry_ok(s: &[u8], a: Attribute, least: usize, from: usize) -> bool
     if a.offset as usize != from {
         return false;
     }
-    if !room_ok(a) {
-        return false;
-    }
-    text_ok(s, a)
+    body_ok(s, a)
 }
 
 // Whether the bytes are a store.

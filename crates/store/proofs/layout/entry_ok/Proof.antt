@@ -1,10 +1,10 @@
 -- Any test that fails fails the entry, in whatever order they are made. Assumes nothing.
 use Prim.Native.Nat.{ℕ, _≤_, _<_}
-use mathlib.Core.Path.{_≡_, sym, _∙_}
-use mathlib.Core.Bool.{Bool, true}
+use mathlib.Core.Path.{_≡_, _∙_}
+use mathlib.Core.Bool.{Bool}
 use mathlib.Core.List.{List, [], _∷_}
 use lib.Dec.{leb, eqb}
-use borrow.Author.Tests.{eq-eqb, ne-eqb, le-leb, lt-leb, lt-ltb, le-ltb, not-true, not-false}
+use borrow.Author.Tests.{eq-eqb, ne-eqb, le-leb, lt-leb, lt-ltb, le-ltb}
 use denote.Ref.{now}
 use Rattle.store.specs.declared.lookup.Attribute.{Attribute}
 use Rattle.store.specs.Layout.{accessOk, roomOk, lengthOk, unusedOk, allOf}
@@ -17,11 +17,11 @@ use Rattle.store.proofs.layout.entry_ok.Tie as tie
 abbrev tests : List ℕ → ℕ → ℕ → Attribute → List Bool
 tests s least from a = leb least (a .name .0) ∷ accessOk a ∷ roomOk a ∷ lengthOk s a ∷ eqb (a .offset) from ∷ unusedOk s a ∷ []
 
--- the tests of a string are left
-rest : (s : List ℕ) (least from : ℕ) (a : Attribute) → least ≤ a .name .0 → a .access < 4 → a .offset ≡ from → roomOk a ≡ true
-    → allOf (lengthOk s a ∷ unusedOk s a ∷ []) ≡ entryOk s least from a
+-- the tests of the body are left
+rest : (s : List ℕ) (least from : ℕ) (a : Attribute) → least ≤ a .name .0 → a .access < 4 → a .offset ≡ from
+    → allOf (roomOk a ∷ lengthOk s a ∷ unusedOk s a ∷ []) ≡ entryOk s least from a
 unfolding entryOk
-rest s least from a h i e r = rw (le-leb least (a .name .0) h, lt-ltb (a .access) 4 i, r, eq-eqb (a .offset) from e)
+rest s least from a h i e = rw (le-leb least (a .name .0) h, lt-ltb (a .access) 4 i, eq-eqb (a .offset) from e)
 
 cast-if1 : tie.Need-cast-if1
 cast-if1 c = search needs
@@ -47,24 +47,14 @@ returns-3 c =
     let g = c .before .before .before .before .before .before .before .before .args in
     falsy (tests (now (g .s)) (g .least) (g .from) (g .a)) 4 (ne-eqb (g .a .offset) (g .from) (c .if3 .taken))
 
-room-ok-requires : tie.Need-room-ok-requires
-room-ok-requires c κs = search needs
+body-ok-requires : tie.Need-body-ok-requires
+body-ok-requires c κs = search needs
 
 returns-4 : tie.Need-returns-4
-unfolding entryOk
 returns-4 c =
-    let g = c .before .before .before .before .before .before .before .before .before .before .args in
-    falsy (tests (now (g .s)) (g .least) (g .from) (g .a)) 2 (sym (c .before .room-ok .ensures) ∙ not-true _ (c .if4 .taken))
-
-text-ok-requires : tie.Need-text-ok-requires
-text-ok-requires c κs = search needs
-
-returns-5 : tie.Need-returns-5
-returns-5 c =
-    let g = c .before .before .before .before .before .before .before .before .before .before .before .args in
-    c .text-ok .ensures
-    ∙ rest (now (g .s)) (g .least) (g .from) (g .a) (c .before .before .before .before .before .before .before .if1 .left) (c .before .before .before .before .before .if2 .left) (c .before .before .before .if3 .left)
-    (sym (c .before .before .room-ok .ensures) ∙ not-false _ (c .before .if4 .left))
+    let g = c .before .before .before .before .before .before .before .before .before .args in
+    c .body-ok .ensures
+    ∙ rest (now (g .s)) (g .least) (g .from) (g .a) (c .before .before .before .before .before .if1 .left) (c .before .before .before .if2 .left) (c .before .if3 .left)
 
 pub entry-ok-spec : {M : Type 1} → statement M
 entry-ok-spec =
@@ -75,7 +65,5 @@ entry-ok-spec =
     returns-2
     cast-if3
     returns-3
-    room-ok-requires
-    returns-4
-    text-ok-requires
-    returns-5)
+    body-ok-requires
+    returns-4)
