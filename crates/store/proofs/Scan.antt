@@ -45,13 +45,13 @@ pub scan-all : (form : ℕ) (s : List ℕ) (n name : ℕ) → n ≡ countOf s �
 unfolding findOf attributesOf
 scan-all form s n name e = let z : n - 0 ≡ countOf s = omega arith in ap (λ k. findIn (attributesFrom form s k 0) name) z
 
--- one turn of a scan that came to number i without a find
+-- one turn of a scan that came to number i without a find, and there to the name m
 module _ (form : ℕ) (s : List ℕ) (n i name : ℕ) (so-far : scan form s n i name ≡ scan form s n 0 name) where
-  pub here : (a : Attribute) → n ≡ countOf s → i < n → a ≡ attributeAt form s i → a .name .0 ≡ name → At a ≡ findOf form s name
-  here a e h is t = ap At is ∙ sym (scan-hit form s n i name h (sym (ap (λ x. x .name .0) is) ∙ t)) ∙ so-far ∙ scan-all form s n name e
+  pub here : (m : ℕ) (a : Attribute) → n ≡ countOf s → i < n → m ≡ attributeAt form s i .name .0 → m ≡ name → a ≡ attributeAt form s i → At a ≡ findOf form s name
+  here m a e h is t whole = ap At whole ∙ sym (scan-hit form s n i name h (sym is ∙ t)) ∙ so-far ∙ scan-all form s n name e
 
-  pub further : (a : Attribute) → i < n → a ≡ attributeAt form s i → (a .name .0 ≡ name → ⊥) → scan form s n (i + 1) name ≡ scan form s n 0 name
-  further a h is t = sym (scan-miss form s n i name h (λ q. t (ap (λ x. x .name .0) is ∙ q))) ∙ so-far
+  pub further : (m : ℕ) → i < n → m ≡ attributeAt form s i .name .0 → (m ≡ name → ⊥) → scan form s n (i + 1) name ≡ scan form s n 0 name
+  further m h is t = sym (scan-miss form s n i name h (λ q. t (is ∙ q))) ∙ so-far
 
   pub nowhere : n ≡ countOf s → n ≤ i → Nothing ≡ findOf form s name
   nowhere e h = sym (scan-end form s n i name h) ∙ so-far ∙ scan-all form s n name e

@@ -74,6 +74,14 @@ pub fn attribute_at(s: &[u8], i: u16) -> Attribute
     first(&s[p..end])
 }
 
+// The name of attribute i alone, for a scan that reads no more of the entries it passes.
+fn name_at(s: &[u8], i: u16) -> Name
+    ensures { λ r. ⌜ r .0 ≡ attributeAt 8 (now (s .entry)) i .name .0 ⌝ }
+{
+    let a = attribute_at(s, i);
+    a.name
+}
+
 // Whether reports of an attribute may be configured and sent.
 pub fn is_reportable(a: Attribute) -> bool
     ensures { λ r. ⌜ r ≡ reportable a ⌝ }
@@ -89,10 +97,9 @@ pub fn find(s: &[u8], name: Name) -> Found
     let wanted = name.0;
     let mut i: u16 = 0;
     while i < n {
-        let a = attribute_at(s, i);
-        let here = a.name;
+        let here = name_at(s, i);
         if here.0 == wanted {
-            return Found::At(a);
+            return Found::At(attribute_at(s, i));
         }
         i += 1;
     }

@@ -19,13 +19,16 @@ count-of-requires c κs = search needs
 loop-holds : tie.Need-loop-holds Inv-loop μ-loop
 loop-holds c = (omega arith, refl)
 
+name-at-requires : tie.Need-name-at-requires Inv-loop μ-loop
+name-at-requires c κs = search needs
+
 attribute-at-requires : tie.Need-attribute-at-requires Inv-loop μ-loop
 attribute-at-requires c κs = search needs
 
 returns : tie.Need-returns Inv-loop μ-loop
 returns c =
     let b = c .before .before .before .before .before in
-    here 8 _ _ _ _ (b .loop .inv .1) _ (b .before .count-of .ensures) (c .before .before .before .before .loop-test .taken) (c .before .before .before .attribute-at .ensures) (c .if1 .taken)
+    here 8 _ _ _ _ (b .loop .inv .1) _ _ (b .before .count-of .ensures) (c .before .before .before .before .loop-test .taken) (c .before .before .before .name-at .ensures) (c .before .if1 .taken) (c .attribute-at .ensures)
 
 add-i : tie.Need-add-i Inv-loop μ-loop
 add-i c = omega arith
@@ -35,8 +38,7 @@ loop-less c = omega arith
 
 loop-again : tie.Need-loop-again Inv-loop μ-loop
 loop-again c =
-    let b = c .before .before .before .before .before in
-    (omega arith, further 8 _ _ _ _ (b .loop .inv .1) _ (c .before .before .before .before .loop-test .taken) (c .before .before .before .attribute-at .ensures) (c .if1 .left))
+    (omega arith, further 8 _ _ _ _ (c .before .before .before .before .loop .inv .1) _ (c .before .before .before .loop-test .taken) (c .before .before .name-at .ensures) (c .if1 .left))
 
 returns-2 : tie.Need-returns-2 Inv-loop μ-loop
 returns-2 c = nowhere 8 _ _ _ _ (c .before .loop .inv .1) (c .before .before .count-of .ensures) (c .loop-test .left)
@@ -49,6 +51,7 @@ find-spec =
     μ-loop
     count-of-requires
     loop-holds
+    name-at-requires
     attribute-at-requires
     returns
     add-i
