@@ -5,7 +5,7 @@ use mathlib.Core.Bool.{true, false, _&&_, _||_, true≢false, false≢true}
 use mathlib.Core.List.{List, [], _∷_, _++_}
 use native.Mathlib.Omega.{arith}
 use native.Mathlib.Nat.{mod-eq-of-lt}
-use lib.ListN.{length, getD, drop, set}
+use lib.ListN.{length, getD, take, drop, set}
 use lib.Seq.{sets, drop-drop}
 use lib.Dec.{leb, eqb, leb·zero}
 use lib.IntN.{ℤ, pos, negsuc, natAbs}
@@ -14,10 +14,11 @@ use borrow.Author.Tests.{ne-eqb, le-leb, lt-leb}
 use mir.Syntax.{w64}
 use mir.Val.{SFits, toZ, ofZ}
 use mir.Facts.{toZ-ofZ}
-use Rattle.types.specs.Number.{bytesOf, unsignedAt, signedAt, residue}
+use Rattle.types.specs.Number.{allZero, bytesOf, unsignedAt, signedAt, residue}
 use Rattle.types.proofs.Numbers.{one-byte, length-bytes}
 use Rattle.types.proofs.Machine.{flipped-is}
 use Rattle.reporting.specs.Carried.{widths, laid, numbersIn, inForm, entryOf}
+use Rattle.reporting.proofs.Carriage.{zero-numbers}
 
 -- ---- the bits of a signed number
 
@@ -77,7 +78,7 @@ module _ (bs : List ℕ) (at : ℕ) where
   unfolding inForm
   form-at = ap inForm slot-numbers ∙ rw (one-byte bs (at + 16))
 
-  -- by the code's tests of a flag f, a time t and a value v
+  -- by the code's tests of a flag f
   module _ (f : ℕ) (ef : f ≡ getD bs (at + 16) 0) where
     pub form-past : 1 < f → false ≡ inForm (numbersIn widths (drop at bs))
     form-past h = sym (form-at ∙ rw (← ef, lt-leb f 1 h))
@@ -85,12 +86,12 @@ module _ (bs : List ℕ) (at : ℕ) where
     pub form-marked : f ≡ 1 → true ≡ inForm (numbersIn widths (drop at bs))
     form-marked h = sym (form-at ∙ rw (← ef, h))
 
-    module _ (h : f ≤ 1) (k : f ≡ 1 → ⊥) (t : ℕ) (et : t ≡ unsignedAt bs (at + 17) 4) where
-      pub form-timed : (t ≡ 0 → ⊥) → eqb t 0 ≡ inForm (numbersIn widths (drop at bs))
-      form-timed z = ne-eqb t 0 z ∙ sym (form-at ∙ rw (← ef, le-leb f 1 h, ne-eqb f 1 k, ← et, ne-eqb t 0 z))
-
-      pub form-none : (v : ℕ) → v ≡ unsignedAt bs (at + 21) 8 → t ≡ 0 → eqb v 0 ≡ inForm (numbersIn widths (drop at bs))
-      form-none v ev z = sym (form-at ∙ rw (← ef, le-leb f 1 h, ne-eqb f 1 k, ← et, ← ev, z))
+    -- under flag 0 the twelve bytes behind it are 0
+    pub form-none : (n : ℕ) → n ≡ 12 → f ≤ 1 → (f ≡ 1 → ⊥) → allZero (take n (drop (at + 17) bs)) ≡ inForm (numbersIn widths (drop at bs))
+    form-none n w h k =
+        let p : at + 17 + 4 ≡ at + 21 = omega arith in
+        ap (λ (m : ℕ). allZero (take m (drop (at + 17) bs))) w
+        ∙ sym (form-at ∙ rw (← ef, le-leb f 1 h, ne-eqb f 1 k, ← p) (zero-numbers bs (at + 17) 4 8))
 
   -- the entry of a slot
   pub entry-at : entryOf (numbersIn widths (drop at bs)) ≡ record {

@@ -14,8 +14,9 @@ use Rattle.frame.specs.Reply.{padded, over}
 use Rattle.frame.proofs.Buffer.{length-padded, over-padded}
 use Rattle.reporting.specs.declared.entry.Entry.{Entry}
 use Rattle.reporting.specs.declared.table.ReportingTable.{ReportingTable}
-use Rattle.reporting.specs.Carried.{widths, total, laid, numbersIn, rowsLaid, rowsIn, numbersOf, entryOf, inForm, allInForm, countIn, slotsIn, tableIn, tableSize, tableBytes, isTable, Reading, seen, slotsRead, readT, written, writeT}
+use Rattle.reporting.specs.Carried.{widths, total, laid, numbersIn, rowsLaid, rowsIn, numbersOf, entryOf, inForm, allInForm, countIn, slotsIn, tableIn, tableSize, tableBytes, isTable, Reading, seen, readT, written, writeT}
 use Rattle.reporting.proofs.Carriage.{length-laid, length-rows, length-rowsIn}
+use Rattle.reporting.proofs.CarriageTable.{the-conditions}
 
 -- what owning an array of structs tells of its list, where `search needs` stops at arrays of numbers
 pub length-mapped : {X Y : Type 0} (f : X → Y) (l : List X) (n : ℕ) → length (map f l) ≡ n → length l ≡ n
@@ -29,7 +30,7 @@ table-size : tableSize 16 ≡ 465
 unfolding total
 table-size = refl
 
--- ---- reading the slots
+-- ---- the slots, one after the other
 
 -- the slots from the i-th on
 abbrev pub slotsFrom : List ℕ → ℕ → ℕ → List (List ℕ)
@@ -50,24 +51,43 @@ slots-end bs count i h =
     let n : count - i ≡ 0 = omega arith in
     ap (λ (k : ℕ). rowsIn widths k (drop (1 + 29 * i) bs)) n
 
--- what is read after i slots: they are in form, their entries stand in their places, and the others are still to come
+-- what is looked at after i slots: they are in form, so that the others decide
+abbrev pub FormSoFar : List ℕ → ℕ → ℕ → Type 0
+FormSoFar bs count i = allInForm (slotsFrom bs count i) ≡ allInForm (rowsIn widths count (drop 1 bs))
+
+slots-start : (bs : List ℕ) (count : ℕ) → slotsFrom bs count 0 ≡ rowsIn widths count (drop 1 bs)
+slots-start bs count = ap (λ (k : ℕ). rowsIn widths k (drop 1 bs)) (sub-zero count)
+
+pub form-start : (bs : List ℕ) (count : ℕ) → FormSoFar bs count 0
+form-start bs count = ap allInForm (slots-start bs count)
+
+module _ (bs : List ℕ) (count i : ℕ) (s : FormSoFar bs count i) where
+  form-next : (b : Bool) → i < count → inForm (numbersIn widths (drop (1 + 29 * i) bs)) ≡ b → (b && allInForm (slotsFrom bs count (i + 1))) ≡ allInForm (rowsIn widths count (drop 1 bs))
+  unfolding allInForm
+  form-next b h f = sym (ap allInForm (slots-more bs count i h) ∙ ap (λ (t : Bool). t && allInForm (slotsFrom bs count (i + 1))) f) ∙ s
+
+  pub form-more : i < count → inForm (numbersIn widths (drop (1 + 29 * i) bs)) ≡ true → FormSoFar bs count (i + 1)
+  form-more h f = form-next true h f
+
+  -- a slot that is not in form
+  pub form-bad : i < count → inForm (numbersIn widths (drop (1 + 29 * i) bs)) ≡ false → false ≡ allInForm (rowsIn widths count (drop 1 bs))
+  form-bad h f = form-next false h f
+
+  pub form-done : count ≤ i → true ≡ allInForm (rowsIn widths count (drop 1 bs))
+  unfolding allInForm
+  form-done h = sym (ap allInForm (slots-end bs count i h)) ∙ s
+
+-- what is read after i slots: their entries stand in their places, and the others are still to come
 pub record ReadSoFar (bs : List ℕ) (count : ℕ) (es : List Entry) (i : ℕ) : Type 0 where
   pub within : i ≤ count
   pub entries : take i es ++ map entryOf (slotsFrom bs count i) ≡ map entryOf (rowsIn widths count (drop 1 bs))
-  pub form : allInForm (slotsFrom bs count i) ≡ allInForm (rowsIn widths count (drop 1 bs))
 
 pub read-start : (bs : List ℕ) (count : ℕ) (es : List Entry) → ReadSoFar bs count es 0
-read-start bs count es =
-    let e : slotsFrom bs count 0 ≡ rowsIn widths count (drop 1 bs) = ap (λ (k : ℕ). rowsIn widths k (drop 1 bs)) (sub-zero count) in
-    record { within = omega arith; entries = ap (map entryOf) e; form = ap allInForm e }
+read-start bs count es = record { within = omega arith; entries = ap (map entryOf) (slots-start bs count) }
 
 module _ (bs : List ℕ) (count : ℕ) (es : List Entry) (i : ℕ) (s : ReadSoFar bs count es i) where
-  pub read-more : (e : Entry) → i < count → i < length es → inForm (numbersIn widths (drop (1 + 29 * i) bs)) ≡ true → e ≡ entryOf (numbersIn widths (drop (1 + 29 * i) bs))
-      → ReadSoFar bs count (set es i e) (i + 1)
-  unfolding allInForm
-  read-more e h k f p =
-      let ns : List ℕ = numbersIn widths (drop (1 + 29 * i) bs) in
-      let m = slots-more bs count i h in
+  pub read-more : (e : Entry) → i < count → i < length es → e ≡ entryOf (numbersIn widths (drop (1 + 29 * i) bs)) → ReadSoFar bs count (set es i e) (i + 1)
+  read-more e h k p =
       let later : List Entry = map entryOf (slotsFrom bs count (i + 1)) in
       record {
         within = omega arith;
@@ -75,42 +95,30 @@ module _ (bs : List ℕ) (count : ℕ) (es : List Entry) (i : ℕ) (s : ReadSoFa
             ∙ ap (λ (l : List Entry). l ++ later) (take-suc-set es i e k)
             ∙ append-assoc (take i es) (e ∷ []) later
             ∙ ap (λ (x : Entry). take i es ++ (x ∷ later)) p
-            ∙ ap (λ (r : List (List ℕ)). take i es ++ map entryOf r) (sym m)
+            ∙ ap (λ (r : List (List ℕ)). take i es ++ map entryOf r) (sym (slots-more bs count i h))
             ∙ s .entries;
-        form = sym (ap allInForm m ∙ ap (λ (b : Bool). b && allInForm (slotsFrom bs count (i + 1))) f) ∙ s .form;
       }
 
-  -- a slot that is not in form: no table
-  pub read-bad : i < count → inForm (numbersIn widths (drop (1 + 29 * i) bs)) ≡ false → seen false [] ≡ slotsRead (rowsIn widths count (drop 1 bs))
-  unfolding slotsRead allInForm
-  read-bad h f =
-      let m = slots-more bs count i h in
-      let a : allInForm (rowsIn widths count (drop 1 bs)) ≡ false = sym (s .form) ∙ ap allInForm m ∙ ap (λ (b : Bool). b && allInForm (slotsFrom bs count (i + 1))) f in
-      ap (λ (b : Bool). cond b (seen true (map entryOf (rowsIn widths count (drop 1 bs)))) (seen false [])) (sym a)
-
   -- all are read
-  pub read-done : count ≤ i → _≡_ {A = Reading} (record { known = true; count = count; entries = take count es }) (slotsRead (rowsIn widths count (drop 1 bs)))
-  unfolding slotsRead allInForm
+  pub read-done : count ≤ i → _≡_ {A = Reading} (record { known = true; count = count; entries = take count es }) (seen true (map entryOf (rowsIn widths count (drop 1 bs))))
   read-done h =
       let z = slots-end bs count i h in
       let q : i ≡ count = omega (arith, s .within) in
       let l : List Entry = map entryOf (rowsIn widths count (drop 1 bs)) in
-      let a : allInForm (rowsIn widths count (drop 1 bs)) ≡ true = sym (s .form) ∙ ap allInForm z in
       let b : take count es ≡ l = ap (λ (j : ℕ). take j es) (sym q) ∙ sym (append-nil (take i es)) ∙ ap (λ (r : List (List ℕ)). take i es ++ map entryOf r) (sym z) ∙ s .entries in
       let n : count ≡ length l = sym (length-map (rowsIn widths count (drop 1 bs)) entryOf ∙ length-rowsIn widths count (drop 1 bs)) in
-      (λ j. record { known = true; count = n j; entries = b j })
-      ∙ ap (λ (t : Bool). cond t (seen true l) (seen false [])) (sym a)
+      λ j. record { known = true; count = n j; entries = b j }
 
 -- ---- the tests before
 
 module _ (bs : List ℕ) where
-  pub not-sized : (length bs ≡ 465 → ⊥) → seen false [] ≡ readT 16 bs
-  unfolding readT isTable
+  pub not-sized : (length bs ≡ 465 → ⊥) → false ≡ isTable 16 bs
+  unfolding isTable
   not-sized h = sym (rw (table-size, ne-eqb (length bs) 465 h))
 
   module _ (n : length bs ≡ 465) where
-    pub not-counted : 16 < countIn bs → seen false [] ≡ readT 16 bs
-    unfolding readT isTable
+    pub not-counted : 16 < countIn bs → false ≡ isTable 16 bs
+    unfolding isTable
     not-counted h = sym (rw (table-size, eq-eqb (length bs) 465 n, lt-leb (countIn bs) 16 h))
 
     module _ (k : countIn bs ≤ 16) (z : Bool) (ez : z ≡ allZero (drop (1 + 29 * countIn bs) bs)) where
@@ -122,17 +130,25 @@ module _ (bs : List ℕ) where
       unfolding isTable
       so-far = rw (table-size, eq-eqb (length bs) 465 n, le-leb (countIn bs) 16 k, behind)
 
-      pub not-ended : z ≡ false → seen false [] ≡ readT 16 bs
-      unfolding readT
-      not-ended f =
-          let e : isTable 16 bs ≡ false = so-far ∙ ap (λ (b : Bool). allInForm (slotsIn bs) && b) f ∙ and-false (allInForm (slotsIn bs)) in
-          ap (λ (b : Bool). cond b (seen true (tableIn bs)) (seen false [])) (sym e)
+      pub not-ended : z ≡ false → false ≡ isTable 16 bs
+      not-ended f = sym (so-far ∙ ap (λ (b : Bool). allInForm (slotsIn bs) && b) f ∙ and-false (allInForm (slotsIn bs)))
 
-      pub by-slots : z ≡ true → slotsRead (rowsIn widths (countIn bs) (drop 1 bs)) ≡ readT 16 bs
-      unfolding readT slotsRead slotsIn tableIn
-      by-slots f =
-          let e : isTable 16 bs ≡ allInForm (slotsIn bs) = so-far ∙ ap (λ (b : Bool). allInForm (slotsIn bs) && b) f ∙ and-true (allInForm (slotsIn bs)) in
-          ap (λ (b : Bool). cond b (seen true (tableIn bs)) (seen false [])) (sym e)
+      pub by-slots : z ≡ true → allInForm (rowsIn widths (countIn bs) (drop 1 bs)) ≡ isTable 16 bs
+      unfolding slotsIn
+      by-slots f = sym (so-far ∙ ap (λ (b : Bool). allInForm (slotsIn bs) && b) f ∙ and-true (allInForm (slotsIn bs)))
+
+  -- how long a table is
+  pub known-size : isTable 16 bs ≡ true → length bs ≡ 465
+  known-size f = the-conditions 16 bs f .size ∙ table-size
+
+  -- the table, by the test
+  pub read-none : isTable 16 bs ≡ false → seen false [] ≡ readT 16 bs
+  unfolding readT
+  read-none f = ap (λ (b : Bool). cond b (seen true (tableIn bs)) (seen false [])) (sym f)
+
+  pub read-all : isTable 16 bs ≡ true → seen true (map entryOf (rowsIn widths (countIn bs) (drop 1 bs))) ≡ readT 16 bs
+  unfolding readT slotsIn tableIn
+  read-all f = ap (λ (b : Bool). cond b (seen true (tableIn bs)) (seen false [])) (sym f)
 
 -- ---- writing the slots
 

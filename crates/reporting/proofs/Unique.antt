@@ -23,7 +23,7 @@ use Rattle.reporting.specs.declared.table.Length.the-variants as LengthV
 use Rattle.reporting.specs.Table.{room, Table, sound, bad, live, tableOf, Alike, ChangeTold, changeTold, ReportTold, reportTold, SettingTold, settingTold, LengthTold, lengthTold, Outcome, outcome}
 use Rattle.reporting.specs.Table.{configureT, clearT, markT, configurationT, askT, lengthT}
 use Rattle.reporting.specs.Carried.{widths, rowsIn, entryOf, countIn, slotsIn, tableIn, isTable, seen, Reading, readT, Written}
-use Rattle.reporting.specs.Unique.{ReadTableOnce, WriteTableOnce, DistanceOnce, IsOnce, MovedByOnce, RipeOnce, FreshOnce, IsOfOnce, EntryMarkOnce}
+use Rattle.reporting.specs.Unique.{IsTableOnce, ReadTableOnce, WriteTableOnce, DistanceOnce, IsOnce, MovedByOnce, RipeOnce, FreshOnce, IsOfOnce, EntryMarkOnce}
 use Rattle.reporting.specs.Unique.{DueOnce, NewOnce, ConfigureOnce, ClearOnce, ReportingTableMarkOnce, ConfigurationOnce, AskOnce, LenOnce}
 use Rattle.reporting.proofs.Carriage.{length-rowsIn}
 use Rattle.reporting.proofs.CarriageTable.{the-conditions}
@@ -150,6 +150,9 @@ read-within limit bs = go (isTable limit bs) refl
     go false h = omega arith
 
 -- src/carried.rt
+
+pub is-table-once : IsTableOnce
+is-table-once bytes r q e f = e ∙ sym f
 
 pub read-table-once : ReadTableOnce
 read-table-once bytes r q e f =

@@ -142,10 +142,6 @@ reading r = record { known = r .known; count = r .table .count; entries = take (
 abbrev pub seen : Bool → List Entry → Reading
 seen known l = record { known = known; count = length l; entries = l }
 
--- slots that are all in form as a table
-unfoldable pub slotsRead : List (List ℕ) → Reading
-slotsRead rows = cond (allInForm rows) (seen true (map entryOf rows)) (seen false [])
-
 -- the table that the bytes are; where they are none, the empty one
 unfoldable pub readT : ℕ → List ℕ → Reading
 readT limit bs = cond (isTable limit bs) (seen true (tableIn bs)) (seen false [])

@@ -18,9 +18,12 @@ use Rattle.reporting.specs.Table.{room, tableOf, Alike, reportTold, sett
 use Rattle.reporting.specs.Table.{holding, configureT, clearT, markT, configurationT, askT, lengthT}
 use Rattle.reporting.specs.Entries.{same, matches, fresh, markE}
 use Rattle.reporting.specs.Due.{dist, movedBy, ripe, dueE}
-use Rattle.reporting.specs.Carried.{reading, readT, written, writeT}
+use Rattle.reporting.specs.Carried.{isTable, reading, readT, written, writeT}
 
 -- src/carried.rt
+abbrev pub IsTableOnce : Type 0
+IsTableOnce = (bytes : List ℕ) (r q : Bool) → r ≡ isTable 16 bytes → q ≡ isTable 16 bytes → r ≡ q
+
 abbrev pub ReadTableOnce : Type 0
 ReadTableOnce =
     (bytes : List ℕ) (r q : ReadTable)

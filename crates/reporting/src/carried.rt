@@ -1,13 +1,13 @@
 // The reporting table as bytes that a caller lends: docs/TABLE.md has the layout. Bytes in any other form are no table.
 ghost use mathlib.Core.Path.{_≡_};
-ghost use mathlib.Core.List.{[]};
-ghost use mathlib.Core.Bool.{false};
+ghost use mathlib.Core.List.{[], map};
+ghost use mathlib.Core.Bool.{true, false};
 ghost use Prim.Native.Nat.{ℕ, _+_, _^_, _≤_};
 ghost use lib.ListN.{length, drop};
 ghost use lib.Seq.{sets};
 ghost use Rattle.types.specs.Number.{allZero, residue};
-ghost use Rattle.reporting.specs.Carried.{widths, laid, numbersIn, rowsIn, told, numbersOf, entryOf, inForm};
-ghost use Rattle.reporting.specs.Carried.{reading, seen, slotsRead, readT, written, writeT};
+ghost use Rattle.reporting.specs.Carried.{widths, laid, numbersIn, rowsIn, told, numbersOf, entryOf, inForm, allInForm};
+ghost use Rattle.reporting.specs.Carried.{isTable, reading, seen, readT, written, writeT};
 use super::entry::Entry;
 use super::entry::Key;
 use super::entry::ReportingConfig;
@@ -66,21 +66,51 @@ fn zero_from(bytes: &[u8], from: usize) -> bool
     all_zero(&bytes[from..])
 }
 
-// Whether the slot at `at` is in its one form.
+// Whether the slot at `at` is in its one form. The window of time and value has a fixed length, so that no loop is left of it.
 fn slot_in_form(bytes: &[u8], at: usize) -> bool
     requires { ⌜ at + 29 ≤ length (now bytes) ⌝ }
     ensures { λ r. ⌜ r ≡ inForm (numbersIn widths (drop at (now (bytes .entry)))) ⌝ }
 {
-    let flag = byte_at(bytes, at + 16);
+    let flag = bytes[at + 16];
     if 1 < flag {
         return false;
     }
     if flag == 1 {
         return true;
     }
-    let time = unsigned_at(bytes, at + 17, 4);
-    let value = unsigned_at(bytes, at + 21, 8);
-    time == 0 && value == 0
+    all_zero(&bytes[at + 17..at + 29])
+}
+
+// Whether the first `count` slots are in their one form.
+fn slots_in_form(bytes: &[u8], count: usize) -> bool
+    requires { ⌜ (count ≤ 16) × (465 ≤ length (now bytes)) ⌝ }
+    ensures { λ r. ⌜ r ≡ allInForm (rowsIn widths count (drop 1 (now (bytes .entry)))) ⌝ }
+{
+    let mut i = 0;
+    while i < count {
+        if !slot_in_form(bytes, 1 + SLOT * i) {
+            return false;
+        }
+        i += 1;
+    }
+    true
+}
+
+// Whether the bytes are a table.
+pub fn is_table(bytes: &[u8]) -> bool
+    ensures { λ r. ⌜ r ≡ isTable 16 (now (bytes .entry)) ⌝ }
+{
+    if bytes.len() != TABLE_BYTES {
+        return false;
+    }
+    let count = bytes[0] as usize;
+    if LIMIT < count {
+        return false;
+    }
+    if !zero_from(bytes, 1 + SLOT * count) {
+        return false;
+    }
+    slots_in_form(bytes, count)
 }
 
 // The entry of the slot at `at`.
@@ -149,19 +179,15 @@ fn unknown() -> ReadTable
     }
 }
 
-// The table of the first `count` slots, if each is in its one form.
+// The table of the first `count` slots.
 fn read_slots(bytes: &[u8], count: usize) -> ReadTable
     requires { ⌜ (count ≤ 16) × (465 ≤ length (now bytes)) ⌝ }
-    ensures { λ r. ⌜ reading r ≡ slotsRead (rowsIn widths count (drop 1 (now (bytes .entry)))) ⌝ }
+    ensures { λ r. ⌜ reading r ≡ seen true (map entryOf (rowsIn widths count (drop 1 (now (bytes .entry))))) ⌝ }
 {
     let mut table = empty();
     let mut i = 0;
     while i < count {
-        let at = 1 + SLOT * i;
-        if !slot_in_form(bytes, at) {
-            return unknown();
-        }
-        table.entries[i] = read_slot(bytes, at);
+        table.entries[i] = read_slot(bytes, 1 + SLOT * i);
         i += 1;
     }
     table.count = count;
@@ -172,16 +198,10 @@ fn read_slots(bytes: &[u8], count: usize) -> ReadTable
 pub fn read_table(bytes: &[u8]) -> ReadTable
     ensures { λ r. ⌜ reading r ≡ readT 16 (now (bytes .entry)) ⌝ }
 {
-    if bytes.len() != TABLE_BYTES {
+    if !is_table(bytes) {
         return unknown();
     }
     let count = bytes[0] as usize;
-    if LIMIT < count {
-        return unknown();
-    }
-    if !zero_from(bytes, 1 + SLOT * count) {
-        return unknown();
-    }
     read_slots(bytes, count)
 }
 

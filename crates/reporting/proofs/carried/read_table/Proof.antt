@@ -1,70 +1,50 @@
--- The conditions of a table, each test giving the definition's Bool. Assumes nothing.
+-- The entries below the count of bytes that are a table. Assumes nothing.
 use borrow.Author.Needs.{needs}
 use native.Mathlib.Omega.{arith}
-use mathlib.Core.Path.{_∙_}
+use mathlib.Core.Path.{_≡_, sym, _∙_}
+use mathlib.Core.Bool.{true}
 use borrow.Author.Tests.{not-true, not-false}
 use denote.Ref.{now}
-use Rattle.reporting.proofs.CarriageLoops.{not-sized, not-counted, not-ended, by-slots}
+use Rattle.reporting.specs.Carried.{isTable}
+use Rattle.reporting.proofs.CarriageTable.{the-conditions}
+use Rattle.reporting.proofs.CarriageLoops.{known-size, read-none, read-all}
 use Rattle.reporting.proofs.carried.read_table.Statement.{statement}
 use Rattle.reporting.proofs.carried.read_table.Tie as tie
+
+known : (c : tie.Else1) → isTable 16 (now (c .before .before .before .args .bytes)) ≡ true
+known c = sym (c .before .is-table .ensures) ∙ not-false _ (c .if1 .left)
+
+is-table-requires : tie.Need-is-table-requires
+is-table-requires c κs = search needs
 
 unknown-requires : tie.Need-unknown-requires
 unknown-requires c κs = search needs
 
 returns : tie.Need-returns
-returns c = c .unknown .ensures ∙ not-sized (now (c .before .before .before .args .bytes)) (c .before .if1 .taken)
+returns c = c .unknown .ensures ∙ read-none (now (c .before .before .before .before .args .bytes)) (sym (c .before .before .is-table .ensures) ∙ not-true _ (c .before .if1 .taken))
 
 shared-slice-read-count : tie.Need-shared-slice-read-count
-shared-slice-read-count c = search needs
+shared-slice-read-count c = omega (arith, known-size (now (c .before .before .before .before .args .bytes)) (known (c .before)))
 
 cast-count : tie.Need-cast-count
 cast-count c = omega (arith, c .shared-slice-known2 .given 0)
 
-unknown-requires-2 : tie.Need-unknown-requires-2
-unknown-requires-2 c κs = search needs
+read-slots-requires : tie.Need-read-slots-requires
+read-slots-requires c κs =
+    let k = known (c .before) in
+    (the-conditions 16 (now (c .before .before .before .before .args .bytes)) k .count, omega (arith, known-size (now (c .before .before .before .before .args .bytes)) k))
 
 returns-2 : tie.Need-returns-2
-returns-2 c = c .unknown2 .ensures ∙ not-counted (now (c .before .before .before .before .before .args .bytes)) (c .before .before .before .if1 .left) (c .before .if2 .taken)
-
-mul-zero-from : tie.Need-mul-zero-from
-mul-zero-from c = search needs
-
-add-zero-from : tie.Need-add-zero-from
-add-zero-from c = search needs
-
-zero-from-requires : tie.Need-zero-from-requires
-zero-from-requires c κs = search needs
-
-unknown-requires-3 : tie.Need-unknown-requires-3
-unknown-requires-3 c κs = search needs
-
-returns-3 : tie.Need-returns-3
-returns-3 c =
-    let z = c .before .before .zero-from in
-    c .unknown3 .ensures ∙ not-ended (now (c .before .before .before .before .before .before .before .args .bytes)) (c .before .before .before .before .before .if1 .left) (c .before .before .before .if2 .left) (z .result) (z .ensures) (not-true (z .result) (c .before .if3 .taken))
-
-read-slots-requires : tie.Need-read-slots-requires
-read-slots-requires c κs = search needs
-
-returns-4 : tie.Need-returns-4
-returns-4 c =
-    let z = c .before .before .zero-from in
-    c .read-slots .ensures ∙ by-slots (now (c .before .before .before .before .before .before .before .args .bytes)) (c .before .before .before .before .before .if1 .left) (c .before .before .before .if2 .left) (z .result) (z .ensures) (not-false (z .result) (c .before .if3 .left))
+returns-2 c = c .read-slots .ensures ∙ read-all (now (c .before .before .before .before .before .args .bytes)) (known (c .before .before))
 
 pub read-table-spec : {M : Type 1} → statement M
 read-table-spec =
     tie.close
     (tie.spec
+    is-table-requires
     unknown-requires
     returns
     shared-slice-read-count
     cast-count
-    unknown-requires-2
-    returns-2
-    mul-zero-from
-    add-zero-from
-    zero-from-requires
-    unknown-requires-3
-    returns-3
     read-slots-requires
-    returns-4)
+    returns-2)
