@@ -22,11 +22,11 @@ use Rattle.reporting.proofs.CarriageTable.{the-conditions}
 pub length-mapped : {X Y : Type 0} (f : X → Y) (l : List X) (n : ℕ) → length (map f l) ≡ n → length l ≡ n
 length-mapped f l n p = sym (length-map l f) ∙ p
 
-slot-size : total widths ≡ 29
+pub slot-size : total widths ≡ 29
 unfolding total
 slot-size = refl
 
-table-size : tableSize 16 ≡ 465
+pub table-size : tableSize 16 ≡ 465
 unfolding total
 table-size = refl
 
@@ -36,7 +36,7 @@ table-size = refl
 abbrev pub slotsFrom : List ℕ → ℕ → ℕ → List (List ℕ)
 slotsFrom bs count i = rowsIn widths (count - i) (drop (1 + 29 * i) bs)
 
-slots-more : (bs : List ℕ) (count i : ℕ) → i < count → slotsFrom bs count i ≡ numbersIn widths (drop (1 + 29 * i) bs) ∷ slotsFrom bs count (i + 1)
+pub slots-more : (bs : List ℕ) (count i : ℕ) → i < count → slotsFrom bs count i ≡ numbersIn widths (drop (1 + 29 * i) bs) ∷ slotsFrom bs count (i + 1)
 unfolding rowsIn
 slots-more bs count i h =
     let n : count - i ≡ suc (count - (i + 1)) = omega arith in
@@ -45,7 +45,7 @@ slots-more bs count i h =
     ∙ ap (λ (l : List ℕ). numbersIn widths (drop (1 + 29 * i) bs) ∷ rowsIn widths (count - (i + 1)) l)
     (drop-drop (total widths) (1 + 29 * i) bs ∙ ap (λ (k : ℕ). drop k bs) p)
 
-slots-end : (bs : List ℕ) (count i : ℕ) → count ≤ i → slotsFrom bs count i ≡ []
+pub slots-end : (bs : List ℕ) (count i : ℕ) → count ≤ i → slotsFrom bs count i ≡ []
 unfolding rowsIn
 slots-end bs count i h =
     let n : count - i ≡ 0 = omega arith in
@@ -55,7 +55,7 @@ slots-end bs count i h =
 abbrev pub FormSoFar : List ℕ → ℕ → ℕ → Type 0
 FormSoFar bs count i = allInForm (slotsFrom bs count i) ≡ allInForm (rowsIn widths count (drop 1 bs))
 
-slots-start : (bs : List ℕ) (count : ℕ) → slotsFrom bs count 0 ≡ rowsIn widths count (drop 1 bs)
+pub slots-start : (bs : List ℕ) (count : ℕ) → slotsFrom bs count 0 ≡ rowsIn widths count (drop 1 bs)
 slots-start bs count = ap (λ (k : ℕ). rowsIn widths k (drop 1 bs)) (sub-zero count)
 
 pub form-start : (bs : List ℕ) (count : ℕ) → FormSoFar bs count 0
@@ -137,9 +137,12 @@ module _ (bs : List ℕ) where
       unfolding slotsIn
       by-slots f = sym (so-far ∙ ap (λ (b : Bool). allInForm (slotsIn bs) && b) f ∙ and-true (allInForm (slotsIn bs)))
 
-  -- how long a table is
+  -- how long a table is, and how many slots it has
   pub known-size : isTable 16 bs ≡ true → length bs ≡ 465
   known-size f = the-conditions 16 bs f .size ∙ table-size
+
+  pub known-count : isTable 16 bs ≡ true → countIn bs ≤ 16
+  known-count f = the-conditions 16 bs f .count
 
   -- the table, by the test
   pub read-none : isTable 16 bs ≡ false → seen false [] ≡ readT 16 bs

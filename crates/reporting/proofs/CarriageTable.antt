@@ -113,12 +113,12 @@ the-conditions limit bs t =
     let c = both (allInForm (slotsIn bs)) (endsInZeros bs) (b .1) in
     record { size = eqb-true _ _ (a .0); count = leb-true _ _ (b .0); slots = c .0; behind = c .1 }
 
-module _ (limit : ℕ) (bs : List ℕ) (h : AllBytes bs) (t : isTable limit bs ≡ true) where
-  -- the table has as many entries as the count says
-  pub table-count : length (tableIn bs) ≡ countIn bs
-  unfolding tableIn slotsIn
-  table-count = length-map (rowsIn widths (countIn bs) (drop 1 bs)) entryOf ∙ length-rowsIn widths (countIn bs) (drop 1 bs)
+-- there are as many entries as the count says
+pub table-count : (bs : List ℕ) → length (tableIn bs) ≡ countIn bs
+unfolding tableIn slotsIn
+table-count bs = length-map (rowsIn widths (countIn bs) (drop 1 bs)) entryOf ∙ length-rowsIn widths (countIn bs) (drop 1 bs)
 
+module _ (limit : ℕ) (bs : List ℕ) (h : AllBytes bs) (t : isTable limit bs ≡ true) where
   fits : 1 + countIn bs * total widths ≤ length bs
   fits =
       let c = the-conditions limit bs t in
@@ -146,7 +146,7 @@ module _ (limit : ℕ) (bs : List ℕ) (h : AllBytes bs) (t : isTable limit bs �
   unfolding tableBytes padded
   laid-back =
       let u : List ℕ = take (countIn bs * total widths) (drop 1 bs) in
-      ap (λ (k : ℕ). k ∷ (rowsLaid widths (map numbersOf (tableIn bs)) ++ zeros (tableSize limit - suc (length (rowsLaid widths (map numbersOf (tableIn bs))))))) table-count
+      ap (λ (k : ℕ). k ∷ (rowsLaid widths (map numbersOf (tableIn bs)) ++ zeros (tableSize limit - suc (length (rowsLaid widths (map numbersOf (tableIn bs))))))) (table-count bs)
       ∙ ap (λ (r : List ℕ). countIn bs ∷ (r ++ zeros (tableSize limit - suc (length r)))) used-laid
       ∙ ap (λ (r : List ℕ). countIn bs ∷ (u ++ r)) zeros-behind
       ∙ ap (λ (r : List ℕ). countIn bs ∷ r) (take-append-drop (countIn bs * total widths) (drop 1 bs))

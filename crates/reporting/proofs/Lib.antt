@@ -22,5 +22,7 @@ pub mod CarriageTable
 pub mod CarriageCode
 -- the loops over the slots, and the tests before them
 pub mod CarriageLoops
+-- the operations on the table's bytes
+pub mod Lending
 -- examples that compute
 pub mod CarriageWorked

@@ -5,7 +5,6 @@ use mathlib.Core.Bool.{Bool, true, false, cond, true≢false, false≢true}
 use mathlib.Core.List.{List, []}
 use Prim.Native.Nat.{ℕ, _≤_}
 use native.Mathlib.Omega.{arith}
-use lib.ListN.{length, drop, length-map}
 use lib.Dec.{ltb}
 use borrow.Author.Tests.{lt-ltb}
 use Rattle.frame.proofs.Codes.{refusal-same, refusal-nonzero}
@@ -22,11 +21,11 @@ use Rattle.reporting.specs.declared.table.Length.{Length}
 use Rattle.reporting.specs.declared.table.Length.the-variants as LengthV
 use Rattle.reporting.specs.Table.{room, Table, sound, bad, live, tableOf, Alike, ChangeTold, changeTold, ReportTold, reportTold, SettingTold, settingTold, LengthTold, lengthTold, Outcome, outcome}
 use Rattle.reporting.specs.Table.{configureT, clearT, markT, configurationT, askT, lengthT}
-use Rattle.reporting.specs.Carried.{widths, rowsIn, entryOf, countIn, slotsIn, tableIn, isTable, seen, Reading, readT, Written}
+use Rattle.reporting.specs.Carried.{tableIn, isTable, seen, Reading, readT, Written}
+use Rattle.reporting.specs.Lent.{askLent, configurationLent}
 use Rattle.reporting.specs.Unique.{IsTableOnce, ReadTableOnce, WriteTableOnce, DistanceOnce, IsOnce, MovedByOnce, RipeOnce, FreshOnce, IsOfOnce, EntryMarkOnce}
-use Rattle.reporting.specs.Unique.{DueOnce, NewOnce, ConfigureOnce, ClearOnce, ReportingTableMarkOnce, ConfigurationOnce, AskOnce, LenOnce}
-use Rattle.reporting.proofs.Carriage.{length-rowsIn}
-use Rattle.reporting.proofs.CarriageTable.{the-conditions}
+use Rattle.reporting.specs.Unique.{DueOnce, AskLentOnce, ConfigurationLentOnce, NewOnce, ConfigureOnce, ClearOnce, ReportingTableMarkOnce, ConfigurationOnce, AskOnce, LenOnce}
+use Rattle.reporting.proofs.CarriageTable.{the-conditions, table-count}
 
 -- ---- answers
 
@@ -136,17 +135,13 @@ one-length o r s p q = length-same r s (p ∙ sym q)
 
 -- ---- tables read from bytes
 
-length-read : (bs : List ℕ) → length (tableIn bs) ≡ countIn bs
-unfolding tableIn slotsIn
-length-read bs = length-map (rowsIn widths (countIn bs) (drop 1 bs)) entryOf ∙ length-rowsIn widths (countIn bs) (drop 1 bs)
-
 -- whatever the bytes are, no more entries than the limit are read from them
 pub read-within : (limit : ℕ) (bs : List ℕ) → readT limit bs .count ≤ limit
 unfolding readT
 read-within limit bs = go (isTable limit bs) refl
   where
     go : (b : Bool) → isTable limit bs ≡ b → cond b (seen true (tableIn bs)) (seen false []) .count ≤ limit
-    go true h = omega (arith, length-read bs, the-conditions limit bs h .count)
+    go true h = omega (arith, table-count bs, the-conditions limit bs h .count)
     go false h = omega arith
 
 -- src/carried.rt
@@ -196,6 +191,14 @@ entry-mark-once self now value r q e f = e ∙ sym f
 
 pub due-once : DueOnce
 due-once self now value r q e f = e ∙ sym f
+
+-- src/lent.rt
+
+pub ask-lent-once : AskLentOnce
+ask-lent-once bytes key now value r q e f = one-report (askLent key now value bytes) r q e f
+
+pub configuration-lent-once : ConfigurationLentOnce
+configuration-lent-once bytes key r q e f = one-setting (configurationLent key bytes) r q e f
 
 -- src/table.rt
 

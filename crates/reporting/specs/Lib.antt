@@ -7,4 +7,5 @@ pub mod Demand3
 pub mod Log
 pub mod Carried
 pub mod OneForm  -- table to bytes and back, and bytes to table and back
+pub mod Lent
 pub mod Unique  -- no second answer fits a contract

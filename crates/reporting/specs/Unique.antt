@@ -19,6 +19,7 @@ use Rattle.reporting.specs.Table.{holding, configureT, clearT, markT, co
 use Rattle.reporting.specs.Entries.{same, matches, fresh, markE}
 use Rattle.reporting.specs.Due.{dist, movedBy, ripe, dueE}
 use Rattle.reporting.specs.Carried.{isTable, reading, readT, written, writeT}
+use Rattle.reporting.specs.Lent.{askLent, configurationLent}
 
 -- src/carried.rt
 abbrev pub IsTableOnce : Type 0
@@ -63,6 +64,21 @@ EntryMarkOnce = (self : Entry) (now : ℕ) (value : ℤ) (r q : Entry) → r ≡
 
 abbrev pub DueOnce : Type 0
 DueOnce = (self : Entry) (now : ℕ) (value : ℤ) (r q : Bool) → r ≡ dueE self now value → q ≡ dueE self now value → r ≡ q
+
+-- src/lent.rt
+abbrev pub AskLentOnce : Type 0
+AskLentOnce =
+    (bytes : List ℕ) (key : Key) (now : ℕ) (value : ℤ) (r q : Report)
+    → reportTold r ≡ askLent key now value bytes
+    → reportTold q ≡ askLent key now value bytes
+    → r ≡ q
+
+abbrev pub ConfigurationLentOnce : Type 0
+ConfigurationLentOnce =
+    (bytes : List ℕ) (key : Key) (r q : Setting)
+    → settingTold r ≡ configurationLent key bytes
+    → settingTold q ≡ configurationLent key bytes
+    → r ≡ q
 
 -- src/table.rt
 abbrev pub NewOnce : Type 0

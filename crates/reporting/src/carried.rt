@@ -25,7 +25,7 @@ use types::number::unsigned_at;
 const LIMIT: usize = 16;
 
 // The bytes of one entry.
-const SLOT: usize = 29;
+pub(crate) const SLOT: usize = 29;
 
 // The count's byte, and the slots.
 pub const TABLE_BYTES: usize = 465;
@@ -114,7 +114,7 @@ pub fn is_table(bytes: &[u8]) -> bool
 }
 
 // The entry of the slot at `at`.
-fn read_slot(bytes: &[u8], at: usize) -> Entry
+pub(crate) fn read_slot(bytes: &[u8], at: usize) -> Entry
     requires { ⌜ at + 29 ≤ length (now bytes) ⌝ }
     ensures { λ r. ⌜ r ≡ entryOf (numbersIn widths (drop at (now (bytes .entry)))) ⌝ }
 {

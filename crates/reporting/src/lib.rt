@@ -3,4 +3,5 @@
 pub mod carried;
 pub mod distance;
 pub mod entry;
+pub mod lent;
 pub mod table;

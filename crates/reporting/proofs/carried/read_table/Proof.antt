@@ -6,8 +6,7 @@ use mathlib.Core.Bool.{true}
 use borrow.Author.Tests.{not-true, not-false}
 use denote.Ref.{now}
 use Rattle.reporting.specs.Carried.{isTable}
-use Rattle.reporting.proofs.CarriageTable.{the-conditions}
-use Rattle.reporting.proofs.CarriageLoops.{known-size, read-none, read-all}
+use Rattle.reporting.proofs.CarriageLoops.{known-size, known-count, read-none, read-all}
 use Rattle.reporting.proofs.carried.read_table.Statement.{statement}
 use Rattle.reporting.proofs.carried.read_table.Tie as tie
 
@@ -32,7 +31,7 @@ cast-count c = omega (arith, c .shared-slice-known2 .given 0)
 read-slots-requires : tie.Need-read-slots-requires
 read-slots-requires c κs =
     let k = known (c .before) in
-    (the-conditions 16 (now (c .before .before .before .before .args .bytes)) k .count, omega (arith, known-size (now (c .before .before .before .before .args .bytes)) k))
+    (known-count (now (c .before .before .before .before .args .bytes)) k, omega (arith, known-size (now (c .before .before .before .before .args .bytes)) k))
 
 returns-2 : tie.Need-returns-2
 returns-2 c = c .read-slots .ensures ∙ read-all (now (c .before .before .before .before .before .args .bytes)) (known (c .before .before))

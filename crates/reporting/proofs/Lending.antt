@@ -1,0 +1,145 @@
+-- What the operations on a table's bytes find, and what they then say. Assumes nothing.
+use Prim.Native.Nat.{ℕ, zero, suc, _+_, _*_, _≤_, _<_}
+use mathlib.Core.Path.{_≡_, refl, ap, sym, _∙_}
+use mathlib.Core.Bool.{Bool, true, false, cond, _&&_}
+use mathlib.Core.List.{List, [], _∷_, map}
+use mathlib.Core.Option.{some}
+use native.Mathlib.Omega.{arith}
+use lib.ListN.{length, getD, drop}
+use lib.Seq.{drop-drop}
+use lib.Dec.{eqb}
+use lib.IntN.{ℤ}
+use borrow.Author.Tests.{eq-eqb, ne-eqb}
+use Rattle.types.specs.Number.{unsignedAt}
+use Rattle.frame.specs.declared.answer.Refusal.the-variants.{NotATable}
+use Rattle.reporting.specs.declared.entry.Key.{Key}
+use Rattle.reporting.specs.declared.entry.Entry.{Entry}
+use Rattle.reporting.specs.declared.table.Report.the-variants as ReportV
+use Rattle.reporting.specs.declared.table.Setting.the-variants as SettingV
+use Rattle.reporting.specs.Entries.{matches, findL, lookupL}
+use Rattle.reporting.specs.Due.{dueE, dueO, dueL}
+use Rattle.reporting.specs.Table.{room, ReportTold, reportTold, settingTold, settingO}
+use Rattle.reporting.specs.Carried.{widths, total, numbersIn, rowsIn, entryOf, countIn, slotsIn, tableIn, isTable}
+use Rattle.reporting.specs.Lent.{onLent, askLent, configurationLent}
+use Rattle.reporting.proofs.Places.{lookup-at, lookup-none}
+use Rattle.reporting.proofs.CarriageCode.{entry-at}
+use Rattle.reporting.proofs.CarriageTable.{table-count}
+use Rattle.reporting.proofs.CarriageLoops.{slot-size, slotsFrom, slots-start, slots-more, slots-end}
+
+-- ---- one slot
+
+-- the entry of the i-th slot
+abbrev pub slotEntry : List ℕ → ℕ → Entry
+slotEntry bs i = entryOf (numbersIn widths (drop (1 + 29 * i) bs))
+
+-- a slot is the key's by its first two numbers, c and a
+module _ (bs : List ℕ) (at : ℕ) (k : Key) (c a : ℕ) (ec : c ≡ unsignedAt bs at 2) (ea : a ≡ unsignedAt bs (at + 2) 2) where
+  key-at : matches k (entryOf (numbersIn widths (drop at bs))) ≡ (eqb c (k .cluster .0) && eqb a (k .attribute .0))
+  key-at = ap (matches k) (entry-at bs at) ∙ (λ i. eqb (sym ec i) (k .cluster .0) && eqb (sym ea i) (k .attribute .0))
+
+  pub key-first : c ≡ k .cluster .0 → eqb a (k .attribute .0) ≡ matches k (entryOf (numbersIn widths (drop at bs)))
+  key-first h = sym (key-at ∙ ap (λ (b : Bool). b && eqb a (k .attribute .0)) (eq-eqb c (k .cluster .0) h))
+
+  pub key-not : (c ≡ k .cluster .0 → ⊥) → eqb c (k .cluster .0) ≡ matches k (entryOf (numbersIn widths (drop at bs)))
+  key-not h = ne-eqb c (k .cluster .0) h ∙ sym (key-at ∙ ap (λ (b : Bool). b && eqb a (k .attribute .0)) (ne-eqb c (k .cluster .0) h))
+
+nth-row : (n : ℕ) (bs : List ℕ) (i : ℕ) (d : Entry) → i < n → getD (map entryOf (rowsIn widths n bs)) i d ≡ entryOf (numbersIn widths (drop (29 * i) bs))
+unfolding rowsIn
+nth-row zero bs i d h = absurd (omega arith)
+nth-row (suc n) bs zero d h = refl
+nth-row (suc n) bs (suc i) d h =
+    let e : total widths + 29 * i ≡ 29 * suc i = omega (arith, slot-size) in
+    nth-row n (drop (total widths) bs) i d (omega arith)
+    ∙ ap (λ (l : List ℕ). entryOf (numbersIn widths l)) (drop-drop (29 * i) (total widths) bs ∙ ap (λ (p : ℕ). drop p bs) e)
+
+-- the i-th entry of a table is that of the i-th slot
+pub nth-entry : (bs : List ℕ) (i : ℕ) (d : Entry) → i < countIn bs → getD (tableIn bs) i d ≡ slotEntry bs i
+unfolding tableIn slotsIn
+nth-entry bs i d h = nth-row (countIn bs) (drop 1 bs) i d h ∙ ap (λ (l : List ℕ). entryOf (numbersIn widths l)) (drop-drop (29 * i) 1 bs)
+
+-- ---- the scan
+
+-- the scan has passed i slots, none of them the key's
+pub record Passed (k : Key) (bs : List ℕ) (i : ℕ) : Type 0 where
+  pub within : i ≤ countIn bs
+  pub rest : findL k (tableIn bs) ≡ i + findL k (map entryOf (slotsFrom bs (countIn bs) i))
+
+pub passed-none : (k : Key) (bs : List ℕ) → Passed k bs 0
+unfolding tableIn slotsIn
+passed-none k bs =
+    let e = ap (λ (r : List (List ℕ)). findL k (map entryOf r)) (slots-start bs (countIn bs)) in
+    record { within = omega arith; rest = omega (arith, e) }
+
+module _ (k : Key) (bs : List ℕ) (i : ℕ) (s : Passed k bs i) where
+  pub passed-all : countIn bs ≤ i → countIn bs ≡ findL k (tableIn bs)
+  passed-all h = omega (arith, s .within, s .rest, ap (λ (r : List (List ℕ)). findL k (map entryOf r)) (slots-end bs (countIn bs) i h))
+
+  next : (b : Bool) → i < countIn bs → matches k (slotEntry bs i) ≡ b → findL k (map entryOf (slotsFrom bs (countIn bs) i)) ≡ cond b 0 (suc (findL k (map entryOf (slotsFrom bs (countIn bs) (i + 1)))))
+  next b h m =
+      ap (λ (r : List (List ℕ)). findL k (map entryOf r)) (slots-more bs (countIn bs) i h)
+      ∙ ap (λ (t : Bool). cond t 0 (suc (findL k (map entryOf (slotsFrom bs (countIn bs) (i + 1)))))) m
+
+  pub passed-here : i < countIn bs → matches k (slotEntry bs i) ≡ true → i ≡ findL k (tableIn bs)
+  passed-here h m = omega (arith, s .rest, next true h m)
+
+  pub passed-more : i < countIn bs → matches k (slotEntry bs i) ≡ false → Passed k bs (i + 1)
+  passed-more h m = record { within = omega arith; rest = omega (arith, s .rest, next false h m) }
+
+-- ---- what is said
+
+module _ (bs : List ℕ) where
+  refused-so : {R : Type 0} (refusal : R) (rest : List Entry → R) → isTable room bs ≡ false → refusal ≡ onLent bs refusal rest
+  unfolding onLent
+  refused-so refusal rest h = ap (λ (b : Bool). cond b (rest (tableIn bs)) refusal) (sym h)
+
+  pub ask-refused : (k : Key) (now : ℕ) (v : ℤ) → isTable room bs ≡ false → reportTold (ReportV.Refused NotATable) ≡ askLent k now v bs
+  unfolding askLent
+  ask-refused k now v h = refused-so _ _ h
+
+  pub setting-refused : (k : Key) → isTable room bs ≡ false → settingTold (SettingV.Refused NotATable) ≡ configurationLent k bs
+  unfolding configurationLent
+  setting-refused k h = refused-so _ _ h
+
+-- in bytes that are a table, the scan for the key k came to `at`
+pub record FoundSlot (bs : List ℕ) (k : Key) (at : ℕ) : Type 0 where
+  pub known : isTable room bs ≡ true
+  pub place : at ≡ findL k (tableIn bs)
+
+module _ {bs : List ℕ} {k : Key} {at : ℕ} (found : FoundSlot bs k at) where
+  pub said-so : {R : Type 0} (refusal : R) (rest : List Entry → R) → rest (tableIn bs) ≡ onLent bs refusal rest
+  unfolding onLent
+  said-so refusal rest = ap (λ (b : Bool). cond b (rest (tableIn bs)) refusal) (sym (found .known))
+
+  pub absent : countIn bs ≤ at → length (tableIn bs) ≤ findL k (tableIn bs)
+  absent h = omega (arith, table-count bs, found .place)
+
+  pub present : at < countIn bs → findL k (tableIn bs) < length (tableIn bs)
+  present h = omega (arith, table-count bs, found .place)
+
+  pub found-entry : (d : Entry) → at < countIn bs → getD (tableIn bs) (findL k (tableIn bs)) d ≡ slotEntry bs at
+  found-entry d h = ap (λ (i : ℕ). getD (tableIn bs) i d) (sym (found .place)) ∙ nth-entry bs at d h
+
+  found-is : at < countIn bs → lookupL k (tableIn bs) ≡ some (slotEntry bs at)
+  found-is h = lookup-at k (tableIn bs) (slotEntry bs at) (present h) ∙ ap some (found-entry (slotEntry bs at) h)
+
+  pub ask-absent : (now : ℕ) (v : ℤ) → countIn bs ≤ at → reportTold ReportV.NotDue ≡ askLent k now v bs
+  unfolding askLent
+  ask-absent now v h =
+      let e : false ≡ dueL k now v (tableIn bs) = sym (ap (λ m. dueO m now v) (lookup-none k (tableIn bs) (absent h))) in
+      ap (λ (x : Bool). record { number = 0; due = x }) e ∙ said-so _ _
+
+  -- A signed argument reaches a callee by its bits, so v′ is v read back.
+  pub ask-is : (e : Entry) (now : ℕ) (v v′ : ℤ) (b : Bool) → e ≡ slotEntry bs at → v′ ≡ v → at < countIn bs → b ≡ dueE e now v′
+      → _≡_ {A = ReportTold} (record { number = 0; due = b }) (askLent k now v bs)
+  unfolding askLent
+  ask-is e now v v′ b ee ev h eb =
+      let d : b ≡ dueL k now v (tableIn bs) = eb ∙ (λ i. dueE (ee i) now (ev i)) ∙ sym (ap (λ m. dueO m now v) (found-is h)) in
+      ap (λ (x : Bool). record { number = 0; due = x }) d ∙ said-so _ _
+
+  pub setting-absent : countIn bs ≤ at → settingTold SettingV.Nothing ≡ configurationLent k bs
+  unfolding configurationLent
+  setting-absent h = sym (ap settingO (lookup-none k (tableIn bs) (absent h))) ∙ said-so _ _
+
+  pub setting-is : (e : Entry) → e ≡ slotEntry bs at → at < countIn bs → settingTold (SettingV.Given (e .config)) ≡ configurationLent k bs
+  unfolding configurationLent
+  setting-is e ee h = ap (λ (x : Entry). settingTold (SettingV.Given (x .config))) ee ∙ sym (ap settingO (found-is h)) ∙ said-so _ _

@@ -1,0 +1,23 @@
+-- The table's operations on the bytes that carry it: what each says, and the bytes afterwards. Bytes that are no table are refused, and stay as they are.
+-- Assumes nothing: these are definitions.
+use mathlib.Core.Bool.{cond}
+use mathlib.Core.List.{List}
+use Prim.Native.Nat.{ℕ}
+use lib.IntN.{ℤ}
+use Rattle.frame.specs.declared.answer.Refusal.the-variants.{NotATable}
+use Rattle.reporting.specs.declared.entry.Key.{Key}
+use Rattle.reporting.specs.declared.entry.Entry.{Entry}
+use Rattle.reporting.specs.declared.table.Report.the-variants as ReportV
+use Rattle.reporting.specs.declared.table.Setting.the-variants as SettingV
+use Rattle.reporting.specs.Table.{room, holding, ReportTold, reportTold, askT, SettingTold, settingTold, configurationT}
+use Rattle.reporting.specs.Carried.{tableIn, isTable}
+
+-- of a table's entries what `rest` says; of other bytes the refusal
+unfoldable pub onLent : {R : Type 0} → List ℕ → R → (List Entry → R) → R
+onLent bs refusal rest = cond (isTable room bs) (rest (tableIn bs)) refusal
+
+unfoldable pub askLent : Key → ℕ → ℤ → List ℕ → ReportTold
+askLent k now v bs = onLent bs (reportTold (ReportV.Refused NotATable)) (λ l. askT k now v (holding l))
+
+unfoldable pub configurationLent : Key → List ℕ → SettingTold
+configurationLent k bs = onLent bs (settingTold (SettingV.Refused NotATable)) (λ l. configurationT k (holding l))

@@ -1,0 +1,92 @@
+// The reporting table's operations on the bytes that carry it. Nothing is read but the slots in question, and nothing is written but what changes.
+// What each says is what the method by value says of the table that the bytes are.
+ghost use mathlib.Core.Path.{_≡_};
+ghost use mathlib.Core.Bool.{true};
+ghost use Prim.Native.Nat.{_+_, _≤_};
+ghost use lib.ListN.{length, drop};
+ghost use Rattle.types.specs.Number.{unsignedAt};
+ghost use Rattle.reporting.specs.Entries.{matches, findL};
+ghost use Rattle.reporting.specs.Table.{room, reportTold, settingTold};
+ghost use Rattle.reporting.specs.Carried.{widths, numbersIn, entryOf, tableIn, isTable};
+ghost use Rattle.reporting.specs.Lent.{askLent, configurationLent};
+use super::carried::SLOT;
+use super::carried::is_table;
+use super::carried::read_slot;
+use super::entry::Key;
+use super::table::Report;
+use super::table::Setting;
+use frame::answer::Refusal;
+
+// The two-byte number at `at`. Not public: both bytes must be there, so that nothing is tested.
+fn u16_in(bytes: &[u8], at: usize) -> u16
+    requires { ⌜ at + 2 ≤ length (now bytes) ⌝ }
+    ensures { λ r. ⌜ r ≡ unsignedAt (now (bytes .entry)) at 2 ⌝ }
+{
+    let low = bytes[at] as u16;
+    let high = bytes[at + 1] as u16;
+    low + 256 * high
+}
+
+// Whether the slot at `at` is the key's.
+fn slot_is_of(bytes: &[u8], at: usize, key: Key) -> bool
+    requires { ⌜ at + 29 ≤ length (now bytes) ⌝ }
+    ensures { λ r. ⌜ r ≡ matches key (entryOf (numbersIn widths (drop at (now (bytes .entry))))) ⌝ }
+{
+    let cluster = u16_in(bytes, at);
+    let attribute = u16_in(bytes, at + 2);
+    cluster == key.cluster.0 && attribute == key.attribute.0
+}
+
+// The place of the key's first slot, or the count where there is none. Not public: the bytes must be a table.
+fn find_slot(bytes: &[u8], key: Key) -> usize
+    requires { ⌜ isTable room (now bytes) ≡ true ⌝ }
+    ensures { λ r. ⌜ r ≡ findL key (tableIn (now (bytes .entry))) ⌝ }
+{
+    let n = bytes[0] as usize;
+    let mut i: usize = 0;
+    loop {
+        if n <= i {
+            break n;
+        }
+        if slot_is_of(bytes, 1 + SLOT * i, key) {
+            break i;
+        }
+        i += 1;
+    }
+}
+
+// Whether a report of `value` is due at `now`. The parameter hides the clauses' `now`: a clause says `.now`.
+pub fn ask_lent(bytes: &[u8], key: Key, now: u32, value: i64) -> Report
+    ensures { λ r. ⌜ reportTold r ≡ askLent key now value (bytes .entry .now) ⌝ }
+{
+    if !is_table(bytes) {
+        return Report::Refused(Refusal::NotATable);
+    }
+    let n = bytes[0] as usize;
+    let at = find_slot(bytes, key);
+    if n <= at {
+        return Report::NotDue;
+    }
+    let e = read_slot(bytes, 1 + SLOT * at);
+    if e.due(now, value) {
+        return Report::Due;
+    }
+    Report::NotDue
+}
+
+// The key's configuration.
+pub fn configuration_lent(bytes: &[u8], key: Key) -> Setting
+    ensures { λ r. ⌜ settingTold r ≡ configurationLent key (now (bytes .entry)) ⌝ }
+{
+    if !is_table(bytes) {
+        return Setting::Refused(Refusal::NotATable);
+    }
+    let n = bytes[0] as usize;
+    let at = find_slot(bytes, key);
+    if n <= at {
+        return Setting::Nothing;
+    }
+    let e = read_slot(bytes, 1 + SLOT * at);
+    let config = e.config;
+    Setting::Given(config)
+}
