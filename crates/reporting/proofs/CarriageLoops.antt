@@ -155,12 +155,12 @@ module _ (bs : List ℕ) where
 
 -- ---- writing the slots
 
-rows-snoc : (ws : List ℕ) (rows : List (List ℕ)) (ns : List ℕ) → rowsLaid ws (rows ++ (ns ∷ [])) ≡ rowsLaid ws rows ++ laid ws ns
+pub rows-snoc : (ws : List ℕ) (rows : List (List ℕ)) (ns : List ℕ) → rowsLaid ws (rows ++ (ns ∷ [])) ≡ rowsLaid ws rows ++ laid ws ns
 unfolding rowsLaid
 rows-snoc ws [] ns = append-nil (laid ws ns)
 rows-snoc ws (r ∷ rows) ns = ap (λ (l : List ℕ). laid ws r ++ l) (rows-snoc ws rows ns) ∙ sym (append-assoc (laid ws r) (rowsLaid ws rows) (laid ws ns))
 
-map-snoc : (l : List Entry) (e : Entry) → map numbersOf (l ++ (e ∷ [])) ≡ map numbersOf l ++ (numbersOf e ∷ [])
+pub map-snoc : (l : List Entry) (e : Entry) → map numbersOf (l ++ (e ∷ [])) ≡ map numbersOf l ++ (numbersOf e ∷ [])
 map-snoc [] e = refl
 map-snoc (x ∷ l) e = ap (λ (r : List (List ℕ)). numbersOf x ∷ r) (map-snoc l e)
 

@@ -5,26 +5,27 @@ use mathlib.Core.Bool.{Bool, true, false, cond, _&&_}
 use mathlib.Core.List.{List, [], _∷_, map}
 use mathlib.Core.Option.{some}
 use native.Mathlib.Omega.{arith}
-use lib.ListN.{length, getD, drop}
-use lib.Seq.{drop-drop}
+use lib.ListN.{length, getD, drop, set}
+use lib.Seq.{sets, drop-drop}
 use lib.Dec.{eqb}
 use lib.IntN.{ℤ}
 use borrow.Author.Tests.{eq-eqb, ne-eqb}
-use Rattle.types.specs.Number.{unsignedAt}
+use Rattle.types.specs.Number.{AllBytes, unsignedAt}
 use Rattle.frame.specs.declared.answer.Refusal.the-variants.{NotATable}
 use Rattle.reporting.specs.declared.entry.Key.{Key}
 use Rattle.reporting.specs.declared.entry.Entry.{Entry}
 use Rattle.reporting.specs.declared.table.Report.the-variants as ReportV
 use Rattle.reporting.specs.declared.table.Setting.the-variants as SettingV
-use Rattle.reporting.specs.Entries.{matches, findL, lookupL}
+use Rattle.reporting.specs.Entries.{matches, findL, lookupL, updateL, markE}
 use Rattle.reporting.specs.Due.{dueE, dueO, dueL}
 use Rattle.reporting.specs.Table.{room, ReportTold, reportTold, settingTold, settingO}
-use Rattle.reporting.specs.Carried.{widths, total, numbersIn, rowsIn, entryOf, countIn, slotsIn, tableIn, isTable}
-use Rattle.reporting.specs.Lent.{onLent, askLent, configurationLent}
-use Rattle.reporting.proofs.Places.{lookup-at, lookup-none}
+use Rattle.reporting.specs.Carried.{widths, total, laid, numbersIn, rowsIn, numbersOf, entryOf, countIn, slotsIn, tableIn, tableBytes, isTable, written}
+use Rattle.reporting.specs.Lent.{onLent, askLent, configurationLent, markLent}
+use Rattle.reporting.proofs.Places.{lookup-at, lookup-none, update-at, update-none}
 use Rattle.reporting.proofs.CarriageCode.{entry-at}
-use Rattle.reporting.proofs.CarriageTable.{table-count}
+use Rattle.reporting.proofs.CarriageTable.{table-count, bytes-back}
 use Rattle.reporting.proofs.CarriageLoops.{slot-size, slotsFrom, slots-start, slots-more, slots-end}
+use Rattle.reporting.proofs.Patches.{slot-over}
 
 -- ---- one slot
 
@@ -100,6 +101,10 @@ module _ (bs : List ℕ) where
   unfolding configurationLent
   setting-refused k h = refused-so _ _ h
 
+  pub mark-refused : (k : Key) (now : ℕ) (v : ℤ) → isTable room bs ≡ false → written false bs ≡ markLent k now v bs
+  unfolding markLent
+  mark-refused k now v h = refused-so _ _ h
+
 -- in bytes that are a table, the scan for the key k came to `at`
 pub record FoundSlot (bs : List ℕ) (k : Key) (at : ℕ) : Type 0 where
   pub known : isTable room bs ≡ true
@@ -143,3 +148,31 @@ module _ {bs : List ℕ} {k : Key} {at : ℕ} (found : FoundSlot bs k at) where
   pub setting-is : (e : Entry) → e ≡ slotEntry bs at → at < countIn bs → settingTold (SettingV.Given (e .config)) ≡ configurationLent k bs
   unfolding configurationLent
   setting-is e ee h = ap (λ (x : Entry). settingTold (SettingV.Given (x .config))) ee ∙ sym (ap settingO (found-is h)) ∙ said-so _ _
+
+  -- ---- what is left
+
+  module _ (h : AllBytes bs) where
+    -- the bytes as they are, and with the found slot written over
+    kept : bs ≡ tableBytes room (tableIn bs)
+    kept = sym (bytes-back room bs h (found .known))
+
+    patched : (after : List ℕ) (f : Entry → Entry) (e : Entry) → e ≡ f (slotEntry bs at) → at < countIn bs → after ≡ sets bs (1 + 29 * at) (laid widths (numbersOf e))
+        → after ≡ tableBytes room (updateL k f (tableIn bs))
+    patched after f e ee p w =
+        let d : Entry = slotEntry bs at in
+        let u : set (tableIn bs) at e ≡ updateL k f (tableIn bs) = (λ i. set (tableIn bs) (found .place i) ((ee ∙ ap f (sym (found-entry d p))) i)) ∙ sym (update-at k f (tableIn bs) d) in
+        w
+        ∙ ap (λ (l : List ℕ). sets l (1 + 29 * at) (laid widths (numbersOf e))) kept
+        ∙ slot-over room (tableIn bs) at e (omega (arith, table-count bs))
+        ∙ ap (tableBytes room) u
+
+    pub mark-absent : (now : ℕ) (v : ℤ) → countIn bs ≤ at → written true bs ≡ markLent k now v bs
+    unfolding markLent
+    mark-absent now v p =
+        ap (λ (l : List ℕ). written true l) (kept ∙ ap (tableBytes room) (sym (update-none k (markE now v) (tableIn bs) (absent p)))) ∙ said-so _ _
+
+    pub mark-is : (after : List ℕ) (e : Entry) (now : ℕ) (v v′ : ℤ) → v′ ≡ v → e ≡ markE now v′ (slotEntry bs at) → at < countIn bs → after ≡ sets bs (1 + 29 * at) (laid widths (numbersOf e))
+        → written true after ≡ markLent k now v bs
+    unfolding markLent
+    mark-is after e now v v′ ev ee p w =
+        ap (λ (l : List ℕ). written true l) (patched after (markE now v) e (ee ∙ ap (λ z. markE now z (slotEntry bs at)) ev) p w) ∙ said-so _ _

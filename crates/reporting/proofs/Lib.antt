@@ -22,6 +22,8 @@ pub mod CarriageTable
 pub mod CarriageCode
 -- the loops over the slots, and the tests before them
 pub mod CarriageLoops
+-- one slot of a table's bytes written over
+pub mod Patches
 -- the operations on the table's bytes
 pub mod Lending
 -- examples that compute

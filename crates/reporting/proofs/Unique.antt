@@ -21,10 +21,10 @@ use Rattle.reporting.specs.declared.table.Length.{Length}
 use Rattle.reporting.specs.declared.table.Length.the-variants as LengthV
 use Rattle.reporting.specs.Table.{room, Table, sound, bad, live, tableOf, Alike, ChangeTold, changeTold, ReportTold, reportTold, SettingTold, settingTold, LengthTold, lengthTold, Outcome, outcome}
 use Rattle.reporting.specs.Table.{configureT, clearT, markT, configurationT, askT, lengthT}
-use Rattle.reporting.specs.Carried.{tableIn, isTable, seen, Reading, readT, Written}
-use Rattle.reporting.specs.Lent.{askLent, configurationLent}
+use Rattle.reporting.specs.Carried.{tableIn, isTable, seen, Reading, readT, Written, written, writeT}
+use Rattle.reporting.specs.Lent.{askLent, configurationLent, markLent}
 use Rattle.reporting.specs.Unique.{IsTableOnce, ReadTableOnce, WriteTableOnce, DistanceOnce, IsOnce, MovedByOnce, RipeOnce, FreshOnce, IsOfOnce, EntryMarkOnce}
-use Rattle.reporting.specs.Unique.{DueOnce, AskLentOnce, ConfigurationLentOnce, NewOnce, ConfigureOnce, ClearOnce, ReportingTableMarkOnce, ConfigurationOnce, AskOnce, LenOnce}
+use Rattle.reporting.specs.Unique.{DueOnce, AskLentOnce, ConfigurationLentOnce, MarkLentOnce, NewOnce, ConfigureOnce, ClearOnce, ReportingTableMarkOnce, ConfigurationOnce, AskOnce, LenOnce}
 use Rattle.reporting.proofs.CarriageTable.{the-conditions, table-count}
 
 -- ---- answers
@@ -144,6 +144,10 @@ read-within limit bs = go (isTable limit bs) refl
     go true h = omega (arith, table-count bs, the-conditions limit bs h .count)
     go false h = omega arith
 
+-- two answers and exit buffers that meet one contract of what is written
+one-written : (o : Written) (r q : Bool) (x y : List ℕ) → written r x ≡ o → written q y ≡ o → (r ≡ q) × (x ≡ y)
+one-written o r q x y e f = let p = e ∙ sym f in (ap (λ (z : Written). z .done) p, ap (λ (z : Written). z .bytes) p)
+
 -- src/carried.rt
 
 pub is-table-once : IsTableOnce
@@ -162,7 +166,7 @@ read-table-once bytes r q e f =
     )
 
 pub write-table-once : WriteTableOnce
-write-table-once bytes table r q x y e f = let p = e ∙ sym f in (ap (λ (z : Written). z .done) p, ap (λ (z : Written). z .bytes) p)
+write-table-once bytes table r q x y e f = one-written (writeT 16 table bytes) r q x y e f
 
 -- src/distance.rt
 
@@ -199,6 +203,9 @@ ask-lent-once bytes key now value r q e f = one-report (askLent key now value by
 
 pub configuration-lent-once : ConfigurationLentOnce
 configuration-lent-once bytes key r q e f = one-setting (configurationLent key bytes) r q e f
+
+pub mark-lent-once : MarkLentOnce
+mark-lent-once bytes key now value r q x y e f = one-written (markLent key now value bytes) r q x y e f
 
 -- src/table.rt
 

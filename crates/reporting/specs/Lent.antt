@@ -1,6 +1,6 @@
 -- The table's operations on the bytes that carry it: what each says, and the bytes afterwards. Bytes that are no table are refused, and stay as they are.
 -- Assumes nothing: these are definitions.
-use mathlib.Core.Bool.{cond}
+use mathlib.Core.Bool.{true, false, cond}
 use mathlib.Core.List.{List}
 use Prim.Native.Nat.{ℕ}
 use lib.IntN.{ℤ}
@@ -9,8 +9,9 @@ use Rattle.reporting.specs.declared.entry.Key.{Key}
 use Rattle.reporting.specs.declared.entry.Entry.{Entry}
 use Rattle.reporting.specs.declared.table.Report.the-variants as ReportV
 use Rattle.reporting.specs.declared.table.Setting.the-variants as SettingV
+use Rattle.reporting.specs.Entries.{markL}
 use Rattle.reporting.specs.Table.{room, holding, ReportTold, reportTold, askT, SettingTold, settingTold, configurationT}
-use Rattle.reporting.specs.Carried.{tableIn, isTable}
+use Rattle.reporting.specs.Carried.{tableIn, isTable, tableBytes, Written, written}
 
 -- of a table's entries what `rest` says; of other bytes the refusal
 unfoldable pub onLent : {R : Type 0} → List ℕ → R → (List Entry → R) → R
@@ -21,3 +22,7 @@ askLent k now v bs = onLent bs (reportTold (ReportV.Refused NotATable)) (λ l. a
 
 unfoldable pub configurationLent : Key → List ℕ → SettingTold
 configurationLent k bs = onLent bs (settingTold (SettingV.Refused NotATable)) (λ l. configurationT k (holding l))
+
+-- whether the bytes were a table, and the bytes afterwards
+unfoldable pub markLent : Key → ℕ → ℤ → List ℕ → Written
+markLent k now v bs = onLent bs (written false bs) (λ l. written true (tableBytes room (markL k now v l)))

@@ -19,7 +19,7 @@ use Rattle.reporting.specs.Table.{holding, configureT, clearT, markT, co
 use Rattle.reporting.specs.Entries.{same, matches, fresh, markE}
 use Rattle.reporting.specs.Due.{dist, movedBy, ripe, dueE}
 use Rattle.reporting.specs.Carried.{isTable, reading, readT, written, writeT}
-use Rattle.reporting.specs.Lent.{askLent, configurationLent}
+use Rattle.reporting.specs.Lent.{askLent, configurationLent, markLent}
 
 -- src/carried.rt
 abbrev pub IsTableOnce : Type 0
@@ -79,6 +79,13 @@ ConfigurationLentOnce =
     → settingTold r ≡ configurationLent key bytes
     → settingTold q ≡ configurationLent key bytes
     → r ≡ q
+
+abbrev pub MarkLentOnce : Type 0
+MarkLentOnce =
+    (bytes : List ℕ) (key : Key) (now : ℕ) (value : ℤ) (r q : Bool) (x y : List ℕ)
+    → written r x ≡ markLent key now value bytes
+    → written q y ≡ markLent key now value bytes
+    → (r ≡ q) × (x ≡ y)
 
 -- src/table.rt
 abbrev pub NewOnce : Type 0

@@ -143,7 +143,7 @@ pub(crate) fn read_slot(bytes: &[u8], at: usize) -> Entry
 }
 
 // Writes the slot of an entry at `at`.
-fn write_slot(bytes: &mut [u8], at: usize, e: Entry)
+pub(crate) fn write_slot(bytes: &mut [u8], at: usize, e: Entry)
     requires { ⌜ at + 29 ≤ length (now bytes) ⌝ }
     ensures { λ _. ⌜ now (bytes .exit) ≡ sets (now (bytes .entry)) at (laid widths (numbersOf e)) ⌝ }
 {

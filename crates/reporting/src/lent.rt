@@ -7,11 +7,12 @@ ghost use lib.ListN.{length, drop};
 ghost use Rattle.types.specs.Number.{unsignedAt};
 ghost use Rattle.reporting.specs.Entries.{matches, findL};
 ghost use Rattle.reporting.specs.Table.{room, reportTold, settingTold};
-ghost use Rattle.reporting.specs.Carried.{widths, numbersIn, entryOf, tableIn, isTable};
-ghost use Rattle.reporting.specs.Lent.{askLent, configurationLent};
+ghost use Rattle.reporting.specs.Carried.{widths, numbersIn, entryOf, tableIn, isTable, written};
+ghost use Rattle.reporting.specs.Lent.{askLent, configurationLent, markLent};
 use super::carried::SLOT;
 use super::carried::is_table;
 use super::carried::read_slot;
+use super::carried::write_slot;
 use super::entry::Key;
 use super::table::Report;
 use super::table::Setting;
@@ -89,4 +90,22 @@ pub fn configuration_lent(bytes: &[u8], key: Key) -> Setting
     let e = read_slot(bytes, 1 + SLOT * at);
     let config = e.config;
     Setting::Given(config)
+}
+
+// Keeps the time and the value of a report, and says whether the bytes were a table; otherwise they are as they were.
+pub fn mark_lent(bytes: &mut [u8], key: Key, now: u32, value: i64) -> bool
+    ensures { λ r. ⌜ written r (bytes .exit .now) ≡ markLent key now value (bytes .entry .now) ⌝ }
+{
+    if !is_table(bytes) {
+        return false;
+    }
+    let n = bytes[0] as usize;
+    let at = find_slot(bytes, key);
+    if n <= at {
+        return true;
+    }
+    let place = 1 + SLOT * at;
+    let e = read_slot(bytes, place);
+    write_slot(bytes, place, e.mark(now, value));
+    true
 }
