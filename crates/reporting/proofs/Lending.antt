@@ -1,31 +1,34 @@
 -- What the operations on a table's bytes find, and what they then say. Assumes nothing.
 use Prim.Native.Nat.{ℕ, zero, suc, _+_, _*_, _≤_, _<_}
 use mathlib.Core.Path.{_≡_, refl, ap, sym, _∙_}
-use mathlib.Core.Bool.{Bool, true, false, cond, _&&_}
-use mathlib.Core.List.{List, [], _∷_, map}
+use mathlib.Core.Bool.{Bool, true, false, cond, _&&_, _||_}
+use mathlib.Core.List.{List, [], _∷_, _++_, map}
 use mathlib.Core.Option.{some}
 use native.Mathlib.Omega.{arith}
-use lib.ListN.{length, getD, drop, set}
-use lib.Seq.{sets, drop-drop}
-use lib.Dec.{eqb}
+use lib.ListN.{length, getD, take, drop, set, length-set, length-replicate}
+use lib.Seq.{sets, length-sets, drop-drop, take-all, take-suc, length-take-le}
+use lib.Dec.{ltb, eqb}
 use lib.IntN.{ℤ}
-use borrow.Author.Tests.{eq-eqb, ne-eqb}
-use Rattle.types.specs.Number.{AllBytes, unsignedAt}
+use borrow.Author.Tests.{eq-eqb, ne-eqb, lt-ltb, le-ltb}
+use Rattle.types.specs.Number.{AllBytes, zeros, unsignedAt}
+use Rattle.frame.specs.Reply.{over}
 use Rattle.frame.specs.declared.answer.Refusal.the-variants.{NotATable}
 use Rattle.reporting.specs.declared.entry.Key.{Key}
+use Rattle.reporting.specs.declared.entry.ReportingConfig.{ReportingConfig}
 use Rattle.reporting.specs.declared.entry.Entry.{Entry}
+use Rattle.reporting.specs.declared.table.Change.the-variants as ChangeV
 use Rattle.reporting.specs.declared.table.Report.the-variants as ReportV
 use Rattle.reporting.specs.declared.table.Setting.the-variants as SettingV
-use Rattle.reporting.specs.Entries.{matches, findL, lookupL, updateL, markE}
+use Rattle.reporting.specs.Entries.{matches, findL, lookupL, updateL, fresh, replaced, clearL, markE}
 use Rattle.reporting.specs.Due.{dueE, dueO, dueL}
 use Rattle.reporting.specs.Table.{room, ReportTold, reportTold, settingTold, settingO}
 use Rattle.reporting.specs.Carried.{widths, total, laid, numbersIn, rowsIn, numbersOf, entryOf, countIn, slotsIn, tableIn, tableBytes, isTable, written}
-use Rattle.reporting.specs.Lent.{onLent, askLent, configurationLent, markLent}
-use Rattle.reporting.proofs.Places.{lookup-at, lookup-none, update-at, update-none}
+use Rattle.reporting.specs.Lent.{onLent, askLent, configurationLent, markLent, clearLent, leftAs, configureLent}
+use Rattle.reporting.proofs.Places.{find-le, lookup-at, lookup-none, update-at, update-none, clear-none, clear-place}
 use Rattle.reporting.proofs.CarriageCode.{entry-at}
 use Rattle.reporting.proofs.CarriageTable.{table-count, bytes-back}
-use Rattle.reporting.proofs.CarriageLoops.{slot-size, slotsFrom, slots-start, slots-more, slots-end}
-use Rattle.reporting.proofs.Patches.{slot-over}
+use Rattle.reporting.proofs.CarriageLoops.{slot-size, known-size, known-count, slotsFrom, slots-start, slots-more, slots-end}
+use Rattle.reporting.proofs.Patches.{over-sets, slot-over, slot-added, slot-gone}
 
 -- ---- one slot
 
@@ -105,6 +108,14 @@ module _ (bs : List ℕ) where
   unfolding markLent
   mark-refused k now v h = refused-so _ _ h
 
+  pub clear-refused : (k : Key) → isTable room bs ≡ false → written false bs ≡ clearLent k bs
+  unfolding clearLent
+  clear-refused k h = refused-so _ _ h
+
+  pub configure-refused : (k : Key) (g : ReportingConfig) → isTable room bs ≡ false → leftAs (ChangeV.Refused NotATable) bs ≡ configureLent k g bs
+  unfolding configureLent
+  configure-refused k g h = refused-so _ _ h
+
 -- in bytes that are a table, the scan for the key k came to `at`
 pub record FoundSlot (bs : List ℕ) (k : Key) (at : ℕ) : Type 0 where
   pub known : isTable room bs ≡ true
@@ -176,3 +187,72 @@ module _ {bs : List ℕ} {k : Key} {at : ℕ} (found : FoundSlot bs k at) where
     unfolding markLent
     mark-is after e now v v′ ev ee p w =
         ap (λ (l : List ℕ). written true l) (patched after (markE now v) e (ee ∙ ap (λ z. markE now z (slotEntry bs at)) ev) p w) ∙ said-so _ _
+
+    -- the answer and the entries by the tests of acceptsL and configureL
+    as-configured : (g : ReportingConfig) (a b : Bool) → ltb (findL k (tableIn bs)) (length (tableIn bs)) ≡ a → ltb (length (tableIn bs)) room ≡ b
+        → leftAs (cond (a || b) ChangeV.Done ChangeV.Full) (tableBytes room (cond a (updateL k (replaced k g) (tableIn bs)) (cond b (tableIn bs ++ (fresh k g ∷ [])) (tableIn bs)))) ≡ configureLent k g bs
+    unfolding configureLent
+    as-configured g a b ea eb =
+        sym
+        (λ i.
+        leftAs (cond (ea i || eb i) ChangeV.Done ChangeV.Full)
+        (tableBytes room (cond (ea i) (updateL k (replaced k g) (tableIn bs)) (cond (eb i) (tableIn bs ++ (fresh k g ∷ [])) (tableIn bs)))))
+        ∙ said-so _ _
+
+    pub configure-full : (g : ReportingConfig) → room ≤ at → leftAs ChangeV.Full bs ≡ configureLent k g bs
+    configure-full g p =
+        let n = table-count bs in
+        let c = known-count bs (found .known) in
+        let f = find-le k (tableIn bs) in
+        ap (leftAs ChangeV.Full) kept
+        ∙ as-configured g false false (le-ltb (findL k (tableIn bs)) (length (tableIn bs)) (omega (arith, n, c, f, found .place))) (le-ltb (length (tableIn bs)) room (omega (arith, n, c, f, found .place)))
+
+    pub configure-old : (g : ReportingConfig) (after : List ℕ) (e : Entry) → e ≡ fresh k g → at < countIn bs → after ≡ sets bs (1 + 29 * at) (laid widths (numbersOf e))
+        → leftAs ChangeV.Done after ≡ configureLent k g bs
+    configure-old g after e ee p w =
+        ap (leftAs ChangeV.Done) (patched after (replaced k g) e ee p w)
+        ∙ as-configured g true (ltb (length (tableIn bs)) room) (lt-ltb _ _ (present p)) refl
+
+    pub configure-new : (g : ReportingConfig) (after : List ℕ) (e : Entry) → e ≡ fresh k g → countIn bs ≤ at → at < room → after ≡ sets bs (1 + 29 * at) (laid widths (numbersOf e))
+        → leftAs ChangeV.Done (set after 0 (countIn bs + 1)) ≡ configureLent k g bs
+    configure-new g after e ee p r w =
+        let n = table-count bs in
+        let f = find-le k (tableIn bs) in
+        let i : at ≡ length (tableIn bs) = omega (arith, n, f, found .place) in
+        let c : countIn bs + 1 ≡ suc (length (tableIn bs)) = omega (arith, n) in
+        let b : List ℕ = laid widths (numbersOf (fresh k g)) in
+        ap (λ (x : List ℕ). leftAs ChangeV.Done (set x 0 (countIn bs + 1))) (w ∙ (λ j. sets (kept j) (1 + 29 * i j) (laid widths (numbersOf (ee j)))))
+        ∙ ap (λ (m : ℕ). leftAs ChangeV.Done (set (sets (tableBytes room (tableIn bs)) (1 + 29 * length (tableIn bs)) b) 0 m)) c
+        ∙ ap (leftAs ChangeV.Done) (slot-added room (tableIn bs) (fresh k g) (omega arith))
+        ∙ as-configured g false true (le-ltb _ _ (absent p)) (lt-ltb (length (tableIn bs)) room (omega arith))
+
+    pub clear-absent : countIn bs ≤ at → written true bs ≡ clearLent k bs
+    unfolding clearLent
+    clear-absent p = ap (λ (l : List ℕ). written true l) (kept ∙ ap (tableBytes room) (sym (clear-none k (tableIn bs) (absent p)))) ∙ said-so _ _
+
+    -- the last entry stands in the hole, and zeros where it stood
+    moved : (last : ℕ) (e : Entry) (filled after : List ℕ) → at < countIn bs → last + 1 ≡ countIn bs → e ≡ slotEntry bs last
+        → filled ≡ sets bs (1 + 29 * at) (laid widths (numbersOf e)) → after ≡ over filled (1 + 29 * last) (zeros 29) → set after 0 last ≡ tableBytes room (clearL k (tableIn bs))
+    moved last e filled after p q ee ef ea =
+        let l : List Entry = tableIn bs in
+        let m : List Entry = set l at e in
+        let d : Entry = slotEntry bs last in
+        let n = table-count bs in
+        let k′ = known-count bs (found .known) in
+        let long : length m ≡ last + 1 = omega (arith, length-set l at e, n) in
+        let short : length (take last m) ≡ last = length-take-le last m (omega arith) in
+        let cut : m ≡ take last m ++ (getD m last d ∷ []) = sym (take-all (suc last) m (omega arith)) ∙ take-suc m last d (omega arith) in
+        let gone : take last m ≡ clearL k l = (λ i. take last (set l (found .place i) ((ee ∙ sym (nth-entry bs last d (omega arith))) i))) ∙ sym (clear-place k l last d (present p) (omega (arith, n))) in
+        let size : length filled ≡ 465 = ap length ef ∙ length-sets bs (1 + 29 * at) (laid widths (numbersOf e)) ∙ known-size bs (found .known) in
+        let fits = length-replicate {A = ℕ} 29 0 in
+        ap (λ (x : List ℕ). set x 0 last) (ea ∙ over-sets filled (1 + 29 * last) (zeros 29) (omega (arith, size, fits, q, k′)))
+        ∙ ap (λ (x : List ℕ). set (sets x (1 + 29 * last) (zeros 29)) 0 last)
+        (ef ∙ ap (λ (x : List ℕ). sets x (1 + 29 * at) (laid widths (numbersOf e))) kept ∙ slot-over room l at e (omega (arith, n)) ∙ ap (tableBytes room) cut)
+        ∙ ap (λ (j : ℕ). set (sets (tableBytes room (take last m ++ (getD m last d ∷ []))) (1 + 29 * j) (zeros 29)) 0 j) (sym short)
+        ∙ slot-gone room (take last m) (getD m last d) (omega arith)
+        ∙ ap (tableBytes room) gone
+
+    pub clear-is : (last : ℕ) (e : Entry) (filled after : List ℕ) → at < countIn bs → last + 1 ≡ countIn bs → e ≡ slotEntry bs last
+        → filled ≡ sets bs (1 + 29 * at) (laid widths (numbersOf e)) → after ≡ over filled (1 + 29 * last) (zeros 29) → written true (set after 0 last) ≡ clearLent k bs
+    unfolding clearLent
+    clear-is last e filled after p q ee ef ea = ap (λ (l : List ℕ). written true l) (moved last e filled after p q ee ef ea) ∙ said-so _ _

@@ -22,9 +22,9 @@ use Rattle.reporting.specs.declared.table.Length.the-variants as LengthV
 use Rattle.reporting.specs.Table.{room, Table, sound, bad, live, tableOf, Alike, ChangeTold, changeTold, ReportTold, reportTold, SettingTold, settingTold, LengthTold, lengthTold, Outcome, outcome}
 use Rattle.reporting.specs.Table.{configureT, clearT, markT, configurationT, askT, lengthT}
 use Rattle.reporting.specs.Carried.{tableIn, isTable, seen, Reading, readT, Written, written, writeT}
-use Rattle.reporting.specs.Lent.{askLent, configurationLent, markLent}
+use Rattle.reporting.specs.Lent.{askLent, configurationLent, markLent, clearLent, ChangeLeft}
 use Rattle.reporting.specs.Unique.{IsTableOnce, ReadTableOnce, WriteTableOnce, DistanceOnce, IsOnce, MovedByOnce, RipeOnce, FreshOnce, IsOfOnce, EntryMarkOnce}
-use Rattle.reporting.specs.Unique.{DueOnce, AskLentOnce, ConfigurationLentOnce, MarkLentOnce, NewOnce, ConfigureOnce, ClearOnce, ReportingTableMarkOnce, ConfigurationOnce, AskOnce, LenOnce}
+use Rattle.reporting.specs.Unique.{DueOnce, AskLentOnce, ConfigurationLentOnce, MarkLentOnce, ClearLentOnce, ConfigureLentOnce, NewOnce, ConfigureOnce, ClearOnce, ReportingTableMarkOnce, ConfigurationOnce, AskOnce, LenOnce}
 use Rattle.reporting.proofs.CarriageTable.{the-conditions, table-count}
 
 -- ---- answers
@@ -206,6 +206,14 @@ configuration-lent-once bytes key r q e f = one-setting (configurationLent key b
 
 pub mark-lent-once : MarkLentOnce
 mark-lent-once bytes key now value r q x y e f = one-written (markLent key now value bytes) r q x y e f
+
+pub clear-lent-once : ClearLentOnce
+clear-lent-once bytes key r q x y e f = one-written (clearLent key bytes) r q x y e f
+
+pub configure-lent-once : ConfigureLentOnce
+configure-lent-once bytes key config r q x y e f =
+    let p = e ∙ sym f in
+    (change-same r q (ap (λ (z : ChangeLeft). z .told) p), ap (λ (z : ChangeLeft). z .bytes) p)
 
 -- src/table.rt
 

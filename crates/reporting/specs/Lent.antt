@@ -6,11 +6,14 @@ use Prim.Native.Nat.{ℕ}
 use lib.IntN.{ℤ}
 use Rattle.frame.specs.declared.answer.Refusal.the-variants.{NotATable}
 use Rattle.reporting.specs.declared.entry.Key.{Key}
+use Rattle.reporting.specs.declared.entry.ReportingConfig.{ReportingConfig}
 use Rattle.reporting.specs.declared.entry.Entry.{Entry}
+use Rattle.reporting.specs.declared.table.Change.{Change}
+use Rattle.reporting.specs.declared.table.Change.the-variants as ChangeV
 use Rattle.reporting.specs.declared.table.Report.the-variants as ReportV
 use Rattle.reporting.specs.declared.table.Setting.the-variants as SettingV
-use Rattle.reporting.specs.Entries.{markL}
-use Rattle.reporting.specs.Table.{room, holding, ReportTold, reportTold, askT, SettingTold, settingTold, configurationT}
+use Rattle.reporting.specs.Entries.{acceptsL, configureL, clearL, markL}
+use Rattle.reporting.specs.Table.{room, holding, ChangeTold, changeTold, ReportTold, reportTold, askT, SettingTold, settingTold, configurationT}
 use Rattle.reporting.specs.Carried.{tableIn, isTable, tableBytes, Written, written}
 
 -- of a table's entries what `rest` says; of other bytes the refusal
@@ -26,3 +29,19 @@ configurationLent k bs = onLent bs (settingTold (SettingV.Refused NotATable)) (�
 -- whether the bytes were a table, and the bytes afterwards
 unfoldable pub markLent : Key → ℕ → ℤ → List ℕ → Written
 markLent k now v bs = onLent bs (written false bs) (λ l. written true (tableBytes room (markL k now v l)))
+
+unfoldable pub clearLent : Key → List ℕ → Written
+clearLent k bs = onLent bs (written false bs) (λ l. written true (tableBytes room (clearL k l)))
+
+-- what configuring says, and the bytes afterwards
+pub record ChangeLeft : Type 0 where
+  pub told : ChangeTold
+  pub bytes : List ℕ
+
+abbrev pub leftAs : Change → List ℕ → ChangeLeft
+leftAs answer bytes = record { told = changeTold answer; bytes = bytes }
+
+unfoldable pub configureLent : Key → ReportingConfig → List ℕ → ChangeLeft
+configureLent k g bs =
+    onLent bs (leftAs (ChangeV.Refused NotATable) bs)
+    (λ l. leftAs (cond (acceptsL room k l) ChangeV.Done ChangeV.Full) (tableBytes room (configureL room k g l)))

@@ -10,6 +10,7 @@ use Rattle.reporting.specs.declared.entry.Key.{Key}
 use Rattle.reporting.specs.declared.entry.ReportingConfig.{ReportingConfig}
 use Rattle.reporting.specs.declared.entry.Entry.{Entry}
 use Rattle.reporting.specs.declared.table.ReportingTable.{ReportingTable}
+use Rattle.reporting.specs.declared.table.Change.{Change}
 use Rattle.reporting.specs.declared.table.Changed.{Changed}
 use Rattle.reporting.specs.declared.table.Report.{Report}
 use Rattle.reporting.specs.declared.table.Setting.{Setting}
@@ -19,7 +20,7 @@ use Rattle.reporting.specs.Table.{holding, configureT, clearT, markT, co
 use Rattle.reporting.specs.Entries.{same, matches, fresh, markE}
 use Rattle.reporting.specs.Due.{dist, movedBy, ripe, dueE}
 use Rattle.reporting.specs.Carried.{isTable, reading, readT, written, writeT}
-use Rattle.reporting.specs.Lent.{askLent, configurationLent, markLent}
+use Rattle.reporting.specs.Lent.{askLent, configurationLent, markLent, clearLent, leftAs, configureLent}
 
 -- src/carried.rt
 abbrev pub IsTableOnce : Type 0
@@ -85,6 +86,20 @@ MarkLentOnce =
     (bytes : List ℕ) (key : Key) (now : ℕ) (value : ℤ) (r q : Bool) (x y : List ℕ)
     → written r x ≡ markLent key now value bytes
     → written q y ≡ markLent key now value bytes
+    → (r ≡ q) × (x ≡ y)
+
+abbrev pub ClearLentOnce : Type 0
+ClearLentOnce =
+    (bytes : List ℕ) (key : Key) (r q : Bool) (x y : List ℕ)
+    → written r x ≡ clearLent key bytes
+    → written q y ≡ clearLent key bytes
+    → (r ≡ q) × (x ≡ y)
+
+abbrev pub ConfigureLentOnce : Type 0
+ConfigureLentOnce =
+    (bytes : List ℕ) (key : Key) (config : ReportingConfig) (r q : Change) (x y : List ℕ)
+    → leftAs r x ≡ configureLent key config bytes
+    → leftAs q y ≡ configureLent key config bytes
     → (r ≡ q) × (x ≡ y)
 
 -- src/table.rt

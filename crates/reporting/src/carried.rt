@@ -22,7 +22,7 @@ use types::number::signed_at;
 use types::number::u16_at;
 use types::number::unsigned_at;
 
-const LIMIT: usize = 16;
+pub(crate) const LIMIT: usize = 16;
 
 // The bytes of one entry.
 pub(crate) const SLOT: usize = 29;

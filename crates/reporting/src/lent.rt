@@ -4,19 +4,25 @@ ghost use mathlib.Core.Path.{_≡_};
 ghost use mathlib.Core.Bool.{true};
 ghost use Prim.Native.Nat.{_+_, _≤_};
 ghost use lib.ListN.{length, drop};
-ghost use Rattle.types.specs.Number.{unsignedAt};
+ghost use Rattle.types.specs.Number.{zeros, unsignedAt};
+ghost use Rattle.frame.specs.Reply.{over};
 ghost use Rattle.reporting.specs.Entries.{matches, findL};
 ghost use Rattle.reporting.specs.Table.{room, reportTold, settingTold};
 ghost use Rattle.reporting.specs.Carried.{widths, numbersIn, entryOf, tableIn, isTable, written};
-ghost use Rattle.reporting.specs.Lent.{askLent, configurationLent, markLent};
+ghost use Rattle.reporting.specs.Lent.{askLent, configurationLent, markLent, leftAs, configureLent, clearLent};
+use super::carried::LIMIT;
 use super::carried::SLOT;
 use super::carried::is_table;
 use super::carried::read_slot;
 use super::carried::write_slot;
+use super::entry::Entry;
 use super::entry::Key;
+use super::entry::ReportingConfig;
+use super::table::Change;
 use super::table::Report;
 use super::table::Setting;
 use frame::answer::Refusal;
+use frame::reply::clear;
 
 // The two-byte number at `at`. Not public: both bytes must be there, so that nothing is tested.
 fn u16_in(bytes: &[u8], at: usize) -> u16
@@ -107,5 +113,52 @@ pub fn mark_lent(bytes: &mut [u8], key: Key, now: u32, value: i64) -> bool
     let place = 1 + SLOT * at;
     let e = read_slot(bytes, place);
     write_slot(bytes, place, e.mark(now, value));
+    true
+}
+
+// Sets the key's configuration, and forgets its last report. A new key takes the slot behind the last one.
+pub fn configure_lent(bytes: &mut [u8], key: Key, config: ReportingConfig) -> Change
+    ensures { λ r. ⌜ leftAs r (now (bytes .exit)) ≡ configureLent key config (now (bytes .entry)) ⌝ }
+{
+    if !is_table(bytes) {
+        return Change::Refused(Refusal::NotATable);
+    }
+    let n = bytes[0] as usize;
+    let at = find_slot(bytes, key);
+    if LIMIT <= at {
+        return Change::Full;
+    }
+    write_slot(bytes, 1 + SLOT * at, Entry::fresh(key, config));
+    if n <= at {
+        bytes[0] = (n + 1) as u8;
+    }
+    Change::Done
+}
+
+// Zeros in the slot at `at`.
+fn blank_slot(bytes: &mut [u8], at: usize)
+    requires { ⌜ at + 29 ≤ length (now bytes) ⌝ }
+    ensures { λ _. ⌜ now (bytes .exit) ≡ over (now (bytes .entry)) at (zeros 29) ⌝ }
+{
+    clear(&mut bytes[at..at + SLOT]);
+}
+
+// Takes the key's entry out, and says whether the bytes were a table: the last slot moves into its place, and zeros into the last.
+pub fn clear_lent(bytes: &mut [u8], key: Key) -> bool
+    ensures { λ r. ⌜ written r (now (bytes .exit)) ≡ clearLent key (now (bytes .entry)) ⌝ }
+{
+    if !is_table(bytes) {
+        return false;
+    }
+    let n = bytes[0] as usize;
+    let at = find_slot(bytes, key);
+    if n <= at {
+        return true;
+    }
+    let last = n - 1;
+    let e = read_slot(bytes, 1 + SLOT * last);
+    write_slot(bytes, 1 + SLOT * at, e);
+    blank_slot(bytes, 1 + SLOT * last);
+    bytes[0] = last as u8;
     true
 }

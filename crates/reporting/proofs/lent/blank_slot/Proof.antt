@@ -1,0 +1,51 @@
+-- A lent part that came back all zeros. Assumes nothing.
+use borrow.Author.Needs.{needs}
+use native.Mathlib.Omega.{arith}
+use mathlib.Core.Path.{_≡_, sym, ap, _∙_}
+use Prim.Native.Nat.{ℕ, _+_, _-_}
+use lib.ListN.{length, drop, length-drop, length-replicate}
+use lib.Seq.{length-take-le}
+use denote.Ref.{now}
+use Rattle.types.specs.Number.{zeros}
+use Rattle.frame.specs.Reply.{over}
+use Rattle.frame.proofs.Buffer.{mid-over}
+use Rattle.reporting.proofs.lent.blank_slot.Statement.{statement}
+use Rattle.reporting.proofs.lent.blank_slot.Tie as tie
+
+add-clear : tie.Need-add-clear
+add-clear c = search needs
+
+sub-clear : tie.Need-sub-clear
+sub-clear c = search needs
+
+part-clear-start : tie.Need-part-clear-start
+part-clear-start c = search needs
+
+part-clear-end : tie.Need-part-clear-end
+part-clear-end c = search needs
+
+clear-requires : tie.Need-clear-requires
+clear-requires c κs = search needs
+
+same-length : tie.Need-same-length
+same-length c = search needs
+
+returns : tie.Need-returns
+returns c =
+    let bs = now (c .before .before .before .before .before .args .bytes) in
+    let at = c .before .before .before .before .before .args .at in
+    let n : at + 29 - at ≡ 29 = omega arith in
+    let z : c .before .before .clear .last .0 ≡ zeros 29 = c .before .before .clear .ensures ∙ ap zeros (length-take-le (at + 29 - at) (drop at bs) (omega (arith, length-drop at bs, c .before .before .before .before .before .pre)) ∙ n) in
+    mid-over bs (c .before .before .clear .last .0) at (at + 29 - at) (ap length z ∙ length-replicate {A = ℕ} 29 0 ∙ sym n) ∙ ap (over bs at) z
+
+pub blank-slot-spec : {M : Type 1} → statement M
+blank-slot-spec =
+    tie.close
+    (tie.spec
+    add-clear
+    sub-clear
+    part-clear-start
+    part-clear-end
+    clear-requires
+    same-length
+    returns)
