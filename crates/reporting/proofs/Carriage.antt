@@ -4,14 +4,14 @@ use mathlib.Core.Path.{_≡_, refl, ap, sym, _∙_}
 use mathlib.Core.Bool.{Bool, true, false, _&&_, and-assoc, false≢true}
 use mathlib.Core.List.{List, [], _∷_, _++_, append-assoc}
 use native.Mathlib.Omega.{arith}
-use native.Mathlib.Nat.{mod-lt, mod-eq-of-lt, suc-mul, zero-mul}
+use native.Mathlib.Nat.{mod-lt, mod-eq-of-lt, mul-assoc, suc-mul, zero-mul}
 use lib.Pow.{pow-pos}
 use lib.ListN.{length, getD, take, drop, length-append, length-drop}
 use lib.Seq.{take-at, drop-at, drop-drop, take-add}
 use lib.Dec.{eqb}
 use borrow.Author.Tests.{eqb-true, ne-eqb}
 use Rattle.types.specs.Number.{AllBytes, allZero, zeros, le, bytesOf, unsignedAt}
-use Rattle.types.proofs.Numbers.{bytes-drop, le-below, le-bytes, length-bytes}
+use Rattle.types.proofs.Numbers.{pow-byte, bytes-drop, unsigned-none, unsigned-step, le-below, le-bytes, length-bytes}
 use Rattle.reporting.specs.Carried.{total, laid, numbersIn, rowsLaid, rowsIn}
 
 -- ---- one number
@@ -26,6 +26,19 @@ bytes-le (suc w) (b ∷ bs) h k =
     let m : (b + 256 * le (take w bs)) % 256 ≡ b = omega arith in
     let d : (b + 256 * le (take w bs)) / 256 ≡ le (take w bs) = omega arith in
     rw (m, d) (ap (λ (r : List ℕ). b ∷ r) (bytes-le w bs (λ i. h (suc i)) (omega arith)))
+
+-- two parts of a number, the low one first
+pub unsigned-join : (s : List ℕ) (at a b : ℕ) → unsignedAt s at a + 2 ^ (8 * a) * unsignedAt s (at + a) b ≡ unsignedAt s at (a + b)
+unsigned-join s at zero b =
+    let p : at + 0 ≡ at = omega arith in
+    let w : 0 + b ≡ b = omega arith in
+    rw (p, w, unsigned-none s at) (omega arith)
+unsigned-join s at (suc a) b =
+    let p : at + suc a ≡ suc at + a = omega arith in
+    let w : suc a + b ≡ suc (a + b) = omega arith in
+    let x : ℕ = unsignedAt s (suc at + a) b in
+    let m : 2 ^ (8 * suc a) * x ≡ 256 * (2 ^ (8 * a) * x) = ap (λ (n : ℕ). n * x) (pow-byte a) ∙ mul-assoc 256 (2 ^ (8 * a)) x in
+    rw (p, w) (omega (arith, m, unsigned-step s at a, unsigned-step s at (a + b), unsigned-join s (suc at) a b))
 
 -- ---- a row of numbers
 

@@ -5,7 +5,7 @@ ghost use mathlib.Core.Bool.{true, false};
 ghost use Prim.Native.Nat.{ℕ, _+_, _^_, _≤_};
 ghost use lib.ListN.{length, drop};
 ghost use lib.Seq.{sets};
-ghost use Rattle.types.specs.Number.{allZero, residue};
+ghost use Rattle.types.specs.Number.{allZero, unsignedAt, residue};
 ghost use Rattle.reporting.specs.Carried.{widths, laid, numbersIn, rowsIn, told, numbersOf, entryOf, inForm, allInForm};
 ghost use Rattle.reporting.specs.Carried.{isTable, reading, seen, readT, written, writeT};
 use super::entry::Entry;
@@ -16,11 +16,8 @@ use frame::reply::clear;
 use types::ids::AttributeId;
 use types::ids::ClusterId;
 use types::number::all_zero;
-use types::number::byte_at;
+use types::number::bits_i64;
 use types::number::put_le;
-use types::number::signed_at;
-use types::number::u16_at;
-use types::number::unsigned_at;
 
 pub(crate) const LIMIT: usize = 16;
 
@@ -113,19 +110,49 @@ pub fn is_table(bytes: &[u8]) -> bool
     slots_in_form(bytes, count)
 }
 
+// The two-byte number at `at`. This and the next two are not public: all bytes must be there, so that nothing is tested, and each number is one load.
+pub(crate) fn u16_in(bytes: &[u8], at: usize) -> u16
+    requires { ⌜ at + 2 ≤ length (now bytes) ⌝ }
+    ensures { λ r. ⌜ r ≡ unsignedAt (now (bytes .entry)) at 2 ⌝ }
+{
+    let low = bytes[at] as u16;
+    let high = bytes[at + 1] as u16;
+    low + 256 * high
+}
+
+// The four-byte number at `at`.
+fn u32_in(bytes: &[u8], at: usize) -> u32
+    requires { ⌜ at + 4 ≤ length (now bytes) ⌝ }
+    ensures { λ r. ⌜ r ≡ unsignedAt (now (bytes .entry)) at 4 ⌝ }
+{
+    let low = u16_in(bytes, at) as u32;
+    let high = u16_in(bytes, at + 2) as u32;
+    low + 65536 * high
+}
+
+// The eight-byte number at `at`.
+fn u64_in(bytes: &[u8], at: usize) -> u64
+    requires { ⌜ at + 8 ≤ length (now bytes) ⌝ }
+    ensures { λ r. ⌜ r ≡ unsignedAt (now (bytes .entry)) at 8 ⌝ }
+{
+    let low = u32_in(bytes, at) as u64;
+    let high = u32_in(bytes, at + 4) as u64;
+    low + 4294967296 * high
+}
+
 // The entry of the slot at `at`.
 pub(crate) fn read_slot(bytes: &[u8], at: usize) -> Entry
     requires { ⌜ at + 29 ≤ length (now bytes) ⌝ }
     ensures { λ r. ⌜ r ≡ entryOf (numbersIn widths (drop at (now (bytes .entry)))) ⌝ }
 {
-    let cluster = u16_at(bytes, at);
-    let attribute = u16_at(bytes, at + 2);
-    let min_interval = u16_at(bytes, at + 4);
-    let max_interval = u16_at(bytes, at + 6);
-    let reportable_change = unsigned_at(bytes, at + 8, 8);
-    let flag = byte_at(bytes, at + 16);
-    let last_time = unsigned_at(bytes, at + 17, 4) as u32;
-    let last_value = signed_at(bytes, at + 21, 8);
+    let cluster = u16_in(bytes, at);
+    let attribute = u16_in(bytes, at + 2);
+    let min_interval = u16_in(bytes, at + 4);
+    let max_interval = u16_in(bytes, at + 6);
+    let reportable_change = u64_in(bytes, at + 8);
+    let flag = bytes[at + 16];
+    let last_time = u32_in(bytes, at + 17);
+    let last_value = bits_i64(u64_in(bytes, at + 21));
     Entry {
         key: Key {
             cluster: ClusterId(cluster),

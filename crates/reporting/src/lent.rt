@@ -4,7 +4,7 @@ ghost use mathlib.Core.Path.{_≡_};
 ghost use mathlib.Core.Bool.{true};
 ghost use Prim.Native.Nat.{_+_, _≤_};
 ghost use lib.ListN.{length, drop};
-ghost use Rattle.types.specs.Number.{zeros, unsignedAt};
+ghost use Rattle.types.specs.Number.{zeros};
 ghost use Rattle.frame.specs.Reply.{over};
 ghost use Rattle.reporting.specs.Entries.{matches, findL};
 ghost use Rattle.reporting.specs.Table.{room, reportTold, settingTold};
@@ -14,6 +14,7 @@ use super::carried::LIMIT;
 use super::carried::SLOT;
 use super::carried::is_table;
 use super::carried::read_slot;
+use super::carried::u16_in;
 use super::carried::write_slot;
 use super::entry::Entry;
 use super::entry::Key;
@@ -23,16 +24,6 @@ use super::table::Report;
 use super::table::Setting;
 use frame::answer::Refusal;
 use frame::reply::clear;
-
-// The two-byte number at `at`. Not public: both bytes must be there, so that nothing is tested.
-fn u16_in(bytes: &[u8], at: usize) -> u16
-    requires { ⌜ at + 2 ≤ length (now bytes) ⌝ }
-    ensures { λ r. ⌜ r ≡ unsignedAt (now (bytes .entry)) at 2 ⌝ }
-{
-    let low = bytes[at] as u16;
-    let high = bytes[at + 1] as u16;
-    low + 256 * high
-}
 
 // Whether the slot at `at` is the key's.
 fn slot_is_of(bytes: &[u8], at: usize, key: Key) -> bool

@@ -1,95 +1,96 @@
 -- The eight readings at their places are the entry of the slot's numbers. Assumes nothing.
 use borrow.Author.Needs.{needs}
-use native.Mathlib.Omega.{arith}
-use mathlib.Core.Path.{sym, _∙_}
+use mathlib.Core.Path.{ap, sym, _∙_}
 use Prim.Native.Nat.{_+_}
+use lib.ListN.{getD}
 use lib.Dec.{eqb}
 use denote.Ref.{now}
-use Rattle.types.proofs.Numbers.{unsigned-below}
+use Rattle.types.specs.Number.{signedOf, signedAt}
 use Rattle.types.proofs.Machine.{came-back}
 use Rattle.reporting.proofs.CarriageCode.{entry-at}
 use Rattle.reporting.proofs.carried.read_slot.Statement.{statement}
 use Rattle.reporting.proofs.carried.read_slot.Tie as tie
 
-u16-at-requires : tie.Need-u16-at-requires
-u16-at-requires c κs = search needs
+u16-in-requires : tie.Need-u16-in-requires
+u16-in-requires c κs = search needs
 
-add-u16-at : tie.Need-add-u16-at
-add-u16-at c = search needs
+add-u16-in : tie.Need-add-u16-in
+add-u16-in c = search needs
 
-u16-at-requires-2 : tie.Need-u16-at-requires-2
-u16-at-requires-2 c κs = search needs
+u16-in-requires-2 : tie.Need-u16-in-requires-2
+u16-in-requires-2 c κs = search needs
 
-add-u16-at-2 : tie.Need-add-u16-at-2
-add-u16-at-2 c = search needs
+add-u16-in-2 : tie.Need-add-u16-in-2
+add-u16-in-2 c = search needs
 
-u16-at-requires-3 : tie.Need-u16-at-requires-3
-u16-at-requires-3 c κs = search needs
+u16-in-requires-3 : tie.Need-u16-in-requires-3
+u16-in-requires-3 c κs = search needs
 
-add-u16-at-3 : tie.Need-add-u16-at-3
-add-u16-at-3 c = search needs
+add-u16-in-3 : tie.Need-add-u16-in-3
+add-u16-in-3 c = search needs
 
-u16-at-requires-4 : tie.Need-u16-at-requires-4
-u16-at-requires-4 c κs = search needs
+u16-in-requires-4 : tie.Need-u16-in-requires-4
+u16-in-requires-4 c κs = search needs
 
-add-unsigned-at : tie.Need-add-unsigned-at
-add-unsigned-at c = search needs
+add-u64-in : tie.Need-add-u64-in
+add-u64-in c = search needs
 
-unsigned-at-requires : tie.Need-unsigned-at-requires
-unsigned-at-requires c κs = search needs
+u64-in-requires : tie.Need-u64-in-requires
+u64-in-requires c κs = search needs
 
-add-byte-at : tie.Need-add-byte-at
-add-byte-at c = search needs
+add-flag : tie.Need-add-flag
+add-flag c = search needs
 
-byte-at-requires : tie.Need-byte-at-requires
-byte-at-requires c κs = search needs
+shared-slice-read-flag : tie.Need-shared-slice-read-flag
+shared-slice-read-flag c = search needs
 
-add-unsigned-at-2 : tie.Need-add-unsigned-at-2
-add-unsigned-at-2 c = search needs
+add-u32-in : tie.Need-add-u32-in
+add-u32-in c = search needs
 
-unsigned-at-requires-2 : tie.Need-unsigned-at-requires-2
-unsigned-at-requires-2 c κs = search needs
+u32-in-requires : tie.Need-u32-in-requires
+u32-in-requires c κs = search needs
 
-cast-last-time : tie.Need-cast-last-time
-cast-last-time c =
-    let b = unsigned-below (now (c .before .before .before .before .before .before .before .before .args .bytes)) (c .before .before .before .before .before .before .before .before .args .at + 17) 4 (λ i. c .before .before .before .before .before .before .before .shared-slice-known .given i .fits) in
-    record { fits = omega (arith, c .unsigned-at2 .ensures, b) }
+add-u64-in-2 : tie.Need-add-u64-in-2
+add-u64-in-2 c = search needs
 
-add-signed-at : tie.Need-add-signed-at
-add-signed-at c = search needs
+u64-in-requires-2 : tie.Need-u64-in-requires-2
+u64-in-requires-2 c κs = search needs
 
-signed-at-requires : tie.Need-signed-at-requires
-signed-at-requires c κs = search needs
+bits-i64-requires : tie.Need-bits-i64-requires
+bits-i64-requires c κs = search needs
 
 returns : tie.Need-returns
+unfolding signedAt
 returns c =
+    let bs = now (c .before .before .before .before .before .before .before .before .before .before .args .bytes) in
+    let at = c .before .before .before .before .before .before .before .before .before .before .args .at in
     (λ i. record {
-      key = record { cluster = record { 0 = c .before .before .before .before .before .before .before .u16-at .ensures i }; attribute = record { 0 = c .before .before .before .before .before .before .u16-at2 .ensures i } };
-      config = record { «min_interval» = c .before .before .before .before .before .u16-at3 .ensures i; «max_interval» = c .before .before .before .before .u16-at4 .ensures i; «reportable_change» = c .before .before .before .unsigned-at .ensures i };
-      marked = eqb (c .before .before .byte-at .ensures i) 1;
-      «last_time» = c .before .unsigned-at2 .ensures i;
-      «last_value» = (came-back _ (c .signed-at .ok) ∙ c .signed-at .ensures) i;
+      key = record { cluster = record { 0 = c .before .before .before .before .before .before .before .before .u16-in .ensures i }; attribute = record { 0 = c .before .before .before .before .before .before .before .u16-in2 .ensures i } };
+      config = record { «min_interval» = c .before .before .before .before .before .before .u16-in3 .ensures i; «max_interval» = c .before .before .before .before .before .u16-in4 .ensures i; «reportable_change» = c .before .before .before .before .u64-in .ensures i };
+      marked = eqb (getD bs (at + 16) 0) 1;
+      «last_time» = c .before .before .u32-in .ensures i;
+      «last_value» = (came-back _ (c .bits-i64 .ok) ∙ c .bits-i64 .ensures ∙ ap (signedOf 8) (c .before .u64-in2 .ensures)) i;
     })
-    ∙ sym (entry-at (now (c .before .before .before .before .before .before .before .before .before .args .bytes)) (c .before .before .before .before .before .before .before .before .before .args .at))
+    ∙ sym (entry-at bs at)
 
 pub read-slot-spec : {M : Type 1} → statement M
 read-slot-spec =
     tie.close
     (tie.spec
-    u16-at-requires
-    add-u16-at
-    u16-at-requires-2
-    add-u16-at-2
-    u16-at-requires-3
-    add-u16-at-3
-    u16-at-requires-4
-    add-unsigned-at
-    unsigned-at-requires
-    add-byte-at
-    byte-at-requires
-    add-unsigned-at-2
-    unsigned-at-requires-2
-    cast-last-time
-    add-signed-at
-    signed-at-requires
+    u16-in-requires
+    add-u16-in
+    u16-in-requires-2
+    add-u16-in-2
+    u16-in-requires-3
+    add-u16-in-3
+    u16-in-requires-4
+    add-u64-in
+    u64-in-requires
+    add-flag
+    shared-slice-read-flag
+    add-u32-in
+    u32-in-requires
+    add-u64-in-2
+    u64-in-requires-2
+    bits-i64-requires
     returns)
