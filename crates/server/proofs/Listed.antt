@@ -1,20 +1,25 @@
 -- A cluster among those that are served, and the ways of the responder. Assumes nothing.
 use mathlib.Core.Path.{_≡_, refl, sym, ap, _∙_}
-use mathlib.Core.Bool.{Bool, true, false}
-use mathlib.Core.List.{List}
+use mathlib.Core.Bool.{Bool, true, false, _&&_}
+use mathlib.Core.List.{List, [], _∷_}
 use Prim.Native.Nat.{ℕ, _+_, _≤_, _<_}
 use native.Mathlib.Numerals.{add-one}
 use lib.ListN.{length, getD, drop, drop-of-length-le}
 use lib.Seq.{drop-cons}
 use borrow.Author.Tests.{eq-eqb, ne-eqb}
+use types.Run.{OneOf, miss}
+use denote.Enum.Declared.{tagOf}
+use Rattle.frame.proofs.header.FrameType as frame-type
 use Rattle.frame.specs.Answer.{noState, refused}
 use Rattle.frame.specs.Header.{headerOf}
 use Rattle.frame.specs.declared.header.ZclHeader.{ZclHeader}
 use Rattle.frame.specs.declared.header.HeaderRead.the-variants.{Header, Short}
+use Rattle.frame.specs.declared.header.FrameType.{FrameType}
+use Rattle.frame.specs.declared.header.FrameType.the-variants.{GlobalCommand, ClusterCommand, Reserved}
 use Rattle.frame.specs.declared.status.Status.the-variants.{UnsupportedCluster}
 use Rattle.frame.specs.declared.answer.Refusal.the-variants.{HeaderShort, NothingToSend}
 use Rattle.server.specs.DefaultResponse.{defaultResponse}
-use Rattle.server.specs.UnsupportedCluster.{among, isDefaultResponse, respond, unsupportedCluster}
+use Rattle.server.specs.UnsupportedCluster.{among, isGlobal, isDefaultResponse, respond, unsupportedCluster}
 
 -- ---- the scan: what is left of the list decides as the whole does
 
@@ -32,6 +37,12 @@ module _ (wanted : ℕ) (l : List ℕ) (i : ℕ) (so-far : among wanted (drop i 
   served-nowhere h = sym (rw (drop-of-length-le l h) refl) ∙ so-far
 
 -- ---- the responder
+
+-- the other types are not global
+pub not-global : (t : FrameType) → OneOf (1 ∷ 2 ∷ []) (tagOf frame-type.the-type t) → (b : Bool) → false ≡ (isGlobal t && b)
+not-global GlobalCommand o b = absurd (miss (1 ∷ 2 ∷ []) 0 tt o)
+not-global ClusterCommand o b = refl
+not-global Reserved o b = refl
 
 module _ (served : List ℕ) (cluster : ℕ) (unicast : Bool) (frame : List ℕ) (room : ℕ) where
   pub respond-served : among cluster served ≡ true → refused room NothingToSend noState ≡ unsupportedCluster served cluster unicast frame room

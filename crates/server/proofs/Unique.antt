@@ -1,10 +1,11 @@
 -- No second answer fits a call. Two that meet a request's contract have the same answer, reply buffer and store, and tables that are alike
 -- (the slots past the count are no part of a table). Assumes nothing.
-use mathlib.Core.Path.{_≡_, ap}
+use mathlib.Core.Path.{_≡_, sym, ap, _∙_}
 use mathlib.Core.List.{List}
 use Prim.Native.Nat.{ℕ}
 use lib.ListN.{length}
 use Rattle.frame.specs.declared.answer.Answer.{Answer}
+use Rattle.frame.specs.Header.{frameTypeOf}
 use Rattle.frame.specs.Answer.{Outcome, noState, seen}
 use Rattle.frame.proofs.Outcome.{only-one}
 use Rattle.reporting.specs.Table.{room, Alike, tableOf}
@@ -12,9 +13,10 @@ use Rattle.reporting.proofs.Unique.{alike}
 use Rattle.server.specs.declared.serve.Served.{Served}
 use Rattle.server.specs.DefaultResponse.{defaultResponse}
 use Rattle.server.specs.Report.{reportOf}
-use Rattle.server.specs.Serve.{State, state, serve}
+use Rattle.server.specs.Serve.{State, state, typed, serve}
+use Rattle.server.specs.Parts.{storeTyped}
 use Rattle.server.specs.UnsupportedCluster.{unsupportedCluster}
-use Rattle.server.specs.Unique.{DefaultResponseOnce, ReportOnce, HandleRequestOnce, UnsupportedClusterOnce}
+use Rattle.server.specs.Unique.{OpenRequestOnce, DefaultResponseOnce, ReportOnce, ServeFrameOnce, HandleRequestOnce, UnsupportedClusterOnce, NeedsTableOnce, ServeStoreOnce}
 
 -- ---- what is seen of a call tells all that it left
 
@@ -28,6 +30,11 @@ one-served o a b d e s u p q =
 pub one-answered : (o : Outcome (Unit {0})) (a b : Answer) (d e : List ℕ) → seen a d noState ≡ o → seen b e noState ≡ o → (a ≡ b) × (d ≡ e)
 one-answered o a b d e p q = let w = only-one o a b d e noState noState p q in (w .0, w .1 .0)
 
+-- src/checks.rt
+
+pub open-request-once : OpenRequestOnce
+open-request-once store known cluster request r q e f = e ∙ sym f
+
 -- src/default_response.rt
 
 pub default-response-once : DefaultResponseOnce
@@ -40,6 +47,9 @@ report-once store sequence ids frame r q x y e f = one-answered (reportOf 8 stor
 
 -- src/serve.rt
 
+pub serve-frame-once : ServeFrameOnce
+serve-frame-once store table request body unicast reply r q x y s u e f = one-served (typed 8 room store (tableOf table) unicast request body (length reply) (frameTypeOf (request .«frame_control» .0))) r q x y s u e f
+
 pub handle-request-once : HandleRequestOnce
 handle-request-once store table cluster unicast request reply r q x y s u e f = one-served (serve 8 room store (tableOf table) (cluster .0) unicast request (length reply)) r q x y s u e f
 
@@ -47,3 +57,11 @@ handle-request-once store table cluster unicast request reply r q x y s u e f = 
 
 pub unsupported-cluster-once : UnsupportedClusterOnce
 unsupported-cluster-once served cluster unicast request reply r q x y e f = one-answered (unsupportedCluster served (cluster .0) unicast request (length reply)) r q x y e f
+
+-- src/without_table.rt
+
+pub needs-table-once : NeedsTableOnce
+needs-table-once request r q e f = e ∙ sym f
+
+pub serve-store-once : ServeStoreOnce
+serve-store-once store request body unicast reply r q x y s u e f = only-one (storeTyped 8 store unicast request body (length reply) (frameTypeOf (request .«frame_control» .0))) r q x y s u e f

@@ -10,4 +10,5 @@ pub mod Log  -- what the code answered, and demand 3 of it
 pub mod Bench  -- the starred bench frames, as one list under one claim
 pub mod ServedHistory  -- a history that meets what demand 3 supposes
 pub mod Unique  -- no second answer fits a contract
+pub mod Parts  -- a request served in parts: the checks, then the frame, with or without a table
 pub mod Inside  -- what only inner functions say

@@ -9,14 +9,25 @@ use Rattle.types.specs.declared.ids.ClusterId.{ClusterId}
 use Rattle.frame.specs.declared.answer.Answer.{Answer}
 use Rattle.frame.specs.declared.header.ZclHeader.{ZclHeader}
 use Rattle.frame.specs.declared.status.Status.{Status}
+use Rattle.frame.specs.Header.{frameTypeOf}
 use Rattle.frame.specs.Answer.{noState, seen}
 use Rattle.reporting.specs.declared.table.ReportingTable.{ReportingTable}
 use Rattle.reporting.specs.Table.{room, Alike, tableOf}
+use Rattle.server.specs.declared.checks.Opened.{Opened}
 use Rattle.server.specs.declared.serve.Served.{Served}
 use Rattle.server.specs.DefaultResponse.{defaultResponse}
 use Rattle.server.specs.Report.{reportOf}
-use Rattle.server.specs.Serve.{state, serve}
+use Rattle.server.specs.Serve.{state, typed, serve}
+use Rattle.server.specs.Parts.{openedOf, needsTable, storeTyped}
 use Rattle.server.specs.UnsupportedCluster.{unsupportedCluster}
+
+-- src/checks.rt
+abbrev pub OpenRequestOnce : Type 0
+OpenRequestOnce =
+    (store : List ℕ) (known : Bool) (cluster : ClusterId) (request : List ℕ) (r q : Opened)
+    → r ≡ openedOf 8 store known (cluster .0) request
+    → q ≡ openedOf 8 store known (cluster .0) request
+    → r ≡ q
 
 -- src/default_response.rt
 abbrev pub DefaultResponseOnce : Type 0
@@ -35,6 +46,13 @@ ReportOnce =
     → (r ≡ q) × (x ≡ y)
 
 -- src/serve.rt
+abbrev pub ServeFrameOnce : Type 0
+ServeFrameOnce =
+    (store : List ℕ) (table : ReportingTable) (request : ZclHeader) (body : List ℕ) (unicast : Bool) (reply : List ℕ) (r q : Served) (x y s u : List ℕ)
+    → seen (r .answer) x (state s (tableOf (r .table))) ≡ typed 8 room store (tableOf table) unicast request body (length reply) (frameTypeOf (request .«frame_control» .0))
+    → seen (q .answer) y (state u (tableOf (q .table))) ≡ typed 8 room store (tableOf table) unicast request body (length reply) (frameTypeOf (request .«frame_control» .0))
+    → (r .answer ≡ q .answer) × ((x ≡ y) × ((s ≡ u) × Alike (r .table) (q .table)))
+
 abbrev pub HandleRequestOnce : Type 0
 HandleRequestOnce =
     (store : List ℕ) (table : ReportingTable) (cluster : ClusterId) (unicast : Bool) (request reply : List ℕ) (r q : Served) (x y s u : List ℕ)
@@ -49,3 +67,14 @@ UnsupportedClusterOnce =
     → seen r x noState ≡ unsupportedCluster served (cluster .0) unicast request (length reply)
     → seen q y noState ≡ unsupportedCluster served (cluster .0) unicast request (length reply)
     → (r ≡ q) × (x ≡ y)
+
+-- src/without_table.rt
+abbrev pub NeedsTableOnce : Type 0
+NeedsTableOnce = (request : ZclHeader) (r q : Bool) → r ≡ needsTable request → q ≡ needsTable request → r ≡ q
+
+abbrev pub ServeStoreOnce : Type 0
+ServeStoreOnce =
+    (store : List ℕ) (request : ZclHeader) (body : List ℕ) (unicast : Bool) (reply : List ℕ) (r q : Answer) (x y s u : List ℕ)
+    → seen r x s ≡ storeTyped 8 store unicast request body (length reply) (frameTypeOf (request .«frame_control» .0))
+    → seen q y u ≡ storeTyped 8 store unicast request body (length reply) (frameTypeOf (request .«frame_control» .0))
+    → (r ≡ q) × ((x ≡ y) × (s ≡ u))

@@ -1,4 +1,4 @@
-// A request dispatched: the checks in document 01's order, then the command.
+// A request dispatched: the checks, then the frame, with the table where its command needs it.
 ghost use mathlib.Core.Path.{_≡_};
 ghost use lib.ListN.{length};
 ghost use Rattle.frame.specs.Answer.{seen};
@@ -6,28 +6,21 @@ ghost use Rattle.frame.specs.Header.{frameTypeOf};
 ghost use Rattle.frame.specs.CommandIdentifier.{commandOf};
 ghost use Rattle.reporting.specs.Table.{room, tableOf};
 ghost use Rattle.server.specs.Serve.{state, commanded, typed, serve};
-use super::default_response::default_response;
+ghost use Rattle.server.specs.Parts.{isSound};
+use super::checks::Opened;
+use super::checks::open_request;
+use super::without_table::serve_store;
+use super::without_table::store_command;
 use configure::configuration::read_reporting_configuration;
 use configure::configure::configure_reporting;
-use discover::attributes::discover_attributes;
 use frame::answer::Answer;
-use frame::answer::Refusal;
 use frame::answer::refuse;
 use frame::command_identifier::CommandIdentifier;
 use frame::header::FrameType;
-use frame::header::HeaderRead;
 use frame::header::ZclHeader;
-use frame::header::read_header;
-use frame::status::Status;
-use read::attributes::read_attributes;
 use reporting::table::Length;
 use reporting::table::ReportingTable;
-use store::layout::is_store;
-use store::lookup::cluster_of;
 use types::ids::ClusterId;
-use write::attributes::write_attributes;
-use write::attributes::write_attributes_no_response;
-use write::attributes::write_attributes_undivided;
 
 // An answer, and the table as it is afterwards.
 pub struct Served {
@@ -35,7 +28,7 @@ pub struct Served {
     pub table: ReportingTable,
 }
 
-// A global command: one of the seven, or UNSUP_COMMAND.
+// A global command: one of the two that need the table, or as without one.
 fn global_command(
     store: &mut [u8],
     table: ReportingTable,
@@ -49,22 +42,6 @@ fn global_command(
     let number = request.command_identifier;
     let command = CommandIdentifier::from_bits(number.0);
     match command {
-        CommandIdentifier::ReadAttributes => Served {
-            answer: read_attributes(store, request, body, reply),
-            table,
-        },
-        CommandIdentifier::WriteAttributes => Served {
-            answer: write_attributes(store, request, body, reply),
-            table,
-        },
-        CommandIdentifier::WriteAttributesUndivided => Served {
-            answer: write_attributes_undivided(store, request, body, reply),
-            table,
-        },
-        CommandIdentifier::WriteAttributesNoResponse => Served {
-            answer: write_attributes_no_response(store, request, body, reply),
-            table,
-        },
         CommandIdentifier::ConfigureReporting => {
             let configured = configure_reporting(store, table, request, body, reply);
             let answer = configured.answer;
@@ -78,19 +55,15 @@ fn global_command(
             answer: read_reporting_configuration(store, table, request, body, reply),
             table,
         },
-        CommandIdentifier::DiscoverAttributes => Served {
-            answer: discover_attributes(store, request, body, reply),
-            table,
-        },
         _ => Served {
-            answer: default_response(request, unicast, Status::UnsupCommand, reply),
+            answer: store_command(store, request, body, unicast, reply),
             table,
         },
     }
 }
 
-// By the frame's type: no cluster command is known.
-fn by_type(
+// A frame that passed the checks, by its type: only a global command may need the table.
+pub fn serve_frame(
     store: &mut [u8],
     table: ReportingTable,
     request: ZclHeader,
@@ -101,20 +74,27 @@ fn by_type(
     ensures { λ r. ⌜ seen (r .answer) (now (reply .exit)) (state (now (store .exit)) (tableOf (r .table))) ≡ typed 8 room (now (store .entry)) (tableOf table) unicast request (now (body .entry)) (length (now (reply .entry))) (frameTypeOf (request .«frame_control» .0)) ⌝ }
 {
     let kind = request.frame_control.frame_type();
-    match kind {
-        FrameType::GlobalCommand => global_command(store, table, request, body, unicast, reply),
-        FrameType::ClusterCommand => Served {
-            answer: default_response(request, unicast, Status::UnsupCommand, reply),
+    let FrameType::GlobalCommand = kind else {
+        return Served {
+            answer: serve_store(store, request, body, unicast, reply),
             table,
-        },
-        FrameType::Reserved => Served {
-            answer: refuse(reply, Refusal::ReservedFrameType),
-            table,
-        },
+        };
+    };
+    global_command(store, table, request, body, unicast, reply)
+}
+
+// Whether a value is a table.
+fn is_sound(table: ReportingTable) -> bool
+    ensures { λ r. ⌜ r ≡ isSound (tableOf table) ⌝ }
+{
+    let entries = table.len();
+    match entries {
+        Length::Entries(_) => true,
+        Length::Refused(_) => false,
     }
 }
 
-// Serves a request. The layout of the store is checked here, once.
+// Serves a request.
 pub fn handle_request(
     store: &mut [u8],
     table: ReportingTable,
@@ -125,32 +105,15 @@ pub fn handle_request(
 ) -> Served
     ensures { λ r. ⌜ seen (r .answer) (now (reply .exit)) (state (now (store .exit)) (tableOf (r .table))) ≡ serve 8 room (now (store .entry)) (tableOf table) (cluster .0) unicast (now (request .entry)) (length (now (reply .entry))) ⌝ }
 {
-    if !is_store(store) {
-        return Served {
-            answer: refuse(reply, Refusal::NotAStore),
+    let opened = open_request(store, is_sound(table), cluster, request);
+    match opened {
+        Opened::Refused(why) => Served {
+            answer: refuse(reply, why),
             table,
-        };
+        },
+        Opened::Frame(h) => {
+            let start = h.body;
+            serve_frame(store, table, h, &request[start..], unicast, reply)
+        }
     }
-    let entries = table.len();
-    let Length::Entries(_) = entries else {
-        return Served {
-            answer: refuse(reply, Refusal::NotATable),
-            table,
-        };
-    };
-    let own = cluster_of(store);
-    if own.0 != cluster.0 {
-        return Served {
-            answer: refuse(reply, Refusal::OtherCluster),
-            table,
-        };
-    }
-    let HeaderRead::Header(h) = read_header(request) else {
-        return Served {
-            answer: refuse(reply, Refusal::HeaderShort),
-            table,
-        };
-    };
-    let start = h.body;
-    by_type(store, table, h, &request[start..], unicast, reply)
 }

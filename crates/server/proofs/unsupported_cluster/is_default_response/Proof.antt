@@ -1,26 +1,16 @@
 -- A global command by its number; any other frame type is none. Assumes nothing.
-use mathlib.Core.Path.{_≡_, refl, sym, ap, _∙_}
-use mathlib.Core.Bool.{Bool, false, _&&_}
-use mathlib.Core.List.{[], _∷_}
+use mathlib.Core.Path.{sym, ap, _∙_}
+use mathlib.Core.Bool.{_&&_}
 use Prim.Native.Nat.{ℕ}
 use lib.Dec.{eqb}
-use types.Run.{OneOf, miss}
-use denote.Enum.Declared.{tagOf}
-use Rattle.frame.proofs.header.FrameType as frame-type
 use Rattle.frame.specs.CommandIdentifier.{commandCode}
 use Rattle.frame.specs.declared.header.FrameType.{FrameType}
-use Rattle.frame.specs.declared.header.FrameType.the-variants.{GlobalCommand, ClusterCommand, Reserved}
 use Rattle.frame.specs.declared.command_identifier.CommandIdentifier.the-variants.{DefaultResponse}
 use Rattle.server.specs.UnsupportedCluster.{isGlobal}
+use Rattle.server.proofs.Listed.{not-global}
 use borrow.Author.Needs.{needs}
 use Rattle.server.proofs.unsupported_cluster.is_default_response.Statement.{statement}
 use Rattle.server.proofs.unsupported_cluster.is_default_response.Tie as tie
-
--- the other types are not global
-other : (t : FrameType) → OneOf (1 ∷ 2 ∷ []) (tagOf frame-type.the-type t) → (b : Bool) → false ≡ (isGlobal t && b)
-other GlobalCommand o b = absurd (miss (1 ∷ 2 ∷ []) 0 tt o)
-other ClusterCommand o b = refl
-other Reserved o b = refl
 
 frame-type-requires : tie.Need-frame-type-requires
 frame-type-requires c κs = search needs
@@ -31,7 +21,7 @@ enum-told c = search needs
 returns : tie.Need-returns
 returns c =
     let a = c .before .before .args in
-    other (c .before .frame-type .result) (c .match .keys2) (eqb (a .request .«command_identifier» .0) (commandCode DefaultResponse))
+    not-global (c .before .frame-type .result) (c .match .keys2) (eqb (a .request .«command_identifier» .0) (commandCode DefaultResponse))
     ∙ ap (λ (t : FrameType). isGlobal t && eqb (a .request .«command_identifier» .0) (commandCode DefaultResponse)) (c .before .frame-type .ensures)
 
 raw-requires : tie.Need-raw-requires

@@ -1,0 +1,147 @@
+-- Each command's contract, with the store put beside where it stays. Assumes nothing.
+use mathlib.Core.Path.{_≡_, refl, sym, ap, _∙_}
+use denote.Ref.{now}
+use lib.ListN.{length}
+use Rattle.frame.specs.declared.command_identifier.CommandIdentifier.{CommandIdentifier}
+use Rattle.frame.specs.CommandIdentifier.{commandOf}
+use Rattle.server.specs.Serve.{within, commanded}
+use Rattle.server.specs.Parts.{storeCommanded}
+use Rattle.server.proofs.Parts.{rest-unsupported}
+use borrow.Author.Needs.{needs}
+use Rattle.server.proofs.without_table.store_command.Statement.{statement}
+use Rattle.server.proofs.without_table.store_command.Tie as tie
+
+-- the command that was told is the one of the number
+told : (c : tie.After-from-bits) (k : CommandIdentifier) → c .from-bits .result ≡ k
+    → storeCommanded 8 (now (c .before .before .before .before .before .args .store)) (c .before .before .before .before .before .args .unicast) (c .before .before .before .before .before .args .request) (now (c .before .before .before .before .before .args .body)) (length (now (c .before .before .before .before .before .args .reply))) k
+    ≡ storeCommanded 8 (now (c .before .before .before .before .before .args .store)) (c .before .before .before .before .before .args .unicast) (c .before .before .before .before .before .args .request) (now (c .before .before .before .before .before .args .body)) (length (now (c .before .before .before .before .before .args .reply))) (commandOf (c .before .before .before .before .before .args .request .«command_identifier» .0))
+told c k e = ap (storeCommanded 8 (now (c .before .before .before .before .before .args .store)) (c .before .before .before .before .before .args .unicast) (c .before .before .before .before .before .args .request) (now (c .before .before .before .before .before .args .body)) (length (now (c .before .before .before .before .before .args .reply)))) (sym e ∙ c .from-bits .ensures)
+
+from-bits-requires : tie.Need-from-bits-requires
+from-bits-requires c κs = search needs
+
+enum-told : tie.Need-enum-told
+enum-told c = search needs
+
+read-attributes-requires : tie.Need-read-attributes-requires
+read-attributes-requires c κs = search needs
+
+enum-told-2 : tie.Need-enum-told-2
+enum-told-2 c = search needs
+
+write-attributes-requires : tie.Need-write-attributes-requires
+write-attributes-requires c κs = search needs
+
+enum-told-3 : tie.Need-enum-told-3
+enum-told-3 c = search needs
+
+write-attributes-undivided-requires : tie.Need-write-attributes-undivided-requires
+write-attributes-undivided-requires c κs = search needs
+
+enum-told-4 : tie.Need-enum-told-4
+enum-told-4 c = search needs
+
+write-attributes-no-response-requires : tie.Need-write-attributes-no-response-requires
+write-attributes-no-response-requires c κs = search needs
+
+enum-told-5 : tie.Need-enum-told-5
+enum-told-5 c = search needs
+
+discover-attributes-requires : tie.Need-discover-attributes-requires
+discover-attributes-requires c κs = search needs
+
+default-response-requires : tie.Need-default-response-requires
+default-response-requires c κs = search needs
+
+same-length : tie.Need-same-length
+same-length c = search needs
+
+same-length-2 : tie.Need-same-length-2
+same-length-2 c = search needs
+
+returns : tie.Need-returns
+unfolding storeCommanded commanded
+returns c = ap (within (λ u. now (c .before .before .before .before .before .before .before .before .before .before .before .before .args .store))) (c .before .before .read-attributes .ensures) ∙ told (c .before .before .before .before .before .before .before) _ (c .before .before .before .before .before .enum-told .given .1)
+
+same-length-3 : tie.Need-same-length-3
+same-length-3 c = search needs
+
+same-length-4 : tie.Need-same-length-4
+same-length-4 c = search needs
+
+returns-2 : tie.Need-returns-2
+unfolding storeCommanded commanded
+returns-2 c = c .before .before .before .before .write-attributes .ensures ∙ told (c .before .before .before .before .before .before .before .before .before) _ (c .before .before .before .before .before .before .before .enum-told2 .given .1)
+
+same-length-5 : tie.Need-same-length-5
+same-length-5 c = search needs
+
+same-length-6 : tie.Need-same-length-6
+same-length-6 c = search needs
+
+returns-3 : tie.Need-returns-3
+unfolding storeCommanded commanded
+returns-3 c = c .before .before .before .before .write-attributes-undivided .ensures ∙ told (c .before .before .before .before .before .before .before .before .before) _ (c .before .before .before .before .before .before .before .enum-told3 .given .1)
+
+same-length-7 : tie.Need-same-length-7
+same-length-7 c = search needs
+
+same-length-8 : tie.Need-same-length-8
+same-length-8 c = search needs
+
+returns-4 : tie.Need-returns-4
+unfolding storeCommanded commanded
+returns-4 c = c .before .before .before .before .write-attributes-no-response .ensures ∙ told (c .before .before .before .before .before .before .before .before .before) _ (c .before .before .before .before .before .before .before .enum-told4 .given .1)
+
+same-length-9 : tie.Need-same-length-9
+same-length-9 c = search needs
+
+same-length-10 : tie.Need-same-length-10
+same-length-10 c = search needs
+
+returns-5 : tie.Need-returns-5
+unfolding storeCommanded commanded
+returns-5 c = ap (within (λ u. now (c .before .before .before .before .before .before .before .before .before .before .before .before .args .store))) (c .before .before .discover-attributes .ensures) ∙ told (c .before .before .before .before .before .before .before) _ (c .before .before .before .before .before .enum-told5 .given .1)
+
+same-length-11 : tie.Need-same-length-11
+same-length-11 c = search needs
+
+returns-6 : tie.Need-returns-6
+returns-6 c =
+    ap (within (λ u. now (c .before .before .before .before .before .before .before .before .before .before .args .store))) (c .before .before .default-response .ensures)
+    ∙ rest-unsupported 8 (now (c .before .before .before .before .before .before .before .before .before .before .args .store)) (c .before .before .before .before .before .before .before .before .before .before .args .unicast) (c .before .before .before .before .before .before .before .before .before .before .args .request) (now (c .before .before .before .before .before .before .before .before .before .before .args .body)) (length (now (c .before .before .before .before .before .before .before .before .before .before .args .reply))) (c .before .before .before .before .before .from-bits .result) (c .before .before .before .before .match .keys6)
+    ∙ told (c .before .before .before .before .before) (c .before .before .before .before .before .from-bits .result) refl
+
+pub store-command-spec : {M : Type 1} → statement M
+store-command-spec =
+    tie.close
+    (tie.spec
+    from-bits-requires
+    enum-told
+    read-attributes-requires
+    enum-told-2
+    write-attributes-requires
+    enum-told-3
+    write-attributes-undivided-requires
+    enum-told-4
+    write-attributes-no-response-requires
+    enum-told-5
+    discover-attributes-requires
+    default-response-requires
+    same-length
+    same-length-2
+    returns
+    same-length-3
+    same-length-4
+    returns-2
+    same-length-5
+    same-length-6
+    returns-3
+    same-length-7
+    same-length-8
+    returns-4
+    same-length-9
+    same-length-10
+    returns-5
+    same-length-11
+    returns-6)
