@@ -34,13 +34,10 @@ use Rattle.reporting.specs.Carried.{widths, rowsIn, entryOf, countIn, slotsIn, 
 use Rattle.reporting.proofs.Slots.{is-table}
 use Rattle.reporting.proofs.Carriage.{length-rowsIn}
 use Rattle.reporting.proofs.CarriageTable.{IsTable, the-conditions}
+use Rattle.server.specs.Parts.{isSound}
 use Rattle.hingedrift.specs.Tables.{bit, Left, left, onTable, noResult, newLeft, clearLeft, markLeft, configureLeft, askLeft, Configuration, configurationAs, noConfiguration, configurationBy, configurationLeft}
 
 -- ---- a value that is a table of these entries
-
-isSound : Table → Bool
-isSound (sound n l) = true
-isSound (bad t) = false
 
 entriesOf : Table → List Entry
 entriesOf (sound n l) = l
@@ -51,7 +48,7 @@ record Holds (t : ReportingTable) (l : List Entry) : Type 0 where
   entries : live t ≡ l
 
 holds : (t : ReportingTable) (l : List Entry) → tableOf t ≡ holding l → Holds t l
-unfolding isSound entriesOf
+unfolding entriesOf
 holds t l e = go (ltb room (t .count)) refl e
   where
     go : (b : Bool) → ltb room (t .count) ≡ b → cond b (bad t) (sound (t .count) (live t)) ≡ holding l → Holds t l
@@ -150,7 +147,7 @@ module _ (bs : List ℕ) (r : ReadTable) (e : reading r ≡ readT 16 bs) where
 
   -- bytes that are a table
   module _ (h : not (r .known) ≡ false) where
-    pub is-one : isTable room bs ≡ true
+    is-one : isTable room bs ≡ true
     is-one = sym is-known ∙ not-false _ h
 
     the-table : IsTable room bs

@@ -3,21 +3,28 @@ use Prim.Native.Nat.{ℕ}
 use mathlib.Core.Path.{_≡_, refl, sym, ap, _∙_}
 use mathlib.Core.Bool.{Bool, true, false, not, cond, _&&_}
 use mathlib.Core.List.{List}
-use lib.ListN.{length}
+use lib.ListN.{drop}
 use lib.Dec.{ltb, leb}
-use borrow.Author.Tests.{ltb-true, ltb-false, le-leb, lt-leb, not-true}
+use borrow.Author.Tests.{ltb-true, ltb-false, le-leb, lt-leb}
+use Rattle.types.specs.Number.{AllBytes}
 use Rattle.frame.specs.declared.answer.Answer.{Answer}
-use Rattle.frame.specs.declared.answer.Refusal.{Refusal}
 use Rattle.frame.specs.declared.answer.Refusal.the-variants.{NotAStore, NotATable}
-use Rattle.frame.specs.Answer.{answerNumber, answerLength, Outcome, noState, seen, refused}
+use Rattle.frame.specs.declared.header.ZclHeader.{ZclHeader}
+use Rattle.frame.specs.Header.{frameTypeOf}
+use Rattle.frame.specs.Answer.{answerNumber, answerLength, Outcome, seen, refused}
 use Rattle.store.specs.Layout.{isStore}
 use Rattle.reporting.specs.declared.table.ReportingTable.{ReportingTable}
 use Rattle.reporting.specs.declared.carried.ReadTable.{ReadTable}
 use Rattle.reporting.specs.Table.{room, Table, sound, bad, live, tableOf, holding}
 use Rattle.reporting.specs.Carried.{sized, isTable, tableIn, tableBytes, reading, readT, Written, written, writeT}
-use Rattle.server.specs.Serve.{State, state, within, serve}
+use Rattle.reporting.proofs.CarriageTable.{bytes-back}
+use Rattle.server.specs.declared.checks.Opened.{Opened}
+use Rattle.server.specs.declared.checks.Opened.the-variants.{Frame, Refused}
+use Rattle.server.specs.Serve.{state, within, storing, typed, serve}
+use Rattle.server.specs.Parts.{openedOf, goingOn, needsTable, storeTyped}
+use Rattle.server.proofs.Parts.{served-in-parts, table-not-needed}
 use Rattle.hingedrift.specs.Serving.{handed, isUnicast, Lent, lent, bytesAfter, carried, handleLeft}
-use Rattle.hingedrift.proofs.Bridge.{is-known, is-one, meets, has-size}
+use Rattle.hingedrift.proofs.Bridge.{is-known, meets, has-size}
 
 -- number and length are the answer's
 pub hand : {S : Type 0} (a : Answer) (n used : ℕ) (d : List ℕ) (s : S) (o : Outcome S) → n ≡ answerNumber a → used ≡ answerLength a → seen a d s ≡ o → handed n used d s ≡ o
@@ -35,26 +42,56 @@ after-write t bs bs′ w z p = ap (λ (x : Written). x .bytes) (p ∙ ap (λ (b 
     go true h = rw (lt-leb (t .count) 16 (ltb-true _ _ h)) refl
     go false h = rw (le-leb (t .count) 16 (ltb-false _ _ h)) refl
 
-module _ (s bs : List ℕ) (cluster unicast : ℕ) (frame : List ℕ) (size : ℕ) (r : ReadTable) (e : reading r ≡ readT 16 bs) where
-  -- the bytes are no table: 7 where the store is none either, else 8
-  pub handle-refused : (n : ℕ) (a : Answer) (d : List ℕ) (why : Refusal) → not (r .known) ≡ true → why ≡ cond (isStore 8 s) NotATable NotAStore
-      → n ≡ answerNumber a → seen a d noState ≡ refused size why noState → handed n 0 d (lent s bs) ≡ handleLeft s bs cluster unicast frame size
-  unfolding handleLeft
-  handle-refused n a d why h ew en g =
-      let x : handed n 0 d (lent s bs) ≡ refused size why (lent s bs)
-      = λ i. handed ((en ∙ ap (λ (o : Outcome (Unit {0})). o .number) g) i) 0 (ap (λ (o : Outcome (Unit {0})). o .reply) g i) (lent s bs) in
-      x
-      ∙ ap (λ (y : Refusal). refused size y (lent s bs)) ew
-      ∙ sym (ap (λ (b : Bool). cond b (within (carried bs) (serve 8 room s (holding (tableIn bs)) cluster (isUnicast unicast) frame size)) (refused size (cond (isStore 8 s) NotATable NotAStore) (lent s bs))) (sym (is-known bs r e) ∙ not-true _ h))
+-- bytes that are a table, and stay
+module _ (bs : List ℕ) (bytes : AllBytes bs) (is : isTable room bs ≡ true) where
+  back : tableBytes room (tableIn bs) ≡ bs
+  back = bytes-back room bs bytes is
 
-  -- they are one: the request is served, and the table written back
-  module _ (h : not (r .known) ≡ false) (n used : ℕ) (a : Answer) (d s′ : List ℕ) (t : ReportingTable) (w : Bool) (bs′ : List ℕ) where
-    pub handle-served : n ≡ answerNumber a → used ≡ answerLength a
-        → seen a d (state s′ (tableOf t)) ≡ serve 8 room s (tableOf (r .table)) cluster (isUnicast unicast) frame size
-        → written w bs′ ≡ writeT 16 t bs → handed n used d (lent s′ bs′) ≡ handleLeft s bs cluster unicast frame size
-    unfolding handleLeft
-    handle-served en eu g p =
-        ap (λ (x : List ℕ). handed n used d (lent s′ x)) (after-write t bs bs′ w (has-size bs r e h) p)
-        ∙ (λ i. handed (en i) (eu i) d (lent s′ (bytesAfter bs (tableOf t))))
-        ∙ ap (within (carried bs)) (g ∙ ap (λ (x : Table). serve 8 room s x cluster (isUnicast unicast) frame size) (meets bs r e h))
-        ∙ sym (ap (λ (b : Bool). cond b (within (carried bs) (serve 8 room s (holding (tableIn bs)) cluster (isUnicast unicast) frame size)) (refused size (cond (isStore 8 s) NotATable NotAStore) (lent s bs))) (is-one bs r e h))
+  -- a frame that needs no table
+  module _ (s : List ℕ) (unicast : Bool) (h : ZclHeader) (body : List ℕ) (size : ℕ) where
+    pub frame-alone : (a : Answer) (d s′ : List ℕ) → needsTable h ≡ false → seen a d s′ ≡ storeTyped 8 s unicast h body size (frameTypeOf (h .«frame_control» .0))
+        → seen a d (lent s′ bs) ≡ within (carried bs) (typed 8 room s (holding (tableIn bs)) unicast h body size (frameTypeOf (h .«frame_control» .0)))
+    frame-alone a d s′ n e =
+        ap (λ (x : List ℕ). seen a d (lent s′ x)) (sym back)
+        ∙ ap (λ (o : Outcome (List ℕ)). within (carried bs) (storing (holding (tableIn bs)) o)) e
+        ∙ ap (within (carried bs)) (table-not-needed 8 room s (holding (tableIn bs)) unicast h body size n)
+
+    -- one that needs it: it was read, and is written back
+    pub frame-tabled : (r : ReadTable) → reading r ≡ readT 16 bs → (a : Answer) (d s′ : List ℕ) (t : ReportingTable) (w : Bool) (bs′ : List ℕ)
+        → seen a d (state s′ (tableOf t)) ≡ typed 8 room s (tableOf (r .table)) unicast h body size (frameTypeOf (h .«frame_control» .0)) → written w bs′ ≡ writeT 16 t bs
+        → seen a d (lent s′ bs′) ≡ within (carried bs) (typed 8 room s (holding (tableIn bs)) unicast h body size (frameTypeOf (h .«frame_control» .0)))
+    frame-tabled r e a d s′ t w bs′ g p =
+        let known : not (r .known) ≡ false = ap not (is-known bs r e ∙ is) in
+        ap (λ (x : List ℕ). seen a d (lent s′ x)) (after-write t bs bs′ w (has-size bs r e known) p)
+        ∙ ap (within (carried bs)) (g ∙ ap (λ (x : Table). typed 8 room s x unicast h body size (frameTypeOf (h .«frame_control» .0))) (meets bs r e known))
+
+module _ (s bs : List ℕ) (bytes : AllBytes bs) (cluster unicast : ℕ) (frame : List ℕ) (size : ℕ) where
+  -- what is left to do behind the checks
+  abbrev leftBy : Opened → Outcome Lent
+  leftBy (Frame h) = within (carried bs) (typed 8 room s (holding (tableIn bs)) (isUnicast unicast) h (drop (h .body) frame) size (frameTypeOf (h .«frame_control» .0)))
+  leftBy (Refused why) = refused size why (lent s bs)
+
+  -- over a table, as the server's
+  as-served : isTable room bs ≡ true → (o : Opened) → leftBy o ≡ within (carried bs) (goingOn 8 room s (holding (tableIn bs)) (isUnicast unicast) frame size o)
+  as-served is (Frame h) = refl
+  as-served is (Refused why) = ap (λ (x : List ℕ). refused size why (lent s x)) (sym (back bs bytes is))
+
+  -- over other bytes: 7 where the store is none either, else 8
+  as-refused : leftBy (openedOf 8 s false cluster frame) ≡ refused size (cond (isStore 8 s) NotATable NotAStore) (lent s bs)
+  unfolding openedOf
+  as-refused = go (isStore 8 s)
+    where
+      go : (b : Bool) → leftBy (cond b (Refused NotATable) (Refused NotAStore)) ≡ refused size (cond b NotATable NotAStore) (lent s bs)
+      go true = refl
+      go false = refl
+
+  by-known : (b : Bool) → isTable room bs ≡ b
+      → leftBy (openedOf 8 s b cluster frame)
+      ≡ cond b (within (carried bs) (serve 8 room s (holding (tableIn bs)) cluster (isUnicast unicast) frame size)) (refused size (cond (isStore 8 s) NotATable NotAStore) (lent s bs))
+  by-known true is = as-served is (openedOf 8 s true cluster frame) ∙ ap (within (carried bs)) (served-in-parts 8 room s (holding (tableIn bs)) cluster (isUnicast unicast) frame size)
+  by-known false is = as-refused
+
+  -- a request as the checks opened it
+  pub left-so : (known : Bool) (o r : Opened) → known ≡ isTable room bs → o ≡ openedOf 8 s known cluster frame → o ≡ r → leftBy r ≡ handleLeft s bs cluster unicast frame size
+  unfolding handleLeft
+  left-so known o r k e g = ap leftBy (sym g ∙ e ∙ ap (λ (b : Bool). openedOf 8 s b cluster frame) k) ∙ by-known (isTable room bs) refl

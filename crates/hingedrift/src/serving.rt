@@ -3,16 +3,10 @@ ghost use mathlib.Core.Path.{_≡_};
 ghost use lib.ListN.{length};
 ghost use Rattle.frame.specs.Answer.{noState};
 ghost use Rattle.hingedrift.specs.Serving.{handed, numberHanded, lent, numberLeft, unsupportedLeft, reportLeft, handleLeft};
-use frame::answer::Answer;
-use frame::answer::Refusal;
-use frame::answer::refuse;
+use super::lent::serve_lent;
 use frame::header::ManufacturerCode;
-use reporting::carried::read_table;
-use reporting::carried::write_table;
 use server::report::report;
-use server::serve::handle_request;
 use server::unsupported_cluster::unsupported_cluster;
-use store::layout::is_store;
 use store::lookup::name_of;
 use store::value::Numbered;
 use store::value::number_of;
@@ -36,7 +30,7 @@ pub extern "C" fn hd_number(store: &[u8], attribute: u16, value: &mut i64) -> u8
     }
 }
 
-// Serves a request. Where the table's bytes are none, the store is still looked at first: 7 comes before 8.
+// Serves a request.
 #[no_mangle]
 pub extern "C" fn hd_handle_request(
     store: &mut [u8],
@@ -49,28 +43,7 @@ pub extern "C" fn hd_handle_request(
 ) -> u8
     ensures { λ r. ⌜ handed r (now («reply_used» .exit)) (now (reply .exit)) (lent (now (store .exit)) (now (table .exit))) ≡ handleLeft (now (store .entry)) (now (table .entry)) cluster unicast (now (request .entry)) (length (now (reply .entry))) ⌝ }
 {
-    *reply_used = 0;
-    let read = read_table(table);
-    if !read.known {
-        let why = if is_store(store) {
-            Refusal::NotATable
-        } else {
-            Refusal::NotAStore
-        };
-        let refused = refuse(reply, why);
-        return refused.number();
-    }
-    let before = read.table;
-    let served = handle_request(
-        store,
-        before,
-        ClusterId(cluster),
-        unicast != 0,
-        request,
-        reply,
-    );
-    write_table(table, served.table);
-    let answer = served.answer;
+    let answer = serve_lent(store, table, ClusterId(cluster), unicast, request, reply);
     *reply_used = answer.reply_len();
     answer.number()
 }

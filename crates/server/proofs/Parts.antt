@@ -86,6 +86,16 @@ opened-header form s known cluster frame h e = go (isStore form s) known (eqb cl
     go true false c r e = absurd (subst IsFrame (sym e) tt)
     go false b c r e = absurd (subst IsFrame (sym e) tt)
 
+-- nothing is opened where the table is known to be none
+pub opened-known : (form : ℕ) (s : List ℕ) (known : Bool) (cluster : ℕ) (frame : List ℕ) (h : ZclHeader) → openedOf form s known cluster frame ≡ Frame h → known ≡ true
+unfolding openedOf
+opened-known form s known cluster frame h e = go (isStore form s) known e
+  where
+    go : (a b : Bool) → cond a (cond b (cond (eqb cluster (clusterOf s)) (headerOpened (headerOf frame)) (Refused OtherCluster)) (Refused NotATable)) (Refused NotAStore) ≡ Frame h → b ≡ true
+    go a true e = refl
+    go true false e = absurd (subst IsFrame (sym e) tt)
+    go false false e = absurd (subst IsFrame (sym e) tt)
+
 -- the body lies within the frame, and is what lies behind the header
 pub opened-body : (form : ℕ) (s : List ℕ) (known : Bool) (cluster : ℕ) (frame : List ℕ) (h : ZclHeader) → openedOf form s known cluster frame ≡ Frame h → h .body ≤ length frame
 opened-body form s known cluster frame h e = header-body frame h (opened-header form s known cluster frame h e) .0

@@ -1,0 +1,66 @@
+// A request served over a table that is lent as bytes: for a command that needs no table they are looked at, and neither read nor written.
+ghost use mathlib.Core.Path.{_≡_};
+ghost use mathlib.Core.Bool.{true};
+ghost use lib.ListN.{length};
+ghost use Rattle.frame.specs.Answer.{seen};
+ghost use Rattle.frame.specs.Header.{frameTypeOf};
+ghost use Rattle.reporting.specs.Table.{room, holding};
+ghost use Rattle.reporting.specs.Carried.{isTable, tableIn};
+ghost use Rattle.server.specs.Serve.{within, typed};
+ghost use Rattle.hingedrift.specs.Serving.{lent, carried, handleLeft};
+use frame::answer::Answer;
+use frame::answer::refuse;
+use frame::header::ZclHeader;
+use reporting::carried::is_table;
+use reporting::carried::read_table;
+use reporting::carried::write_table;
+use server::checks::Opened;
+use server::checks::open_request;
+use server::serve::serve_frame;
+use server::without_table::needs_table;
+use server::without_table::serve_store;
+use types::ids::ClusterId;
+
+// A frame that passed the checks.
+fn frame_lent(
+    store: &mut [u8],
+    table: &mut [u8],
+    request: ZclHeader,
+    body: &[u8],
+    unicast: bool,
+    reply: &mut [u8],
+) -> Answer
+    requires { ⌜ isTable room (now table) ≡ true ⌝ }
+    ensures { λ r. ⌜ seen r (now (reply .exit)) (lent (now (store .exit)) (now (table .exit))) ≡ within (carried (now (table .entry))) (typed 8 room (now (store .entry)) (holding (tableIn (now (table .entry)))) unicast request (now (body .entry)) (length (now (reply .entry))) (frameTypeOf (request .«frame_control» .0))) ⌝ }
+{
+    if !needs_table(request) {
+        return serve_store(store, request, body, unicast, reply);
+    }
+    let read = read_table(table);
+    let before = read.table;
+    let served = serve_frame(store, before, request, body, unicast, reply);
+    write_table(table, served.table);
+    served.answer
+}
+
+// A request: the checks, then its frame.
+pub(crate) fn serve_lent(
+    store: &mut [u8],
+    table: &mut [u8],
+    cluster: ClusterId,
+    unicast: u8,
+    request: &[u8],
+    reply: &mut [u8],
+) -> Answer
+    ensures { λ r. ⌜ seen r (now (reply .exit)) (lent (now (store .exit)) (now (table .exit))) ≡ handleLeft (now (store .entry)) (now (table .entry)) (cluster .0) unicast (now (request .entry)) (length (now (reply .entry))) ⌝ }
+{
+    let known = is_table(table);
+    let opened = open_request(store, known, cluster, request);
+    match opened {
+        Opened::Refused(why) => refuse(reply, why),
+        Opened::Frame(h) => {
+            let start = h.body;
+            frame_lent(store, table, h, &request[start..], unicast != 0, reply)
+        }
+    }
+}
