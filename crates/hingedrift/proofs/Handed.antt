@@ -8,7 +8,6 @@ use lib.Dec.{ltb, leb}
 use borrow.Author.Tests.{ltb-true, ltb-false, le-leb, lt-leb}
 use Rattle.types.specs.Number.{AllBytes}
 use Rattle.frame.specs.declared.answer.Answer.{Answer}
-use Rattle.frame.specs.declared.answer.Refusal.the-variants.{NotAStore, NotATable}
 use Rattle.frame.specs.declared.header.ZclHeader.{ZclHeader}
 use Rattle.frame.specs.Header.{frameTypeOf}
 use Rattle.frame.specs.Answer.{answerNumber, answerLength, Outcome, seen, refused}
@@ -76,22 +75,30 @@ module _ (s bs : List ℕ) (bytes : AllBytes bs) (cluster unicast : ℕ) (frame 
   as-served is (Frame h) = refl
   as-served is (Refused why) = ap (λ (x : List ℕ). refused size why (lent s x)) (sym (back bs bytes is))
 
-  -- over other bytes: 7 where the store is none either, else 8
-  as-refused : leftBy (openedOf 8 s false cluster frame) ≡ refused size (cond (isStore 8 s) NotATable NotAStore) (lent s bs)
-  unfolding openedOf
-  as-refused = go (isStore 8 s)
-    where
-      go : (b : Bool) → leftBy (cond b (Refused NotATable) (Refused NotAStore)) ≡ refused size (cond b NotATable NotAStore) (lent s bs)
-      go true = refl
-      go false = refl
+  on-table : isTable room bs ≡ true → within (carried bs) (serve 8 room s (holding (tableIn bs)) cluster (isUnicast unicast) frame size) ≡ handleLeft s bs cluster unicast frame size
+  unfolding handleLeft
+  on-table is = rw is
 
-  by-known : (b : Bool) → isTable room bs ≡ b
-      → leftBy (openedOf 8 s b cluster frame)
-      ≡ cond b (within (carried bs) (serve 8 room s (holding (tableIn bs)) cluster (isUnicast unicast) frame size)) (refused size (cond (isStore 8 s) NotATable NotAStore) (lent s bs))
-  by-known true is = as-served is (openedOf 8 s true cluster frame) ∙ ap (within (carried bs)) (served-in-parts 8 room s (holding (tableIn bs)) cluster (isUnicast unicast) frame size)
-  by-known false is = as-refused
+  -- over other bytes: 7 where the store is none either, else 8
+  no-store : isTable room bs ≡ false → isStore 8 s ≡ false → leftBy (openedOf 8 s false cluster frame) ≡ handleLeft s bs cluster unicast frame size
+  unfolding openedOf handleLeft
+  no-store is e = rw (is, e)
+
+  no-table : isTable room bs ≡ false → isStore 8 s ≡ true → leftBy (openedOf 8 s false cluster frame) ≡ handleLeft s bs cluster unicast frame size
+  unfolding openedOf handleLeft
+  no-table is e = rw (is, e)
+
+  by-known : (known : Bool) → isTable room bs ≡ known → leftBy (openedOf 8 s known cluster frame) ≡ handleLeft s bs cluster unicast frame size
+  by-known true is =
+      as-served is (openedOf 8 s true cluster frame)
+      ∙ ap (within (carried bs)) (served-in-parts 8 room s (holding (tableIn bs)) cluster (isUnicast unicast) frame size)
+      ∙ on-table is
+  by-known false is = go (isStore 8 s) refl
+    where
+      go : (b : Bool) → isStore 8 s ≡ b → leftBy (openedOf 8 s false cluster frame) ≡ handleLeft s bs cluster unicast frame size
+      go true e = no-table is e
+      go false e = no-store is e
 
   -- a request as the checks opened it
   pub left-so : (known : Bool) (o r : Opened) → known ≡ isTable room bs → o ≡ openedOf 8 s known cluster frame → o ≡ r → leftBy r ≡ handleLeft s bs cluster unicast frame size
-  unfolding handleLeft
-  left-so known o r k e g = ap leftBy (sym g ∙ e ∙ ap (λ (b : Bool). openedOf 8 s b cluster frame) k) ∙ by-known (isTable room bs) refl
+  left-so known o r k e g = ap leftBy (sym g ∙ e) ∙ by-known known (sym k)
