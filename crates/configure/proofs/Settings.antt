@@ -1,14 +1,13 @@
--- A configuration, and what it comes to in the table: from what the table's methods ensure to the events of the definition. Assumes
--- nothing.
+-- A configuration: from what the table's methods ensure to the events of its deed, and from the deed to the definition. Assumes nothing.
 use mathlib.Core.Path.{_≡_, refl, sym, ap, _∙_}
 use mathlib.Core.Bool.{Bool, true, false, cond, true≢false, false≢true}
-use mathlib.Core.List.{List, [], _∷_}
+use mathlib.Core.List.{List, [], _∷_, _++_, append-nil}
 use Prim.Native.Nat.{ℕ}
 use borrow.Author.Tests.{eq-eqb, ne-eqb}
 use types.Run.{OneOf, miss}
 use denote.Enum.Declared.{tagOf}
 use Rattle.frame.specs.declared.status.Status.{Status}
-use Rattle.frame.specs.declared.status.Status.the-variants.{Success, InsufficientSpace, UnsupportedAttribute, UnreportableAttribute, InvalidDataType}
+use Rattle.frame.specs.declared.status.Status.the-variants.{Success, InvalidValue, InsufficientSpace, UnsupportedAttribute, UnreportableAttribute, InvalidDataType}
 use Rattle.frame.specs.Failures.{Did, did}
 use Rattle.store.specs.declared.lookup.Found.{Found}
 use Rattle.store.specs.declared.lookup.Found.the-variants.{At, Nothing}
@@ -24,10 +23,11 @@ use Rattle.reporting.specs.declared.table.Change.the-variants as ChangeV
 use Rattle.reporting.specs.declared.table.Changed.{Changed}
 use Rattle.reporting.specs.Entries.{acceptsL, configureL}
 use Rattle.reporting.specs.Table.{room, tableOf, holding, changeTold, Outcome, outcome, doneT, fullT, configureT, clearT}
-use Rattle.reporting.specs.Events.{Event, run, Wish, clears, sets, wish, statusW, recordW, events, configRecord}
-use Rattle.reporting.proofs.Histories.{run-append, configure-refused, call-is}
+use Rattle.reporting.specs.Events.{Event, configured, cleared, run, Wish, clears, wrong, sets, wish, statusW, eventsW}
+use Rattle.reporting.proofs.Histories.{run-append}
 use Rattle.configure.specs.Configure.{checked, setting}
-use Rattle.configure.specs.Inside.{Came, Comes, Tries}
+use Rattle.configure.specs.declared.settle.Deed.{Deed}
+use Rattle.configure.specs.Inside.{Judges, Does, Settles}
 
 -- ---- the methods of the table
 
@@ -37,60 +37,46 @@ not-done ChangeV.Done o = absurd (miss (1 ∷ 2 ∷ []) 0 tt o)
 not-done ChangeV.Full o = refl
 not-done (ChangeV.Refused why) o = refl
 
-module _ (k : Key) (g : ReportingConfig) (t : ReportingTable) (r : Changed) where
-  configured-in : outcome r ≡ configureT room k g (tableOf t) → (l : List Entry) → tableOf t ≡ holding l → outcome r ≡ cond (acceptsL room k l) (doneT (configureL room k g l)) (fullT l)
-  configured-in e l h = e ∙ ap (configureT room k g) h
+-- what it did is what the deed's events leave
+module _ (k : Key) (t : ReportingTable) (r : Changed) where
+  pub clear-settles : outcome r ≡ clearT k (tableOf t) → Settles (Deed.Clears k) t Success (r .table)
+  clear-settles e l es h = record { is = refl; left = ap (λ (o : Outcome). o .table) (e ∙ ap (clearT k) h) ∙ ap holding (sym (run-append room es (cleared k ∷ []) l)) }
 
-  set-came : (status : Status) (b : Bool) → status ≡ statusW sets b → changeTold (r .answer) .accepted ≡ b → outcome r ≡ configureT room k g (tableOf t) → Comes sets k g t status (r .table)
-  set-came status b q a e l h = go (acceptsL room k l) refl b q a (configured-in e l h)
-    where
-      go : (c : Bool) → acceptsL room k l ≡ c → (b : Bool) → status ≡ statusW sets b → changeTold (r .answer) .accepted ≡ b → outcome r ≡ cond c (doneT (configureL room k g l)) (fullT l)
-          → Came sets k g l status (r .table)
-      go true f true q a x = record { is = q ∙ ap (statusW sets) (sym f); table = ap (λ (o : Outcome). o .table) x }
-      go true f false q a x = absurd (false≢true (sym a ∙ ap (λ (o : Outcome). o .told .accepted) x))
-      go false f true q a x = absurd (true≢false (sym a ∙ ap (λ (o : Outcome). o .told .accepted) x))
-      go false f false q a x = record {
-        is = q ∙ ap (statusW sets) (sym f);
-        table = ap (λ (o : Outcome). o .table) x ∙ ap holding (sym (configure-refused room k g l f));
-      }
+  module _ (g : ReportingConfig) where
+    set-settles : (status : Status) (b : Bool) → status ≡ statusW sets b → changeTold (r .answer) .accepted ≡ b → outcome r ≡ configureT room k g (tableOf t) → Settles (Deed.Sets k g) t status (r .table)
+    set-settles status b q a e l es h = go (acceptsL room k (run room es l)) b q a (e ∙ ap (configureT room k g) h)
+      where
+        go : (c b : Bool) → status ≡ statusW sets b → changeTold (r .answer) .accepted ≡ b → outcome r ≡ cond c (doneT (configureL room k g (run room es l))) (fullT (run room es l))
+            → Does l (did (statusW sets c) (es ++ eventsW sets c k g)) status (r .table)
+        go true true q a x = record { is = q; left = ap (λ (o : Outcome). o .table) x ∙ ap holding (sym (run-append room es (configured k g ∷ []) l)) }
+        go true false q a x = absurd (false≢true (sym a ∙ ap (λ (o : Outcome). o .told .accepted) x))
+        go false true q a x = absurd (true≢false (sym a ∙ ap (λ (o : Outcome). o .told .accepted) x))
+        go false false q a x = record { is = q; left = ap (λ (o : Outcome). o .table) x ∙ ap holding (sym (run-append room es [] l)) }
 
-  pub set-done : r .answer ≡ ChangeV.Done → outcome r ≡ configureT room k g (tableOf t) → Comes sets k g t Success (r .table)
-  set-done a e = set-came Success true refl (ap (λ (x : Change). changeTold x .accepted) a) e
+    pub set-done : r .answer ≡ ChangeV.Done → outcome r ≡ configureT room k g (tableOf t) → Settles (Deed.Sets k g) t Success (r .table)
+    set-done a e = set-settles Success true refl (ap (λ (x : Change). changeTold x .accepted) a) e
 
-  pub set-full : OneOf (1 ∷ 2 ∷ []) (tagOf change.the-type (r .answer)) → outcome r ≡ configureT room k g (tableOf t) → Comes sets k g t InsufficientSpace (r .table)
-  set-full a e = set-came InsufficientSpace false refl (not-done (r .answer) a) e
+    pub set-full : OneOf (1 ∷ 2 ∷ []) (tagOf change.the-type (r .answer)) → outcome r ≡ configureT room k g (tableOf t) → Settles (Deed.Sets k g) t InsufficientSpace (r .table)
+    set-full a e = set-settles InsufficientSpace false refl (not-done (r .answer) a) e
 
-  pub cleared-comes : outcome r ≡ clearT k (tableOf t) → Comes clears k g t Success (r .table)
-  cleared-comes e l h = record { is = refl; table = ap (λ (o : Outcome). o .table) (e ∙ ap (clearT k) h) }
+-- ---- the deed that a configuration wishes
 
--- ---- from a wish to events
+module _ (k : Key) (g : ReportingConfig) where
+  by-wish : (w : Wish) → wish g ≡ w → (l : List Entry) (es : List Event)
+      → did (statusW w (acceptsL room k (run room es l))) (es ++ eventsW w (acceptsL room k (run room es l)) k g) ≡ setting room l k g es
+  unfolding setting
+  by-wish w e l es = ap (λ (v : Wish). did (statusW v (acceptsL room k (run room es l))) (es ++ eventsW v (acceptsL room k (run room es l)) k g)) (sym e)
 
--- a table of these entries is what no events leave of them; and so what a wish comes to is what the record's events leave
-pub settles : (k : Key) (g : ReportingConfig) (t u : ReportingTable) (status : Status) (w : Wish) → w ≡ wish g → Comes w k g t status u → Tries (λ l es. setting room l k g es) t status u
-unfolding setting
-settles k g t u status w e c l es h =
-    let here : List Entry = run room es l in
-    let x = c here h in
-    record {
-      is = x .is ∙ ap (λ (v : Wish). statusW v (acceptsL room k here)) e;
-      left =
-          x .table
-          ∙ ap (λ (v : Wish). holding (recordW v room k g here)) e
-          ∙ ap holding (sym (call-is room (configRecord k g) here .table))
-          ∙ ap holding (sym (run-append room es (events room (configRecord k g) here) l));
-    }
+  pub wish-clears : wish g ≡ clears → Judges (λ l es. setting room l k g es) (Deed.Clears k)
+  wish-clears e l es = by-wish clears e l es
+
+  pub wish-wrong : wish g ≡ wrong → Judges (λ l es. setting room l k g es) (Deed.Fails InvalidValue)
+  wish-wrong e l es = ap (did InvalidValue) (sym (append-nil es)) ∙ by-wish wrong e l es
+
+  pub wish-sets : wish g ≡ sets → Judges (λ l es. setting room l k g es) (Deed.Sets k g)
+  wish-sets e l es = by-wish sets e l es
 
 -- ---- the checks before it
-
-pub tries-as : (want other : List Entry → List Event → Did (List Event)) → ((l : List Entry) (es : List Event) → other l es ≡ want l es)
-    → (t u : ReportingTable) (status : Status) → Tries other t status u → Tries want t status u
-tries-as want other e t u status c l es h =
-    let x = c l es h in
-    record { is = x .is ∙ ap (λ (d : Did (List Event)). d .status) (e l es); left = x .left ∙ ap (λ (d : Did (List Event)). holding (run room (d .state) l)) (e l es) }
-
--- a failure leaves the table
-pub fails-with : (want : List Entry → List Event → Did (List Event)) (status : Status) → ((l : List Entry) (es : List Event) → did status es ≡ want l es) → (t : ReportingTable) → Tries want t status t
-fails-with want status e t = tries-as want (λ l es. did status es) e t t status (λ l es h. record { is = refl; left = h })
 
 module _ (f : Found) (t : ℕ) (es : List Event) (fine : Did (List Event)) where
   pub checked-missing : f ≡ Nothing → did UnsupportedAttribute es ≡ checked f t es fine

@@ -1,5 +1,5 @@
 -- One record done, the loop over the records, and the whole command. Assumes nothing.
-use mathlib.Core.Path.{_≡_, refl, sym, ap, _∙_}
+use mathlib.Core.Path.{_≡_, refl, sym, ap, _∙_, subst}
 use mathlib.Core.Bool.{Bool, true, false, cond}
 use mathlib.Core.List.{List, []}
 use Prim.Native.Nat.{ℕ, _≤_, _<_}
@@ -21,9 +21,9 @@ use Rattle.frame.specs.declared.command_identifier.CommandIdentifier.the-varian
 use Rattle.frame.specs.Status.{statusCode}
 use Rattle.frame.specs.Header.{replyHead}
 use Rattle.frame.specs.Answer.{refusalNumber, noState, seen, refused}
-use Rattle.frame.specs.Walk.{item}
+use Rattle.frame.specs.Walk.{item, unread}
 use Rattle.frame.specs.Reply.{putting, put}
-use Rattle.frame.specs.Failures.{did, performed, noting, concludedAt}
+use Rattle.frame.specs.Failures.{Did, did, performed, noting, concludedAt}
 use Rattle.frame.specs.Passes.{TookOne}
 use Rattle.frame.proofs.Codes.{refusal-nonzero}
 use Rattle.frame.proofs.Outcome.{refused-with}
@@ -39,9 +39,9 @@ use Rattle.reporting.specs.Events.{Event}
 use Rattle.reporting.proofs.Slots.{live-length}
 use Rattle.configure.specs.Request.{keyFor, received, reported, configureAt, configures}
 use Rattle.configure.specs.Configure.{Failure, failure, encode, checked, setting, tried, configuring, configureEvents, left, configureOf}
-use Rattle.configure.specs.Inside.{Left, Tries, Took, Missed, Runs}
+use Rattle.configure.specs.declared.settle.Deed.{Deed}
+use Rattle.configure.specs.Inside.{Left, Judges, Does, Settles, Took, Runs}
 use Rattle.configure.proofs.Items.{ahead}
-use Rattle.configure.proofs.Settings.{fails-with}
 
 -- a failure takes bytes
 pub some : (f : Failure) → 0 < length (encode f)
@@ -49,18 +49,16 @@ some f = omega arith
 
 -- ---- one record
 
-module _ (s : List ℕ) (request : ZclHeader) (body : List ℕ) (at end : ℕ) (t : ReportingTable) where
-  pub took-received : (direction id : ℕ) → configureAt body at ≡ item (received direction id) end
-      → Took s request body at end t UnreportableAttribute (failure (statusCode UnreportableAttribute) direction id) t
+module _ (s : List ℕ) (request : ZclHeader) (body : List ℕ) (at end id : ℕ) where
+  pub took-received : (direction : ℕ) → configureAt body at ≡ item (received direction id) end → Took s request body at end direction id (Deed.Fails UnreportableAttribute)
   unfolding tried
-  took-received direction id e =
-      record { taken = received direction id; is = e; named = refl; does = fails-with (λ l es. tried 8 room s request l es (received direction id)) UnreportableAttribute (λ l es. refl) t }
+  took-received direction e = record { taken = received direction id; is = e; named = λ status. refl; judged = λ l es. refl }
 
-  pub took-reported : (id kind : ℕ) (g : ReportingConfig) (status : Status) (u : ReportingTable) → configureAt body at ≡ item (reported id kind g) end
-      → Tries (λ l es. checked (findOf 8 s (nameOf (request .«manufacturer_code» .0) id)) kind es (setting room l (keyFor s request id) g es)) t status u
-      → Took s request body at end t status (failure (statusCode status) 0 id) u
+  pub took-reported : (kind : ℕ) (g : ReportingConfig) (deed : Deed) → configureAt body at ≡ item (reported id kind g) end
+      → Judges (λ l es. checked (findOf 8 s (nameOf (request .«manufacturer_code» .0) id)) kind es (setting room l (keyFor s request id) g es)) deed
+      → Took s request body at end 0 id deed
   unfolding tried
-  took-reported id kind g status u e c = record { taken = reported id kind g; is = e; named = refl; does = c }
+  took-reported kind g deed e c = record { taken = reported id kind g; is = e; named = λ status. refl; judged = c }
 
 -- ---- the loop
 
@@ -88,37 +86,36 @@ module _ {s : List ℕ} {request : ZclHeader} {body : List ℕ} {start : ℕ} {t
       record { events = x .events; left = x .left; passed = going-done (x .going) h }
 
   module _ (lt : at < length body) where
-    pub goes-cut : (u : ReportingTable) (after : List ℕ) → Missed body at t u → Runs s request body start t₀ d₀ Pass.Cut u after
-    goes-cut u after m l e =
+    pub goes-cut : (after : List ℕ) → configureAt body at ≡ unread → Runs s request body start t₀ d₀ Pass.Cut t after
+    goes-cut after m l e =
         let x = g .along l e in
-        record {
-          events = x .events;
-          left = ap tableOf (m .same) ∙ x .left;
-          passed = going-cut (x .going) lt (x .events) after (record { is = m .is; same = refl });
-        }
+        record { events = x .events; left = x .left; passed = going-cut (x .going) lt (x .events) after (record { is = m; same = refl }) }
 
-    module _ (end : ℕ) (status : Status) (f : Failure) (u : ReportingTable) (k : Took s request body at end t status f u)
-        (r : Put) (after : List ℕ) (p : putting r after ≡ noting d out status (encode f)) where
-      -- the events with this record's behind them
-      abbrev then : (l : List Entry) → tableOf t₀ ≡ holding l → List Event
-      then l e = tried 8 room s request l (g .along l e .events) (k .taken) .state
+    module _ (end direction id : ℕ) (deed : Deed) (k : Took s request body at end direction id deed) (status : Status) (u : ReportingTable) (does : Settles deed t status u)
+        (r : Put) (after : List ℕ) (p : putting r after ≡ noting d out status (encode (failure (statusCode status) direction id))) where
+      abbrev fails : Failure
+      fails = failure (statusCode status) direction id
 
-      took : (l : List Entry) (e : tableOf t₀ ≡ holding l) → TookOne (configuring 8 room s request l) (configureAt body) (g .along l e .events) at end status f (then l e)
-      took l e =
+      -- what the definition does: the events with this record's behind them
+      abbrev want : (l : List Entry) → tableOf t₀ ≡ holding l → Did (List Event)
+      want l e = tried 8 room s request l (g .along l e .events) (k .taken)
+
+      done : (l : List Entry) (e : tableOf t₀ ≡ holding l) → Does l (want l e) status u
+      done l e =
           let x = g .along l e in
-          record { taken = k .taken; is = k .is; does = ap (λ (y : Status). did y (then l e)) (k .does l (x .events) (x .left) .is); named = k .named }
+          subst (λ (w : Did (List Event)). Does l w status u) (k .judged l (x .events)) (does l (x .events) (x .left))
 
-      left-by : (l : List Entry) (e : tableOf t₀ ≡ holding l) → Left l (then l e) u
-      left-by l e = let x = g .along l e in k .does l (x .events) (x .left) .left
+      took : (l : List Entry) (e : tableOf t₀ ≡ holding l) → TookOne (configuring 8 room s request l) (configureAt body) (g .along l e .events) at end status fails (want l e .state)
+      took l e = record { taken = k .taken; is = k .is; does = ap (λ (y : Status). did y (want l e .state)) (done l e .is); named = k .named status }
 
       pub goes-more : (o : ℕ) → r ≡ At o → length after ≡ length d → Goes s request body start t₀ d₀ u after end o
       goes-more o q n = record {
         reply-length = n ∙ g .reply-length;
-        along = λ l e. record { events = then l e; left = left-by l e; going = going-more (g .along l e .going) lt (ahead body) end status f (then l e) (took l e) r after p o q n };
+        along = λ l e. record { events = want l e .state; left = done l e .left; going = going-more (g .along l e .going) lt (ahead body) end status fails (want l e .state) (took l e) r after p o q n };
       }
 
       pub goes-stop : r ≡ Full → Runs s request body start t₀ d₀ Pass.Full u after
-      goes-stop q l e = record { events = then l e; left = left-by l e; passed = going-stop (g .along l e .going) lt (ahead body) end status f (then l e) (took l e) r after p q }
+      goes-stop q l e = record { events = want l e .state; left = done l e .left; passed = going-stop (g .along l e .going) lt (ahead body) end status fails (want l e .state) (took l e) r after p q }
 
 -- ---- the whole command
 

@@ -1,33 +1,32 @@
 -- What inner functions say; nothing that a caller of this crate must believe. Assumes nothing: these are definitions.
 use mathlib.Core.Path.{_≡_}
 use Prim.Native.Nat.{ℕ}
-use mathlib.Core.List.{List, []}
+use mathlib.Core.Bool.{Bool}
+use mathlib.Core.List.{List, [], _∷_, _++_}
 use Rattle.frame.specs.declared.header.ZclHeader.{ZclHeader}
 use Rattle.frame.specs.declared.status.Status.{Status}
+use Rattle.frame.specs.declared.status.Status.the-variants.{Success}
 use Rattle.frame.specs.declared.failures.Pass.{Pass}
 use Rattle.frame.specs.Status.{statusCode}
 use Rattle.frame.specs.Walk.{Item, item, unread}
-use Rattle.frame.specs.Failures.{Did}
+use Rattle.frame.specs.Failures.{Did, did}
 use Rattle.frame.specs.Passes.{Passed}
-use Rattle.reporting.specs.declared.entry.Key.{Key}
-use Rattle.reporting.specs.declared.entry.ReportingConfig.{ReportingConfig}
 use Rattle.reporting.specs.declared.entry.Entry.{Entry}
 use Rattle.reporting.specs.declared.table.ReportingTable.{ReportingTable}
 use Rattle.reporting.specs.Entries.{acceptsL}
 use Rattle.reporting.specs.Table.{room, tableOf, holding, sound}
-use Rattle.reporting.specs.Events.{Event, run, Wish, clears, wrong, sets, statusW, recordW}
+use Rattle.reporting.specs.Events.{Event, cleared, run, sets, statusW, eventsW}
 use Rattle.configure.specs.declared.record.Next.{Next}
-use Rattle.configure.specs.declared.pass.Step.{Step}
+use Rattle.configure.specs.declared.settle.Deed.{Deed}
+use Rattle.configure.specs.declared.pass.Turn.{Turn}
 use Rattle.configure.specs.Request.{ConfigureRecord, received, reported, configureAt, configures, Asked, asked, askedAt}
-use Rattle.configure.specs.Configure.{Failure, failure, failing, tried, configuring}
+use Rattle.configure.specs.Configure.{failure, failing, tried, configuring}
 use lib.ListN.{length}
 use Rattle.frame.specs.declared.answer.Answer.{Answer}
 use Rattle.frame.specs.declared.reply.Put.{Put}
 use Rattle.frame.specs.Shortened.{Turned, Walked}
 use Rattle.configure.specs.declared.configuration.NextAsked.{NextAsked}
 use Rattle.configure.specs.Configuration.{encode, recordFor}
-use Rattle.configure.specs.declared.settle.Wish.the-variants as Told
-use Rattle.configure.specs.declared.settle.Wish as Declared
 use Rattle.configure.specs.declared.configuration.NextAsked.the-variants as NextAskedV
 
 -- ---- 06: one record
@@ -39,48 +38,42 @@ itemOf Next.Cut = unread
 
 -- ---- a configuration and the table
 
-abbrev pub wishTold : Declared.Wish → Wish
-wishTold Told.Clears = clears
-wishTold Told.Wrong = wrong
-wishTold Told.Sets = sets
-
--- what a wish comes to in a table of these entries: a status, and the table afterwards
-pub record Came (w : Wish) (k : Key) (g : ReportingConfig) (l : List Entry) (status : Status) (u : ReportingTable) : Type 0 where
-  pub is : status ≡ statusW w (acceptsL room k l)
-  pub table : tableOf u ≡ holding (recordW w room k g l)
-
-abbrev pub Comes : Wish → Key → ReportingConfig → ReportingTable → Status → ReportingTable → Type 0
-Comes w k g t status u = (l : List Entry) → tableOf t ≡ holding l → Came w k g l status u
-
 -- a table is what events leave of these entries
 abbrev pub Left : List Entry → List Event → ReportingTable → Type 0
 Left l es t = tableOf t ≡ holding (run room es l)
 
--- this status was given, and the table is what these events leave
+-- what a deed comes to in a table that events left: its status, and the events with its own behind them
+abbrev pub deedOf : Deed → List Entry → List Event → Did (List Event)
+deedOf (Deed.Fails why) l es = did why es
+deedOf (Deed.Clears k) l es = did Success (es ++ cleared k ∷ [])
+deedOf (Deed.Sets k g) l es =
+    let accepted : Bool = acceptsL room k (run room es l) in
+    did (statusW sets accepted) (es ++ eventsW sets accepted k g)
+
+-- it is what the definition wants, whatever the table
+abbrev pub Judges : (List Entry → List Event → Did (List Event)) → Deed → Type 0
+Judges want deed = (l : List Entry) (es : List Event) → deedOf deed l es ≡ want l es
+
+-- it was done: this status was given, and the table is what its events leave
 pub record Does (l : List Entry) (want : Did (List Event)) (status : Status) (u : ReportingTable) : Type 0 where
   pub is : status ≡ want .status
   pub left : Left l (want .state) u
 
--- so it is for every table, whatever events left it
-abbrev pub Tries : (List Entry → List Event → Did (List Event)) → ReportingTable → Status → ReportingTable → Type 0
-Tries want t status u = (l : List Entry) (es : List Event) → Left l es t → Does l (want l es) status u
+abbrev pub Settles : Deed → ReportingTable → Status → ReportingTable → Type 0
+Settles deed t status u = (l : List Entry) (es : List Event) → Left l es t → Does l (deedOf deed l es) status u
 
 -- ---- the pass
 
--- the record at a place was read and done, or none could be read
-pub record Took (s : List ℕ) (request : ZclHeader) (body : List ℕ) (at end : ℕ) (t : ReportingTable) (status : Status) (f : Failure) (u : ReportingTable) : Type 0 where
+-- the record at a place was read and judged, or none could be read
+pub record Took (s : List ℕ) (request : ZclHeader) (body : List ℕ) (at end direction id : ℕ) (deed : Deed) : Type 0 where
   pub taken : ConfigureRecord
   pub is : configureAt body at ≡ item taken end
-  pub named : f ≡ failing status taken
-  pub does : Tries (λ l es. tried 8 room s request l es taken) t status u
+  pub named : (status : Status) → failure (statusCode status) direction id ≡ failing status taken
+  pub judged : Judges (λ l es. tried 8 room s request l es taken) deed
 
-pub record Missed (body : List ℕ) (at : ℕ) (t u : ReportingTable) : Type 0 where
-  pub is : configureAt body at ≡ unread
-  pub same : u ≡ t
-
-abbrev pub Steps : List ℕ → ZclHeader → List ℕ → ℕ → ReportingTable → Step → ReportingTable → Type 0
-Steps s request body at t (Step.Done end status direction id) u = Took s request body at end t status (failure (statusCode status) direction (id .0)) u
-Steps s request body at t Step.Cut u = Missed body at t u
+abbrev pub Turns : List ℕ → ZclHeader → List ℕ → ℕ → Turn → Type 0
+Turns s request body at (Turn.Read end direction id deed) = Took s request body at end direction (id .0) deed
+Turns s request body at Turn.Cut = configureAt body at ≡ unread
 
 -- every record was done, in a table of these entries and behind whatever head the buffer showed
 pub record Ran (s : List ℕ) (request : ZclHeader) (body : List ℕ) (start : ℕ) (l : List Entry) (d : List ℕ) (done : Pass) (u : ReportingTable) (after : List ℕ) : Type 0 where

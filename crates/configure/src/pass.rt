@@ -4,10 +4,12 @@ ghost use Rattle.frame.specs.Status.{statusCode};
 ghost use Rattle.frame.specs.Reply.{putting};
 ghost use Rattle.frame.specs.Failures.{noting};
 ghost use Rattle.configure.specs.Configure.{failure, encode};
-ghost use Rattle.configure.specs.Inside.{Steps, Runs};
+ghost use Rattle.configure.specs.Inside.{Turns, Runs};
 use super::record::Next;
 use super::record::next_record;
-use super::settle::configure_one;
+use super::settle::Deed;
+use super::settle::judge;
+use super::settle::settle;
 use frame::failures::Pass;
 use frame::failures::list_failure;
 use frame::header::ZclHeader;
@@ -16,21 +18,15 @@ use frame::status::Status;
 use reporting::table::ReportingTable;
 use types::ids::AttributeId;
 
-// What was done with a record, and where the next one starts; or none that can be read.
-pub(crate) enum Step {
-    Done {
+// A record, where the next one starts, and what is to be done; or none that can be read.
+pub(crate) enum Turn {
+    Read {
         end: usize,
-        status: Status,
         direction: u8,
         id: AttributeId,
+        deed: Deed,
     },
     Cut,
-}
-
-// A step with the table, which an enum cannot hold.
-pub(crate) struct Stepped {
-    step: Step,
-    table: ReportingTable,
 }
 
 // How a pass ended, and the table.
@@ -39,50 +35,30 @@ pub(crate) struct Passed {
     pub table: ReportingTable,
 }
 
-// One record read and done.
-fn configure_turn(
-    store: &[u8],
-    table: ReportingTable,
-    request: ZclHeader,
-    body: &[u8],
-    at: usize,
-) -> Stepped
-    ensures { λ r. ⌜ Steps (now (store .entry)) request (now (body .entry)) at table (r .step) (r .table) ⌝ }
+// One record read and judged.
+fn configure_turn(store: &[u8], request: ZclHeader, body: &[u8], at: usize) -> Turn
+    ensures { λ r. ⌜ Turns (now (store .entry)) request (now (body .entry)) at r ⌝ }
 {
     let next = next_record(body, at);
     match next {
-        Next::Received { direction, id, end } => Stepped {
-            step: Step::Done {
-                end,
-                status: Status::UnreportableAttribute,
-                direction,
-                id,
-            },
-            table,
+        Next::Received { direction, id, end } => Turn::Read {
+            end,
+            direction,
+            id,
+            deed: Deed::Fails(Status::UnreportableAttribute),
         },
         Next::Reported {
             id,
             type_id,
             config,
             end,
-        } => {
-            let settled = configure_one(store, table, request, id, type_id, config);
-            let status = settled.status;
-            let after = settled.table;
-            Stepped {
-                step: Step::Done {
-                    end,
-                    status,
-                    direction: 0,
-                    id,
-                },
-                table: after,
-            }
-        }
-        Next::Cut => Stepped {
-            step: Step::Cut,
-            table,
+        } => Turn::Read {
+            end,
+            direction: 0,
+            id,
+            deed: judge(store, request, id, type_id, config),
         },
+        Next::Cut => Turn::Cut,
     }
 }
 
@@ -112,21 +88,22 @@ pub(crate) fn configure_records(
     let mut at: usize = 0;
     let mut out = start;
     while at < body.len() {
-        let stepped = configure_turn(store, kept, request, body, at);
-        kept = stepped.table;
-        let step = stepped.step;
-        let Step::Done {
+        let turn = configure_turn(store, request, body, at);
+        let Turn::Read {
             end,
-            status,
             direction,
             id,
-        } = step
+            deed,
+        } = turn
         else {
             return Passed {
                 done: Pass::Cut,
                 table: kept,
             };
         };
+        let settled = settle(kept, deed);
+        let status = settled.status;
+        kept = settled.table;
         let Put::At(next) = note(reply, out, status, direction, id) else {
             return Passed {
                 done: Pass::Full,

@@ -1,11 +1,11 @@
-// One configuration: checked against the store, and then left to the reporting table.
+// One configuration: judged without the table, and then done to it. The table is a value of some hundred bytes, so only `settle` takes it.
 ghost use mathlib.Core.Path.{_≡_};
 ghost use Rattle.store.specs.Contents.{nameOf, findOf};
 ghost use Rattle.reporting.specs.Table.{room};
-ghost use Rattle.reporting.specs.Events.{wish, sets};
 ghost use Rattle.configure.specs.Request.{keyFor};
 ghost use Rattle.configure.specs.Configure.{checked, setting};
-ghost use Rattle.configure.specs.Inside.{wishTold, Comes, Tries};
+ghost use Rattle.configure.specs.Inside.{Judges, Settles};
+ghost use Rattle.configure.specs.declared.settle.Deed.the-variants.{Sets};
 use super::key::key_for;
 use frame::header::ZclHeader;
 use frame::status::Status;
@@ -20,43 +20,68 @@ use store::lookup::name_of;
 use types::ids::AttributeId;
 use types::ids::TypeId;
 
+// What is to be done: a failure leaves the table.
+pub(crate) enum Deed {
+    Fails(Status),
+    Clears(Key),
+    Sets(Key, ReportingConfig),
+}
+
 // What a configuration came to, and the table.
 pub(crate) struct Settled {
     pub status: Status,
     pub table: ReportingTable,
 }
 
-// What a configuration asks for, by its intervals.
-enum Wish {
-    Clears,
-    Wrong,
-    Sets,
-}
-
-// Maximum ffff, or maximum 0 with minimum ffff, clears; a maximum that is not 0 and below the minimum is wrong.
-fn wish_of(config: ReportingConfig) -> Wish
-    ensures { λ r. ⌜ wishTold r ≡ wish config ⌝ }
+// By its intervals: maximum ffff, or maximum 0 with minimum ffff, clears; a maximum that is not 0 and below the minimum is wrong, 87.
+fn wished(key: Key, config: ReportingConfig) -> Deed
+    ensures { λ r. ⌜ Judges (λ l es. setting room l key config es) r ⌝ }
 {
     let max = config.max_interval;
     let min = config.min_interval;
     if max == 0xffff {
-        return Wish::Clears;
+        return Deed::Clears(key);
     }
     if max == 0 {
         if min == 0xffff {
-            return Wish::Clears;
+            return Deed::Clears(key);
         }
-        return Wish::Sets;
+        return Deed::Sets(key, config);
     }
     if max < min {
-        return Wish::Wrong;
+        return Deed::Fails(Status::InvalidValue);
     }
-    Wish::Sets
+    Deed::Sets(key, config)
+}
+
+// Checks a configuration against the store, and then its intervals: 86, 8c, 8d, 87.
+pub(crate) fn judge(
+    store: &[u8],
+    request: ZclHeader,
+    id: AttributeId,
+    type_id: TypeId,
+    config: ReportingConfig,
+) -> Deed
+    ensures { λ r. ⌜ Judges (λ l es. checked (findOf 8 (now (store .entry)) (nameOf (request .«manufacturer_code» .0) (id .0))) («type_id» .0) es (setting room l (keyFor (now (store .entry)) request (id .0)) config es)) r ⌝ }
+{
+    let name = name_of(request.manufacturer_code, id);
+    let Found::At(a) = find(store, name) else {
+        return Deed::Fails(Status::UnsupportedAttribute);
+    };
+    if !is_reportable(a) {
+        return Deed::Fails(Status::UnreportableAttribute);
+    }
+    let own = a.type_id;
+    if own.0 != type_id.0 {
+        return Deed::Fails(Status::InvalidDataType);
+    }
+    let key = key_for(store, request, id);
+    wished(key, config)
 }
 
 // Sets a configuration, if there is room: 89.
 fn set(table: ReportingTable, key: Key, config: ReportingConfig) -> Settled
-    ensures { λ r. ⌜ Comes sets key config table (r .status) (r .table) ⌝ }
+    ensures { λ r. ⌜ Settles (Sets key config) table (r .status) (r .table) ⌝ }
 {
     let changed = table.configure(key, config);
     let answer = changed.answer;
@@ -73,13 +98,13 @@ fn set(table: ReportingTable, key: Key, config: ReportingConfig) -> Settled
     }
 }
 
-// Leaves a configuration to the table: it clears, is wrong (87), or is set.
-fn settle(table: ReportingTable, key: Key, config: ReportingConfig) -> Settled
-    ensures { λ r. ⌜ Tries (λ l es. setting room l key config es) table (r .status) (r .table) ⌝ }
+// Does what was judged.
+pub(crate) fn settle(table: ReportingTable, deed: Deed) -> Settled
+    ensures { λ r. ⌜ Settles deed table (r .status) (r .table) ⌝ }
 {
-    let asked = wish_of(config);
-    match asked {
-        Wish::Clears => {
+    match deed {
+        Deed::Fails(status) => Settled { status, table },
+        Deed::Clears(key) => {
             let cleared = table.clear(key);
             let after = cleared.table;
             Settled {
@@ -87,45 +112,6 @@ fn settle(table: ReportingTable, key: Key, config: ReportingConfig) -> Settled
                 table: after,
             }
         }
-        Wish::Wrong => Settled {
-            status: Status::InvalidValue,
-            table,
-        },
-        Wish::Sets => set(table, key, config),
+        Deed::Sets(key, config) => set(table, key, config),
     }
-}
-
-// Checks a configuration against the store, and leaves it to the table if it passes: 86, 8c, 8d.
-pub(crate) fn configure_one(
-    store: &[u8],
-    table: ReportingTable,
-    request: ZclHeader,
-    id: AttributeId,
-    type_id: TypeId,
-    config: ReportingConfig,
-) -> Settled
-    ensures { λ r. ⌜ Tries (λ l es. checked (findOf 8 (now (store .entry)) (nameOf (request .«manufacturer_code» .0) (id .0))) («type_id» .0) es (setting room l (keyFor (now (store .entry)) request (id .0)) config es)) table (r .status) (r .table) ⌝ }
-{
-    let name = name_of(request.manufacturer_code, id);
-    let Found::At(a) = find(store, name) else {
-        return Settled {
-            status: Status::UnsupportedAttribute,
-            table,
-        };
-    };
-    if !is_reportable(a) {
-        return Settled {
-            status: Status::UnreportableAttribute,
-            table,
-        };
-    }
-    let own = a.type_id;
-    if own.0 != type_id.0 {
-        return Settled {
-            status: Status::InvalidDataType,
-            table,
-        };
-    }
-    let key = key_for(store, request, id);
-    settle(table, key, config)
 }

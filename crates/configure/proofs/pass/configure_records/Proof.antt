@@ -1,14 +1,12 @@
 -- What is left of the walk is the whole, in whatever table it began. Assumes nothing.
 use borrow.Author.Needs.{needs}
 use mathlib.Core.Path.{_≡_, subst, _∙_}
-use Prim.Native.Nat.{ℕ, _-_}
+use Prim.Native.Nat.{_-_}
 use native.Mathlib.Omega.{arith}
 use lib.ListN.{length}
 use denote.Ref.{now}
-use Rattle.frame.specs.Status.{statusCode}
-use Rattle.configure.specs.declared.pass.Step.{Step}
-use Rattle.configure.specs.Configure.{Failure, failure}
-use Rattle.configure.specs.Inside.{Took, Steps}
+use Rattle.configure.specs.declared.pass.Turn.{Turn}
+use Rattle.configure.specs.Inside.{Took, Turns}
 use Rattle.configure.proofs.Items.{ahead}
 use Rattle.configure.proofs.Turns.{Goes, goes-first, goes-done, goes-cut, goes-more, goes-stop}
 use Rattle.configure.proofs.pass.configure_records.Statement.{statement}
@@ -21,21 +19,12 @@ abbrev μ-loop : tie.MeasureT-loop
 μ-loop store request body reply₀ start kept₀ at₀ out₀ reply kept at out = length body - at
 
 -- what the loop's turn says of an answer
-abbrev Says : tie.After-kept Inv-loop μ-loop → Step → Type 0
-Says c r = Steps (now (c .before .before .before .before .before .before .before .args .store)) (c .before .before .before .before .before .before .before .args .request) (now (c .before .before .before .before .before .before .before .args .body)) (c .before .before .before .loop .at) (c .before .before .before .loop .kept) r (c .before .configure-turn .result .table)
+did : (c : tie.After-configure-turn Inv-loop μ-loop) (r : Turn) → c .configure-turn .result ≡ r → Turns (now (c .before .before .before .before .before .before .args .store)) (c .before .before .before .before .before .before .args .request) (now (c .before .before .before .before .before .before .args .body)) (c .before .before .loop .at) r
+did c r e = subst (Turns (now (c .before .before .before .before .before .before .args .store)) (c .before .before .before .before .before .before .args .request) (now (c .before .before .before .before .before .before .args .body)) (c .before .before .loop .at)) e (c .configure-turn .ensures)
 
-did : (c : tie.After-kept Inv-loop μ-loop) → (r : Step) → c .before .configure-turn .result .step ≡ r → Says c r
-did c r e = subst (Says c) e (c .before .configure-turn .ensures)
-
--- the record that was read
-abbrev End : tie.After-step Inv-loop μ-loop → ℕ
-End c = c .step .given .0 .0
-
-abbrev Fails : tie.After-step Inv-loop μ-loop → Failure
-Fails c = failure (statusCode (c .step .given .0 .1 .0)) (c .step .given .0 .1 .1 .0) (c .step .given .0 .1 .1 .1 .0 .0)
-
-took : (c : tie.After-step Inv-loop μ-loop) → Took (now (c .before .before .before .before .before .before .before .before .before .args .store)) (c .before .before .before .before .before .before .before .before .before .args .request) (now (c .before .before .before .before .before .before .before .before .before .args .body)) (c .before .before .before .before .before .loop .at) (End c) (c .before .before .before .before .before .loop .kept) (c .step .given .0 .1 .0) (Fails c) (c .before .before .before .configure-turn .result .table)
-took c = did (c .before .before) (Step.Done (End c) (c .step .given .0 .1 .0) (c .step .given .0 .1 .1 .0) (c .step .given .0 .1 .1 .1 .0)) (c .step .given .1)
+-- the record that was read: its end, direction, id and deed
+took : (c : tie.After-turn Inv-loop μ-loop) → Took (now (c .before .before .before .before .before .before .before .before .args .store)) (c .before .before .before .before .before .before .before .before .args .request) (now (c .before .before .before .before .before .before .before .before .args .body)) (c .before .before .before .before .loop .at) (c .turn .given .0 .0) (c .turn .given .0 .1 .0) (c .turn .given .0 .1 .1 .0 .0) (c .turn .given .0 .1 .1 .1 .0)
+took c = did (c .before .before) _ (c .turn .given .1)
 
 loop-holds : tie.Need-loop-holds Inv-loop μ-loop
 loop-holds c =
@@ -45,18 +34,20 @@ loop-holds c =
 configure-turn-requires : tie.Need-configure-turn-requires Inv-loop μ-loop
 configure-turn-requires c κs = search needs
 
-enum-known-step : tie.Need-enum-known-step Inv-loop μ-loop
-enum-known-step c = search needs
+enum-known-turn : tie.Need-enum-known-turn Inv-loop μ-loop
+enum-known-turn c = search needs
 
 enum-told : tie.Need-enum-told Inv-loop μ-loop
 enum-told c = search needs
 
 same-length : tie.Need-same-length Inv-loop μ-loop
-same-length c = c .before .before .before .before .before .loop .inv .reply-length
+same-length c = c .before .before .before .before .loop .inv .reply-length
 
 returns : tie.Need-returns Inv-loop μ-loop
-returns c =
-    goes-cut (c .before .before .before .before .before .loop .inv) (c .before .before .before .before .loop-test .taken) (c .before .before .before .configure-turn .result .table) (c .before .before .before .before .before .loop .reply) (did (c .before .before) Step.Cut (c .enum-told .given .1))
+returns c = goes-cut (c .before .before .before .before .loop .inv) (c .before .before .before .loop-test .taken) (c .before .before .before .before .loop .reply) (did (c .before .before) Turn.Cut (c .enum-told .given .1))
+
+settle-requires : tie.Need-settle-requires Inv-loop μ-loop
+settle-requires c κs = search needs
 
 note-requires : tie.Need-note-requires Inv-loop μ-loop
 note-requires c κs = search needs
@@ -68,24 +59,26 @@ enum-told-2 : tie.Need-enum-told-2 Inv-loop μ-loop
 enum-told-2 c = search needs
 
 same-length-2 : tie.Need-same-length-2 Inv-loop μ-loop
-same-length-2 c = c .before .before .before .before .note .kept .0 ∙ c .before .before .before .before .before .before .before .before .before .before .before .before .loop .inv .reply-length
+same-length-2 c = c .before .before .before .before .note .kept .0 ∙ c .before .before .before .before .before .before .before .before .before .before .before .before .before .loop .inv .reply-length
 
 returns-2 : tie.Need-returns-2 Inv-loop μ-loop
 returns-2 c =
-    let x = c .before .before .before .before .before .before .before in
+    let x = c .before .before .before .before .before .before .before .before .before .turn .given .0 in
+    let y = c .before .before .before .before .before .before .before .settle in
     let n = c .before .before .before .before .note in
-    goes-stop (c .before .before .before .before .before .before .before .before .before .before .before .before .loop .inv) (c .before .before .before .before .before .before .before .before .before .before .before .loop-test .taken) (End x) (x .step .given .0 .1 .0) (Fails x) (c .before .before .before .before .before .before .before .before .before .before .configure-turn .result .table) (took x) (n .result) (n .last .0) (n .ensures) (c .enum-told2 .given .1)
+    goes-stop (c .before .before .before .before .before .before .before .before .before .before .before .before .before .loop .inv) (c .before .before .before .before .before .before .before .before .before .before .before .before .loop-test .taken) (x .0) (x .1 .0) (x .1 .1 .0 .0) (x .1 .1 .1 .0) (took (c .before .before .before .before .before .before .before .before .before)) (y .result .status) (y .result .table) (y .ensures) (n .result) (n .last .0) (n .ensures) (c .enum-told2 .given .1)
 
 loop-less : tie.Need-loop-less Inv-loop μ-loop
 loop-less c =
-    let k = took (c .before .before .before .before .before .before .before .before) in
-    omega (arith, ahead (now (c .before .before .before .before .before .before .before .before .before .before .before .before .before .before .before .before .before .args .body)) (c .before .before .before .before .before .before .before .before .before .before .before .before .before .loop .at) (k .taken) (End (c .before .before .before .before .before .before .before .before)) (k .is), c .before .before .before .before .before .before .before .before .before .before .before .before .loop-test .taken)
+    let k = took (c .before .before .before .before .before .before .before .before .before .before) in
+    omega (arith, ahead (now (c .before .before .before .before .before .before .before .before .before .before .before .before .before .before .before .before .before .before .args .body)) (c .before .before .before .before .before .before .before .before .before .before .before .before .before .before .loop .at) (k .taken) (c .before .before .before .before .before .before .before .before .before .before .turn .given .0 .0) (k .is), c .before .before .before .before .before .before .before .before .before .before .before .before .before .loop-test .taken)
 
 loop-again : tie.Need-loop-again Inv-loop μ-loop
 loop-again c =
-    let x = c .before .before .before .before .before .before .before .before in
+    let x = c .before .before .before .before .before .before .before .before .before .before .turn .given .0 in
+    let y = c .before .before .before .before .before .before .before .before .settle in
     let n = c .before .before .before .before .before .note in
-    goes-more (c .before .before .before .before .before .before .before .before .before .before .before .before .before .loop .inv) (c .before .before .before .before .before .before .before .before .before .before .before .before .loop-test .taken) (End x) (x .step .given .0 .1 .0) (Fails x) (c .before .before .before .before .before .before .before .before .before .before .before .configure-turn .result .table) (took x) (n .result) (n .last .0) (n .ensures) (c .before .next .given .0 .0) (c .before .next .given .1) (n .kept .0)
+    goes-more (c .before .before .before .before .before .before .before .before .before .before .before .before .before .before .loop .inv) (c .before .before .before .before .before .before .before .before .before .before .before .before .before .loop-test .taken) (x .0) (x .1 .0) (x .1 .1 .0 .0) (x .1 .1 .1 .0) (took (c .before .before .before .before .before .before .before .before .before .before)) (y .result .status) (y .result .table) (y .ensures) (n .result) (n .last .0) (n .ensures) (c .before .next .given .0 .0) (c .before .next .given .1) (n .kept .0)
 
 same-length-3 : tie.Need-same-length-3 Inv-loop μ-loop
 same-length-3 c = c .before .loop .inv .reply-length
@@ -101,10 +94,11 @@ configure-records-spec =
     μ-loop
     loop-holds
     configure-turn-requires
-    enum-known-step
+    enum-known-turn
     enum-told
     same-length
     returns
+    settle-requires
     note-requires
     enum-known-next
     enum-told-2

@@ -1,5 +1,5 @@
--- The record that was read is the one that is done. Assumes nothing.
-use mathlib.Core.Path.{_≡_, refl, sym, ap, _∙_}
+-- The record that was read is the one that is judged. Assumes nothing.
+use mathlib.Core.Path.{_≡_, sym, ap, _∙_}
 use denote.Ref.{now}
 use Rattle.configure.specs.declared.record.Next.{Next}
 use Rattle.configure.specs.Request.{configureAt}
@@ -22,8 +22,8 @@ enum-known-next c = search needs
 enum-known-next-2 : tie.Need-enum-known-next-2
 enum-known-next-2 c = search needs
 
-configure-one-requires : tie.Need-configure-one-requires
-configure-one-requires c κs = search needs
+judge-requires : tie.Need-judge-requires
+judge-requires c κs = search needs
 
 enum-told : tie.Need-enum-told
 enum-told c = search needs
@@ -32,17 +32,16 @@ returns : tie.Need-returns
 returns c =
     let a = c .before .before .before .before .before .before .args in
     let x = c .before .next .given .0 in
-    took-received (now (a .store)) (a .request) (now (a .body)) (a .at) (x .1 .1 .0) (a .table) (x .0) (x .1 .0 .0) (is (c .before .before .before) _ (c .before .next .given .1))
+    took-received (now (a .store)) (a .request) (now (a .body)) (a .at) (x .1 .1 .0) (x .1 .0 .0) (x .0) (is (c .before .before .before) _ (c .before .next .given .1))
 
 returns-2 : tie.Need-returns-2
 returns-2 c =
-    let a = c .before .before .before .before .before .before .before .before .args in
-    let x = c .before .before .before .next2 .given .0 in
-    let y = c .before .configure-one in
-    took-reported (now (a .store)) (a .request) (now (a .body)) (a .at) (x .1 .1 .1 .0) (a .table) (x .0 .0) (x .1 .0 .0) (x .1 .1 .0) (y .result .status) (y .result .table) (is (c .before .before .before .before .before) _ (c .before .before .before .next2 .given .1)) (y .ensures)
+    let a = c .before .before .before .before .before .before .before .args in
+    let x = c .before .before .next2 .given .0 in
+    took-reported (now (a .store)) (a .request) (now (a .body)) (a .at) (x .1 .1 .1 .0) (x .0 .0) (x .1 .0 .0) (x .1 .1 .0) (c .judge .result) (is (c .before .before .before .before) _ (c .before .before .next2 .given .1)) (c .judge .ensures)
 
 returns-3 : tie.Need-returns-3
-returns-3 c = record { is = is (c .before .before) _ (c .enum-told .given .1); same = refl }
+returns-3 c = is (c .before .before) _ (c .enum-told .given .1)
 
 pub configure-turn-spec : {M : Type 1} → statement M
 configure-turn-spec =
@@ -51,7 +50,7 @@ configure-turn-spec =
     next-record-requires
     enum-known-next
     enum-known-next-2
-    configure-one-requires
+    judge-requires
     enum-told
     returns
     returns-2

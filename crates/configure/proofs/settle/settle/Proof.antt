@@ -1,60 +1,54 @@
--- The wish says which. Assumes nothing.
-use mathlib.Core.Path.{refl, sym, ap, _∙_}
-use Rattle.reporting.specs.Events.{clears, wrong, sets}
-use Rattle.frame.specs.declared.status.Status.the-variants.{Success, InvalidValue}
-use Rattle.configure.specs.Inside.{wishTold}
-use Rattle.configure.proofs.Settings.{cleared-comes, settles}
+-- The deed says which. Assumes nothing.
+use mathlib.Core.Path.{refl, sym, subst}
+use Rattle.frame.specs.declared.status.Status.the-variants.{Success}
+use Rattle.configure.specs.declared.settle.Deed.{Deed}
+use Rattle.configure.specs.Inside.{Settles}
+use Rattle.configure.proofs.Settings.{clear-settles}
 use borrow.Author.Needs.{needs}
 use Rattle.configure.proofs.settle.settle.Statement.{statement}
 use Rattle.configure.proofs.settle.settle.Tie as tie
 
-wish-of-requires : tie.Need-wish-of-requires
-wish-of-requires c κs = search needs
+enum-known-deed : tie.Need-enum-known-deed
+enum-known-deed c = search needs
 
-enum-told : tie.Need-enum-told
-enum-told c = search needs
+enum-known-deed-2 : tie.Need-enum-known-deed-2
+enum-known-deed-2 c = search needs
 
 clear-requires : tie.Need-clear-requires
 clear-requires c κs = search needs
 
-enum-told-2 : tie.Need-enum-told-2
-enum-told-2 c = search needs
-
-enum-told-3 : tie.Need-enum-told-3
-enum-told-3 c = search needs
+enum-known-deed-3 : tie.Need-enum-known-deed-3
+enum-known-deed-3 c = search needs
 
 set-requires : tie.Need-set-requires
 set-requires c κs = search needs
 
 returns : tie.Need-returns
 returns c =
-    let a = c .before .before .before .before .before .args in
-    let w = c .before .before .before .before .wish-of in
-    let x = c .before .clear in
-    settles (a .key) (a .config) (a .table) (x .result .table) Success clears (sym (ap wishTold (c .before .before .enum-told .given .1)) ∙ w .ensures) (cleared-comes (a .key) (a .config) (a .table) (x .result) (x .ensures))
+    let a = c .before .before .before .args in
+    subst (λ (d : Deed). Settles d (a .table) (c .before .deed .given .0 .0) (a .table)) (sym (c .before .deed .given .1)) (λ l es h. record { is = refl; left = h })
 
 returns-2 : tie.Need-returns-2
 returns-2 c =
-    let a = c .before .before .before .args in
-    let w = c .before .before .wish-of in
-    settles (a .key) (a .config) (a .table) (a .table) InvalidValue wrong (sym (ap wishTold (c .enum-told2 .given .1)) ∙ w .ensures) (λ l h. record { is = refl; table = h })
+    let a = c .before .before .before .before .before .args in
+    let x = c .before .clear in
+    let k = c .before .before .before .deed2 .given in
+    subst (λ (d : Deed). Settles d (a .table) Success (x .result .table)) (sym (k .1)) (clear-settles (k .0 .0) (a .table) (x .result) (x .ensures))
 
 returns-3 : tie.Need-returns-3
 returns-3 c =
     let a = c .before .before .before .before .args in
-    let w = c .before .before .before .wish-of in
     let x = c .set in
-    settles (a .key) (a .config) (a .table) (x .result .table) (x .result .status) sets (sym (ap wishTold (c .before .enum-told3 .given .1)) ∙ w .ensures) (x .ensures)
+    subst (λ (d : Deed). Settles d (a .table) (x .result .status) (x .result .table)) (sym (c .before .before .deed3 .given .1)) (x .ensures)
 
 pub settle-spec : {M : Type 1} → statement M
 settle-spec =
     tie.close
     (tie.spec
-    wish-of-requires
-    enum-told
+    enum-known-deed
+    enum-known-deed-2
     clear-requires
-    enum-told-2
-    enum-told-3
+    enum-known-deed-3
     set-requires
     returns
     returns-2
