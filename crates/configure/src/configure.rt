@@ -18,8 +18,8 @@ use reporting::table::ReportingTable;
 
 // An answer, and the table as it is afterwards.
 pub struct Configured {
-    pub answer: Answer,
     pub table: ReportingTable,
+    pub answer: Answer,
 }
 
 // Configure Reporting. The store may be any bytes; whoever serves a frame has checked it. A table that is none is refused and comes back

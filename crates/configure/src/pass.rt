@@ -31,8 +31,8 @@ pub(crate) enum Turn {
 
 // How a pass ended, and the table.
 pub(crate) struct Passed {
-    pub done: Pass,
     pub table: ReportingTable,
+    pub done: Pass,
 }
 
 // One record read and judged.

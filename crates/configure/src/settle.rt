@@ -1,5 +1,4 @@
 // One configuration: judged without the table, and then done to it. The table is a value of some hundred bytes, so only `settle` takes it.
-ghost use mathlib.Core.Path.{_≡_};
 ghost use Rattle.store.specs.Contents.{nameOf, findOf};
 ghost use Rattle.reporting.specs.Table.{room};
 ghost use Rattle.configure.specs.Request.{keyFor};
@@ -29,8 +28,8 @@ pub(crate) enum Deed {
 
 // What a configuration came to, and the table.
 pub(crate) struct Settled {
-    pub status: Status,
     pub table: ReportingTable,
+    pub status: Status,
 }
 
 // By its intervals: maximum ffff, or maximum 0 with minimum ffff, clears; a maximum that is not 0 and below the minimum is wrong, 87.
