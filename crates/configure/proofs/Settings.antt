@@ -1,6 +1,6 @@
 -- A configuration: from what the table's methods ensure to the events of its deed, and from the deed to the definition. Assumes nothing.
-use mathlib.Core.Path.{_≡_, refl, sym, ap, _∙_}
-use mathlib.Core.Bool.{Bool, true, false, cond, true≢false, false≢true}
+use mathlib.Core.Path.{_≡_, refl, sym, ap, _∙_, subst}
+use mathlib.Core.Bool.{Bool, true, false, cond}
 use mathlib.Core.List.{List, [], _∷_, _++_, append-nil}
 use Prim.Native.Nat.{ℕ}
 use borrow.Author.Tests.{eq-eqb, ne-eqb}
@@ -32,32 +32,30 @@ use Rattle.configure.specs.Inside.{Judges, Does, Settles}
 -- ---- the methods of the table
 
 -- an answer other than Done accepts nothing
-pub not-done : (a : Change) → OneOf (1 ∷ 2 ∷ []) (tagOf change.the-type a) → changeTold a .accepted ≡ false
+pub not-done : (a : Change) → OneOf (1 ∷ 2 ∷ []) (tagOf change.the-type a) → InsufficientSpace ≡ statusW sets (changeTold a .accepted)
 not-done ChangeV.Done o = absurd (miss (1 ∷ 2 ∷ []) 0 tt o)
 not-done ChangeV.Full o = refl
 not-done (ChangeV.Refused why) o = refl
 
--- what it did is what the deed's events leave
+-- what a method did is what the deed's events leave
 module _ (k : Key) (t : ReportingTable) (r : Changed) where
   pub clear-settles : outcome r ≡ clearT k (tableOf t) → Settles (Deed.Clears k) t Success (r .table)
   clear-settles e l es h = record { is = refl; left = ap (λ (o : Outcome). o .table) (e ∙ ap (clearT k) h) ∙ ap holding (sym (run-append room es (cleared k ∷ []) l)) }
 
-  module _ (g : ReportingConfig) where
-    set-settles : (status : Status) (b : Bool) → status ≡ statusW sets b → changeTold (r .answer) .accepted ≡ b → outcome r ≡ configureT room k g (tableOf t) → Settles (Deed.Sets k g) t status (r .table)
-    set-settles status b q a e l es h = go (acceptsL room k (run room es l)) b q a (e ∙ ap (configureT room k g) h)
-      where
-        go : (c b : Bool) → status ≡ statusW sets b → changeTold (r .answer) .accepted ≡ b → outcome r ≡ cond c (doneT (configureL room k g (run room es l))) (fullT (run room es l))
-            → Does l (did (statusW sets c) (es ++ eventsW sets c k g)) status (r .table)
-        go true true q a x = record { is = q; left = ap (λ (o : Outcome). o .table) x ∙ ap holding (sym (run-append room es (configured k g ∷ []) l)) }
-        go true false q a x = absurd (false≢true (sym a ∙ ap (λ (o : Outcome). o .told .accepted) x))
-        go false true q a x = absurd (true≢false (sym a ∙ ap (λ (o : Outcome). o .told .accepted) x))
-        go false false q a x = record { is = q; left = ap (λ (o : Outcome). o .table) x ∙ ap holding (sym (run-append room es [] l)) }
+  pub set-settles : (g : ReportingConfig) (status : Status) → status ≡ statusW sets (changeTold (r .answer) .accepted) → outcome r ≡ configureT room k g (tableOf t) → Settles (Deed.Sets k g) t status (r .table)
+  set-settles g status q e l es h = go (acceptsL room k (run room es l)) (e ∙ ap (configureT room k g) h)
+    where
+      accepted : (o : Outcome) → outcome r ≡ o → status ≡ statusW sets (o .told .accepted)
+      accepted o x = q ∙ ap (λ (y : Outcome). statusW sets (y .told .accepted)) x
 
-    pub set-done : r .answer ≡ ChangeV.Done → outcome r ≡ configureT room k g (tableOf t) → Settles (Deed.Sets k g) t Success (r .table)
-    set-done a e = set-settles Success true refl (ap (λ (x : Change). changeTold x .accepted) a) e
+      go : (c : Bool) → outcome r ≡ cond c (doneT (configureL room k g (run room es l))) (fullT (run room es l)) → Does l (did (statusW sets c) (es ++ eventsW sets c k g)) status (r .table)
+      go true x = record { is = accepted (doneT (configureL room k g (run room es l))) x; left = ap (λ (o : Outcome). o .table) x ∙ ap holding (sym (run-append room es (configured k g ∷ []) l)) }
+      go false x = record { is = accepted (fullT (run room es l)) x; left = ap (λ (o : Outcome). o .table) x ∙ ap holding (sym (run-append room es [] l)) }
 
-    pub set-full : OneOf (1 ∷ 2 ∷ []) (tagOf change.the-type (r .answer)) → outcome r ≡ configureT room k g (tableOf t) → Settles (Deed.Sets k g) t InsufficientSpace (r .table)
-    set-full a e = set-settles InsufficientSpace false refl (not-done (r .answer) a) e
+-- which deed it was, and what it left
+pub settled-by : (t : ReportingTable) {deed d : Deed} {status e : Status} {u v : ReportingTable} → deed ≡ d → u ≡ v → status ≡ e → Settles d t e v → Settles deed t status u
+settled-by t {deed} {d} {status} {e} {u} {v} p q r h =
+    subst (λ (x : Deed). Settles x t status u) (sym p) (subst (λ (x : ReportingTable). Settles d t status x) (sym q) (subst (λ (x : Status). Settles d t x v) (sym r) h))
 
 -- ---- the deed that a configuration wishes
 

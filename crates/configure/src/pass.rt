@@ -9,7 +9,7 @@ use super::record::Next;
 use super::record::next_record;
 use super::settle::Deed;
 use super::settle::judge;
-use super::settle::settle;
+use super::settle::status_of;
 use frame::failures::Pass;
 use frame::failures::list_failure;
 use frame::header::ZclHeader;
@@ -29,7 +29,7 @@ pub(crate) enum Turn {
     Cut,
 }
 
-// How a pass ended, and the table.
+// How a pass ended, and the table: first, so that no padding lies before it and its copies are aligned.
 pub(crate) struct Passed {
     pub table: ReportingTable,
     pub done: Pass,
@@ -101,9 +101,20 @@ pub(crate) fn configure_records(
                 table: kept,
             };
         };
-        let settled = settle(kept, deed);
-        let status = settled.status;
-        kept = settled.table;
+        let status = match deed {
+            Deed::Fails(why) => why,
+            Deed::Clears(key) => {
+                let cleared = kept.clear(key);
+                kept = cleared.table;
+                Status::Success
+            }
+            Deed::Sets(key, config) => {
+                let changed = kept.configure(key, config);
+                let answer = changed.answer;
+                kept = changed.table;
+                status_of(answer)
+            }
+        };
         let Put::At(next) = note(reply, out, status, direction, id) else {
             return Passed {
                 done: Pass::Full,

@@ -1,17 +1,18 @@
-// One configuration: judged without the table, and then done to it. The table is a value of some hundred bytes, so only `settle` takes it.
+// One configuration: what is to be done with the table, judged without it. The table is a value of 648 bytes, and each function that hands it
+// on copies it.
+ghost use mathlib.Core.Path.{_≡_};
 ghost use Rattle.store.specs.Contents.{nameOf, findOf};
-ghost use Rattle.reporting.specs.Table.{room};
+ghost use Rattle.reporting.specs.Table.{room, changeTold};
+ghost use Rattle.reporting.specs.Events.{sets, statusW};
 ghost use Rattle.configure.specs.Request.{keyFor};
 ghost use Rattle.configure.specs.Configure.{checked, setting};
-ghost use Rattle.configure.specs.Inside.{Judges, Settles};
-ghost use Rattle.configure.specs.declared.settle.Deed.the-variants.{Sets};
+ghost use Rattle.configure.specs.Inside.{Judges};
 use super::key::key_for;
 use frame::header::ZclHeader;
 use frame::status::Status;
 use reporting::entry::Key;
 use reporting::entry::ReportingConfig;
 use reporting::table::Change;
-use reporting::table::ReportingTable;
 use store::lookup::Found;
 use store::lookup::find;
 use store::lookup::is_reportable;
@@ -24,12 +25,6 @@ pub(crate) enum Deed {
     Fails(Status),
     Clears(Key),
     Sets(Key, ReportingConfig),
-}
-
-// What a configuration came to, and the table.
-pub(crate) struct Settled {
-    pub table: ReportingTable,
-    pub status: Status,
 }
 
 // By its intervals: maximum ffff, or maximum 0 with minimum ffff, clears; a maximum that is not 0 and below the minimum is wrong, 87.
@@ -78,39 +73,12 @@ pub(crate) fn judge(
     wished(key, config)
 }
 
-// Sets a configuration, if there is room: 89.
-fn set(table: ReportingTable, key: Key, config: ReportingConfig) -> Settled
-    ensures { λ r. ⌜ Settles (Sets key config) table (r .status) (r .table) ⌝ }
+// What a configuration that was to be set came to: 89 where there was no room.
+pub(crate) fn status_of(answer: Change) -> Status
+    ensures { λ r. ⌜ r ≡ statusW sets (changeTold answer .accepted) ⌝ }
 {
-    let changed = table.configure(key, config);
-    let answer = changed.answer;
-    let after = changed.table;
     let Change::Done = answer else {
-        return Settled {
-            status: Status::InsufficientSpace,
-            table: after,
-        };
+        return Status::InsufficientSpace;
     };
-    Settled {
-        status: Status::Success,
-        table: after,
-    }
-}
-
-// Does what was judged.
-pub(crate) fn settle(table: ReportingTable, deed: Deed) -> Settled
-    ensures { λ r. ⌜ Settles deed table (r .status) (r .table) ⌝ }
-{
-    match deed {
-        Deed::Fails(status) => Settled { status, table },
-        Deed::Clears(key) => {
-            let cleared = table.clear(key);
-            let after = cleared.table;
-            Settled {
-                status: Status::Success,
-                table: after,
-            }
-        }
-        Deed::Sets(key, config) => set(table, key, config),
-    }
+    Status::Success
 }
