@@ -1,12 +1,15 @@
-// The reporting table's functions, on the table's bytes. Results are set to 0 first, so that a refusal leaves zeros. What was read
-// from bytes and changed fits them again, so writing back has no refusal of its own.
+// The reporting table's functions, on the table's bytes. Results are set to 0 first, so that a refusal leaves zeros.
 ghost use mathlib.Core.Path.{_≡_};
 ghost use Rattle.hingedrift.specs.Tables.{keyOf, configOf, left, noResult, configurationAs, newLeft, configureLeft, clearLeft, markLeft, askLeft, configurationLeft};
 use frame::answer::Refusal;
-use reporting::carried::read_table;
 use reporting::carried::write_table;
 use reporting::entry::Key;
 use reporting::entry::ReportingConfig;
+use reporting::lent::ask_lent;
+use reporting::lent::clear_lent;
+use reporting::lent::configuration_lent;
+use reporting::lent::configure_lent;
+use reporting::lent::mark_lent;
 use reporting::table::Change;
 use reporting::table::Report;
 use reporting::table::ReportingTable;
@@ -49,23 +52,19 @@ pub extern "C" fn hd_configure(
     ensures { λ r. ⌜ left r (now (table .exit)) (now (accepted .exit)) ≡ configureLeft (now (table .entry)) (keyOf cluster attribute) (configOf minimum maximum change) ⌝ }
 {
     *accepted = 0;
-    let read = read_table(table);
-    if !read.known {
-        return Refusal::NotATable.number();
-    }
-    let before = read.table;
     let config = ReportingConfig {
         min_interval: minimum,
         max_interval: maximum,
         reportable_change: change,
     };
-    let changed = before.configure(key_of(cluster, attribute), config);
-    let answer = changed.answer;
-    if let Change::Done = answer {
-        *accepted = 1;
+    match configure_lent(table, key_of(cluster, attribute), config) {
+        Change::Done => {
+            *accepted = 1;
+            0
+        }
+        Change::Full => 0,
+        Change::Refused(why) => why.number(),
     }
-    write_table(table, changed.table);
-    0
 }
 
 // Takes an attribute's configuration out of the table.
@@ -73,14 +72,10 @@ pub extern "C" fn hd_configure(
 pub extern "C" fn hd_clear(table: &mut [u8], cluster: u16, attribute: u16) -> u8
     ensures { λ r. ⌜ left r (now (table .exit)) noResult ≡ clearLeft (now (table .entry)) (keyOf cluster attribute) ⌝ }
 {
-    let read = read_table(table);
-    if !read.known {
-        return Refusal::NotATable.number();
+    if clear_lent(table, key_of(cluster, attribute)) {
+        return 0;
     }
-    let before = read.table;
-    let changed = before.clear(key_of(cluster, attribute));
-    write_table(table, changed.table);
-    0
+    Refusal::NotATable.number()
 }
 
 // An attribute's configuration: 1 through `found` where it has one, and its three numbers.
@@ -100,19 +95,17 @@ pub extern "C" fn hd_configuration(
     *minimum = 0;
     *maximum = 0;
     *change = 0;
-    let read = read_table(table);
-    if !read.known {
-        return Refusal::NotATable.number();
+    match configuration_lent(table, key_of(cluster, attribute)) {
+        Setting::Given(config) => {
+            *found = 1;
+            *minimum = config.min_interval;
+            *maximum = config.max_interval;
+            *change = config.reportable_change;
+            0
+        }
+        Setting::Nothing => 0,
+        Setting::Refused(why) => why.number(),
     }
-    let before = read.table;
-    let setting = before.configuration(key_of(cluster, attribute));
-    if let Setting::Given(config) = setting {
-        *found = 1;
-        *minimum = config.min_interval;
-        *maximum = config.max_interval;
-        *change = config.reportable_change;
-    }
-    0
 }
 
 // Whether a report of `value` is due at `now`: 1 through `due`. The parameter hides the clauses' `now`: a clause says `.now`.
@@ -128,16 +121,14 @@ pub extern "C" fn hd_ask(
     ensures { λ r. ⌜ left r (table .entry .now) (due .exit .now) ≡ askLeft (table .entry .now) (keyOf cluster attribute) now value ⌝ }
 {
     *due = 0;
-    let read = read_table(table);
-    if !read.known {
-        return Refusal::NotATable.number();
+    match ask_lent(table, key_of(cluster, attribute), now, value) {
+        Report::Due => {
+            *due = 1;
+            0
+        }
+        Report::NotDue => 0,
+        Report::Refused(why) => why.number(),
     }
-    let before = read.table;
-    let report = before.ask(key_of(cluster, attribute), now, value);
-    if let Report::Due = report {
-        *due = 1;
-    }
-    0
 }
 
 // Keeps the time and the value of a report that was sent.
@@ -151,12 +142,8 @@ pub extern "C" fn hd_mark(
 ) -> u8
     ensures { λ r. ⌜ left r (table .exit .now) noResult ≡ markLeft (table .entry .now) (keyOf cluster attribute) now value ⌝ }
 {
-    let read = read_table(table);
-    if !read.known {
-        return Refusal::NotATable.number();
+    if mark_lent(table, key_of(cluster, attribute), now, value) {
+        return 0;
     }
-    let before = read.table;
-    let changed = before.mark(key_of(cluster, attribute), now, value);
-    write_table(table, changed.table);
-    0
+    Refusal::NotATable.number()
 }

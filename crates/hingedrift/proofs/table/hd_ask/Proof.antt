@@ -1,66 +1,64 @@
--- The answer about the table that was read is the definition's. Assumes nothing.
+-- The number and the answer that the operation tells. Assumes nothing.
 use borrow.Author.Needs.{needs}
-use mathlib.Core.Path.{_≡_, sym, ap}
+use mathlib.Core.Path.{_≡_, sym, ap, _∙_}
 use Prim.Native.Nat.{ℕ}
 use mir.Facts.{toZ-ofZ}
+use denote.Ref.{now}
 use Rattle.reporting.specs.declared.table.Report.{Report}
 use Rattle.reporting.specs.Table.{reportTold}
-use denote.Ref.{now}
-use Rattle.hingedrift.specs.Tables.{keyOf, bit, left, askLeft}
-use Rattle.hingedrift.proofs.Bridge.{no-table, asked, not-due}
+use Rattle.reporting.specs.Lent.{askLent}
+use Rattle.hingedrift.specs.Tables.{keyOf, left, askLeft}
+use Rattle.hingedrift.proofs.Bridge.{asAsked, asked-so}
 use Rattle.hingedrift.proofs.table.hd_ask.Statement.{statement}
 use Rattle.hingedrift.proofs.table.hd_ask.Tie as tie
 
-abbrev start : tie.After-ask → tie.Start
-start c = c .before .before .before .before .before .before .before
+asked-at : (c : tie.After-ask-lent) (a : Report) → c .ask-lent .result ≡ a
+    → asAsked (now (c .before .before .before .args .table)) (reportTold a) ≡ askLeft (now (c .before .before .before .args .table)) (keyOf (c .before .before .before .args .cluster) (c .before .before .before .args .attribute)) (c .before .before .before .args .now) (c .before .before .before .args .value)
+asked-at c a e =
+    let s = c .before .before .before in
+    let bs = now (s .args .table) in
+    ap (λ (x : Report). asAsked bs (reportTold x)) (sym e)
+    ∙ ap (asAsked bs) (c .ask-lent .ensures)
+    ∙ (λ i. asAsked bs (askLent (c .before .key-of .ensures i) (s .args .now) (toZ-ofZ (s .fits .value) i) bs))
+    ∙ asked-so bs (keyOf (s .args .cluster) (s .args .attribute)) (s .args .now) (s .args .value)
 
--- once asked, the bit that the answer tells
-asked-at : (c : tie.After-ask) (n : ℕ) → n ≡ bit (reportTold (c .ask .result) .due)
-    → left 0 (now (start c .args .table)) n ≡ askLeft (now (start c .args .table)) (keyOf (start c .args .cluster) (start c .args .attribute)) (start c .args .now) (start c .args .value)
-asked-at c n e =
-    let s = start c in
-    let r = c .before .before .before .before .before .read-table in
-    let k = c .before .key-of in
-    asked (now (s .args .table)) (r .result) (r .ensures) (c .before .before .before .if1 .left)
-    (k .result) (keyOf (s .args .cluster) (s .args .attribute)) (k .ensures)
-    (s .args .now) (s .args .value) _ (c .ask .result) n e (toZ-ofZ (s .fits .value)) (c .ask .ensures)
+key-of-requires : tie.Need-key-of-requires
+key-of-requires c κs = search needs
 
-read-table-requires : tie.Need-read-table-requires
-read-table-requires c κs = search needs
+ask-lent-requires : tie.Need-ask-lent-requires
+ask-lent-requires c κs = search needs
+
+enum-told : tie.Need-enum-told
+enum-told c = search needs
+
+enum-told-2 : tie.Need-enum-told-2
+enum-told-2 c = search needs
+
+enum-known-why : tie.Need-enum-known-why
+enum-known-why c = search needs
 
 number-requires : tie.Need-number-requires
 number-requires c κs = search needs
 
 returns : tie.Need-returns
-unfolding askLeft
-returns c =
-    let r = c .before .before .before .read-table in
-    no-table (now (c .before .before .before .before .before .args .table)) (r .result) (r .ensures) (c .number .result) _ _ (c .number .ensures) (c .before .if1 .taken)
-
-key-of-requires : tie.Need-key-of-requires
-key-of-requires c κs = search needs
-
-ask-requires : tie.Need-ask-requires
-ask-requires c κs = search needs
-
-enum-told : tie.Need-enum-told
-enum-told c = search needs
+returns c = asked-at (c .before .before) _ (c .enum-told .given .1)
 
 returns-2 : tie.Need-returns-2
-returns-2 c = asked-at (c .before .before) 1 (ap (λ (a : Report). bit (reportTold a .due)) (sym (c .enum-told .given .1)))
+returns-2 c = asked-at (c .before .before) _ (c .enum-told2 .given .1)
 
 returns-3 : tie.Need-returns-3
-returns-3 c = asked-at (c .before) 0 (not-due (c .before .ask .result) (c .match .keys2))
+returns-3 c = ap (λ (n : ℕ). left n (now (c .before .before .before .before .before .before .before .args .table)) 0) (c .number .ensures) ∙ asked-at (c .before .before .before .before) _ (c .before .before .why .given .1)
 
 pub hd-ask-spec : {M : Type 1} → statement M
 hd-ask-spec =
     tie.close
     (tie.spec
-    read-table-requires
+    key-of-requires
+    ask-lent-requires
+    enum-told
+    enum-told-2
+    enum-known-why
     number-requires
     returns
-    key-of-requires
-    ask-requires
-    enum-told
     returns-2
     returns-3)

@@ -1,64 +1,63 @@
--- The answer about the table that was read is the definition's, and its numbers are those written. Assumes nothing.
+-- The number and the configuration that the operation tells. Assumes nothing.
 use borrow.Author.Needs.{needs}
-use mathlib.Core.Path.{_≡_, sym, ap}
+use mathlib.Core.Path.{_≡_, sym, ap, _∙_}
+use Prim.Native.Nat.{ℕ}
+use denote.Ref.{now}
 use Rattle.reporting.specs.declared.table.Setting.{Setting}
 use Rattle.reporting.specs.Table.{settingTold}
-use denote.Ref.{now}
-use Rattle.hingedrift.specs.Tables.{keyOf, left, Configuration, noConfiguration, configurationLeft}
-use Rattle.hingedrift.proofs.Bridge.{no-table, told, numbersTold, not-given}
+use Rattle.reporting.specs.Lent.{configurationLent}
+use Rattle.hingedrift.specs.Tables.{keyOf, left, noConfiguration, configurationLeft}
+use Rattle.hingedrift.proofs.Bridge.{asFound, found-so}
 use Rattle.hingedrift.proofs.table.hd_configuration.Statement.{statement}
 use Rattle.hingedrift.proofs.table.hd_configuration.Tie as tie
 
-abbrev start : tie.After-configuration → tie.Start
-start c = c .before .before .before .before .before .before .before
+found-at : (c : tie.After-configuration-lent) (a : Setting) → c .configuration-lent .result ≡ a
+    → asFound (now (c .before .before .before .args .table)) (settingTold a) ≡ configurationLeft (now (c .before .before .before .args .table)) (keyOf (c .before .before .before .args .cluster) (c .before .before .before .args .attribute))
+found-at c a e =
+    let s = c .before .before .before in
+    let bs = now (s .args .table) in
+    ap (λ (x : Setting). asFound bs (settingTold x)) (sym e)
+    ∙ ap (asFound bs) (c .configuration-lent .ensures)
+    ∙ (λ i. asFound bs (configurationLent (c .before .key-of .ensures i) bs))
+    ∙ found-so bs (keyOf (s .args .cluster) (s .args .attribute))
 
--- once looked up, the numbers that the answer tells
-told-at : (c : tie.After-configuration) (x : Configuration) → x ≡ numbersTold (settingTold (c .configuration .result))
-    → left 0 (now (start c .args .table)) x ≡ configurationLeft (now (start c .args .table)) (keyOf (start c .args .cluster) (start c .args .attribute))
-told-at c x e =
-    let s = start c in
-    let r = c .before .before .before .before .before .read-table in
-    let k = c .before .key-of in
-    told (now (s .args .table)) (r .result) (r .ensures) (c .before .before .before .if1 .left)
-    (k .result) (keyOf (s .args .cluster) (s .args .attribute)) (k .ensures)
-    (c .configuration .result) x e (c .configuration .ensures)
+key-of-requires : tie.Need-key-of-requires
+key-of-requires c κs = search needs
 
-read-table-requires : tie.Need-read-table-requires
-read-table-requires c κs = search needs
+configuration-lent-requires : tie.Need-configuration-lent-requires
+configuration-lent-requires c κs = search needs
+
+enum-known-config : tie.Need-enum-known-config
+enum-known-config c = search needs
+
+enum-told : tie.Need-enum-told
+enum-told c = search needs
+
+enum-known-why : tie.Need-enum-known-why
+enum-known-why c = search needs
 
 number-requires : tie.Need-number-requires
 number-requires c κs = search needs
 
 returns : tie.Need-returns
-unfolding configurationLeft
-returns c =
-    let r = c .before .before .before .read-table in
-    no-table (now (c .before .before .before .before .before .args .table)) (r .result) (r .ensures) (c .number .result) noConfiguration _ (c .number .ensures) (c .before .if1 .taken)
-
-key-of-requires : tie.Need-key-of-requires
-key-of-requires c κs = search needs
-
-configuration-requires : tie.Need-configuration-requires
-configuration-requires c κs = search needs
-
-enum-known-setting : tie.Need-enum-known-setting
-enum-known-setting c = search needs
+returns c = found-at (c .before .before .before) _ (c .before .config .given .1)
 
 returns-2 : tie.Need-returns-2
-returns-2 c = told-at (c .before .before .before) _ (ap (λ (s : Setting). numbersTold (settingTold s)) (sym (c .before .setting .given .1)))
+returns-2 c = found-at (c .before .before) _ (c .enum-told .given .1)
 
 returns-3 : tie.Need-returns-3
-returns-3 c = told-at (c .before) _ (not-given (c .before .configuration .result) (c .match .keys2))
+returns-3 c = ap (λ (n : ℕ). left n (now (c .before .before .before .before .before .before .before .args .table)) noConfiguration) (c .number .ensures) ∙ found-at (c .before .before .before .before) _ (c .before .before .why .given .1)
 
 pub hd-configuration-spec : {M : Type 1} → statement M
 hd-configuration-spec =
     tie.close
     (tie.spec
-    read-table-requires
+    key-of-requires
+    configuration-lent-requires
+    enum-known-config
+    enum-told
+    enum-known-why
     number-requires
     returns
-    key-of-requires
-    configuration-requires
-    enum-known-setting
     returns-2
     returns-3)

@@ -1,25 +1,41 @@
--- What was read, configured and written back is what the definition leaves, accepted or not. Assumes nothing.
+-- What the operation tells, and the bytes that it leaves. Assumes nothing.
 use borrow.Author.Needs.{needs}
 use mathlib.Core.Path.{_≡_, sym, ap, _∙_}
-use mathlib.Core.Logic.{⊎-elim}
-use Rattle.reporting.specs.declared.table.Change.{Change}
-use Rattle.reporting.specs.Table.{changeTold}
+use Prim.Native.Nat.{ℕ}
 use denote.Ref.{now}
-use Rattle.hingedrift.specs.Tables.{keyOf, configOf, bit, configureLeft}
-use Rattle.hingedrift.proofs.Bridge.{no-table, configured, not-done}
+use Rattle.reporting.specs.declared.table.Change.{Change}
+use Rattle.reporting.specs.Lent.{leftAs, configureLent}
+use Rattle.hingedrift.specs.Tables.{keyOf, configOf, left, configureLeft}
+use Rattle.hingedrift.proofs.Bridge.{asChanged, configured-so}
 use Rattle.hingedrift.proofs.table.hd_configure.Statement.{statement}
 use Rattle.hingedrift.proofs.table.hd_configure.Tie as tie
 
--- what was written through `accepted` where the ways met
-accepted-is : (c : tie.At-match-came) → c .match .accepted ≡ bit (changeTold (c .before .configure .result .answer) .accepted)
-accepted-is c =
-    ⊎-elim
-    (λ w. w .2 ∙ ap (λ (a : Change). bit (changeTold a .accepted)) (sym (w .1 .given .1)))
-    (λ w. w .1 ∙ not-done (c .before .configure .result .answer) (w .0 .keys2))
-    (c .match .came)
+configured-at : (c : tie.After-configure-lent) (a : Change) → c .configure-lent .result ≡ a
+    → asChanged (leftAs a (c .configure-lent .last .0))
+    ≡ configureLeft (now (c .before .before .before .before .args .table)) (keyOf (c .before .before .before .before .args .cluster) (c .before .before .before .before .args .attribute)) (configOf (c .before .before .before .before .args .minimum) (c .before .before .before .before .args .maximum) (c .before .before .before .before .args .change))
+configured-at c a e =
+    let s = c .before .before .before .before in
+    let bs = now (s .args .table) in
+    let g = configOf (s .args .minimum) (s .args .maximum) (s .args .change) in
+    ap (λ (x : Change). asChanged (leftAs x (c .configure-lent .last .0))) (sym e)
+    ∙ ap asChanged (c .configure-lent .ensures)
+    ∙ (λ i. asChanged (configureLent (c .before .key-of .ensures i) g bs))
+    ∙ configured-so bs (keyOf (s .args .cluster) (s .args .attribute)) g
 
-read-table-requires : tie.Need-read-table-requires
-read-table-requires c κs = search needs
+key-of-requires : tie.Need-key-of-requires
+key-of-requires c κs = search needs
+
+configure-lent-requires : tie.Need-configure-lent-requires
+configure-lent-requires c κs = search needs
+
+enum-told : tie.Need-enum-told
+enum-told c = search needs
+
+enum-told-2 : tie.Need-enum-told-2
+enum-told-2 c = search needs
+
+enum-known-why : tie.Need-enum-known-why
+enum-known-why c = search needs
 
 number-requires : tie.Need-number-requires
 number-requires c κs = search needs
@@ -28,47 +44,33 @@ same-length : tie.Need-same-length
 same-length c = search needs
 
 returns : tie.Need-returns
-unfolding configureLeft
-returns c =
-    let r = c .before .before .before .read-table in
-    no-table (now (c .before .before .before .before .before .before .args .table)) (r .result) (r .ensures) (c .number .result) _ _ (c .number .ensures) (c .before .if1 .taken)
-
-key-of-requires : tie.Need-key-of-requires
-key-of-requires c κs = search needs
-
-configure-requires : tie.Need-configure-requires
-configure-requires c κs = search needs
-
-enum-told : tie.Need-enum-told
-enum-told c = search needs
-
-write-table-requires : tie.Need-write-table-requires
-write-table-requires c κs = search needs
+returns c = configured-at (c .before .before .before .before) _ (c .enum-told .given .1)
 
 same-length-2 : tie.Need-same-length-2
 same-length-2 c = search needs
 
 returns-2 : tie.Need-returns-2
-returns-2 c =
-    let s = c .before .before .before .before .before .before .before .before .before .before .before .before .before in
-    let r = c .before .before .before .before .before .before .before .before .before .before .read-table in
-    let k = c .before .before .before .before .before .before .key-of in
-    let u = c .before .before .before .before .before .configure in
-    configured (now (s .args .table)) (r .result) (r .ensures) (c .before .before .before .before .before .before .before .before .if1 .left)
-    (k .result) (keyOf (s .args .cluster) (s .args .attribute)) (k .ensures)
-    (configOf (s .args .minimum) (s .args .maximum) (s .args .change)) (u .result) _ _ _ (accepted-is (c .before .before .before .before)) (u .ensures) (c .before .before .write-table .ensures)
+returns-2 c = configured-at (c .before .before .before .before) _ (c .enum-told2 .given .1)
+
+same-length-3 : tie.Need-same-length-3
+same-length-3 c = search needs
+
+returns-3 : tie.Need-returns-3
+returns-3 c = ap (λ (n : ℕ). left n (c .before .before .before .before .before .before .configure-lent .last .0) 0) (c .number .ensures) ∙ configured-at (c .before .before .before .before .before .before) _ (c .before .before .why .given .1)
 
 pub hd-configure-spec : {M : Type 1} → statement M
 hd-configure-spec =
     tie.close
     (tie.spec
-    read-table-requires
+    key-of-requires
+    configure-lent-requires
+    enum-told
+    enum-told-2
+    enum-known-why
     number-requires
     same-length
     returns
-    key-of-requires
-    configure-requires
-    enum-told
-    write-table-requires
     same-length-2
-    returns-2)
+    returns-2
+    same-length-3
+    returns-3)
