@@ -1,5 +1,5 @@
--- One slot of a table's bytes written over: the bytes of the table with that entry changed, added behind the last, or taken from the end. Over the limit.
--- Assumes nothing.
+-- One slot of a table's bytes written over: the bytes of the table with that entry changed, added behind the last, or taken from
+-- the end. Over the limit. Assumes nothing.
 use Prim.Native.Nat.{ℕ, zero, suc, _+_, _-_, _*_, _≤_, _<_}
 use mathlib.Core.Path.{_≡_, refl, ap, sym, _∙_}
 use mathlib.Core.List.{List, [], _∷_, _++_, map, append-assoc}

@@ -1,5 +1,5 @@
--- The table's operations on the bytes that carry it: what each says, and the bytes afterwards. Bytes that are no table are refused, and stay as they are.
--- Assumes nothing: these are definitions.
+-- The table's operations on the bytes that carry it: what each says, and the bytes afterwards. Bytes that are no table are refused,
+-- and stay as they are. Assumes nothing: these are definitions.
 use mathlib.Core.Bool.{true, false, cond}
 use mathlib.Core.List.{List}
 use Prim.Native.Nat.{ℕ}

@@ -2,7 +2,7 @@
 ghost use mathlib.Core.Path.{_≡_};
 ghost use mathlib.Core.List.{[], map};
 ghost use mathlib.Core.Bool.{true, false};
-ghost use Prim.Native.Nat.{ℕ, _+_, _^_, _≤_};
+ghost use Prim.Native.Nat.{_+_, _^_, _≤_};
 ghost use lib.ListN.{length, drop};
 ghost use lib.Seq.{sets};
 ghost use Rattle.types.specs.Number.{allZero, unsignedAt, residue};
@@ -110,7 +110,7 @@ pub fn is_table(bytes: &[u8]) -> bool
     slots_in_form(bytes, count)
 }
 
-// The two-byte number at `at`. This and the next two are not public: all bytes must be there, so that nothing is tested, and each number is one load.
+// The two-byte number at `at`. This and the next two are not public: all bytes must be there, so that nothing is tested.
 pub(crate) fn u16_in(bytes: &[u8], at: usize) -> u16
     requires { ⌜ at + 2 ≤ length (now bytes) ⌝ }
     ensures { λ r. ⌜ r ≡ unsignedAt (now (bytes .entry)) at 2 ⌝ }

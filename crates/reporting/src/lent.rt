@@ -1,5 +1,5 @@
-// The reporting table's operations on the bytes that carry it. Nothing is read but the slots in question, and nothing is written but what changes.
-// What each says is what the method by value says of the table that the bytes are.
+// The reporting table's operations on the bytes that carry it. They are checked whole; then the slots in question are read where they
+// lie, and only what changes is written. What each says is what the method by value says of the table that the bytes are.
 ghost use mathlib.Core.Path.{_≡_};
 ghost use mathlib.Core.Bool.{true};
 ghost use Prim.Native.Nat.{_+_, _≤_};
@@ -103,7 +103,8 @@ pub fn mark_lent(bytes: &mut [u8], key: Key, now: u32, value: i64) -> bool
     }
     let place = 1 + SLOT * at;
     let e = read_slot(bytes, place);
-    write_slot(bytes, place, e.mark(now, value));
+    let marked = e.mark(now, value);
+    write_slot(bytes, place, marked);
     true
 }
 

@@ -9,7 +9,7 @@ use denote.Ref.{now}
 use Rattle.types.specs.Number.{AllBytes}
 use Rattle.reporting.specs.Table.{room}
 use Rattle.reporting.specs.Carried.{isTable}
-use Rattle.reporting.proofs.CarriageLoops.{known-size, known-count}
+use Rattle.reporting.proofs.CarriageLoops.{known-size}
 use Rattle.reporting.proofs.Lending.{FoundSlot, configure-refused, configure-full, configure-new, configure-old}
 use Rattle.reporting.proofs.lent.configure_lent.Statement.{statement}
 use Rattle.reporting.proofs.lent.configure_lent.Tie as tie

@@ -70,7 +70,7 @@ same-length-3 c = search needs
 returns-3 : tie.Need-returns-3
 returns-3 c =
     let s = c .before .before .before .before .before .before .before .before .before .before .before .before .before .before .before in
-    let m = c .before .before .before .mark in
+    let m = c .before .before .before .before .mark in
     mark-is (found (c .before .before .before .before .before .before .before .before)) (all-bytes (c .before .before .before .before .before .before .before .before)) _ (m .result) (s .args .now) (s .args .value) _ (toZ-ofZ (s .fits .value))
     (m .ensures ∙ ap (markE (s .args .now) _) (c .before .before .before .before .before .read-slot .ensures)) (c .before .before .before .before .before .before .before .if2 .left) (c .before .before .write-slot .ensures)
 
