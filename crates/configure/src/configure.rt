@@ -16,7 +16,7 @@ use frame::reply::Put;
 use reporting::table::Length;
 use reporting::table::ReportingTable;
 
-// An answer, and the table as it is afterwards: first, as in the pass.
+// An answer, and the table as it is afterwards.
 pub struct Configured {
     pub table: ReportingTable,
     pub answer: Answer,

@@ -29,7 +29,7 @@ pub(crate) enum Turn {
     Cut,
 }
 
-// How a pass ended, and the table: first, so that no padding lies before it and its copies are aligned.
+// How a pass ended, and the table.
 pub(crate) struct Passed {
     pub table: ReportingTable,
     pub done: Pass,

@@ -29,8 +29,8 @@ pub const TABLE_BYTES: usize = 465;
 
 // Whether the bytes were a table; where they were none, the table is the empty one.
 pub struct ReadTable {
-    pub known: bool,
     pub table: ReportingTable,
+    pub known: bool,
 }
 
 // The same 64 bits, read without their sign.

@@ -25,10 +25,11 @@ pub enum Change {
     Refused(Refusal),
 }
 
-// What such an operation hands back. A table that is none comes back as it was, all of it.
+// What such an operation hands back. A table that is none comes back as it was, all of it. It stands first, as wherever a table is handed on:
+// nothing lies before it then, and its copies are aligned.
 pub struct Changed {
-    pub answer: Change,
     pub table: ReportingTable,
+    pub answer: Change,
 }
 
 // The answer to an ask.

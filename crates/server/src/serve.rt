@@ -24,8 +24,8 @@ use types::ids::ClusterId;
 
 // An answer, and the table as it is afterwards.
 pub struct Served {
-    pub answer: Answer,
     pub table: ReportingTable,
+    pub answer: Answer,
 }
 
 // A global command: one of the two that need the table, or as without one.
