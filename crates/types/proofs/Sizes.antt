@@ -1,9 +1,12 @@
 -- A size, as a code's arm gives it, is the definition's. Assumes nothing.
 use Prim.Native.Nat.{ℕ, zero, suc, _+_, _≤_, _<_}
-use mathlib.Core.Path.{_≡_, refl, ap, sym, _∙_}
+use mathlib.Core.Path.{_≡_, refl, ap, sym, _∙_, subst}
 use mathlib.Core.Bool.{Bool, true, false, not, _||_}
 use mathlib.Core.List.{List}
+use mathlib.Core.Logic.{inl, inr}
+use native.Mathlib.Omega.{arith}
 use lib.Dec.{T, eqb, eqb→eq}
+use mir.Facts.{or-yes}
 use types.Run.{OneOf}
 use Rattle.types.specs.Ids.{sizeOf}
 use Rattle.types.specs.declared.ids.Size.{Size}
@@ -31,8 +34,17 @@ size-keys x ks p t o = same x (sizeOf t) (by-keys (right x) ks p t o)
 pub size-run : (x : Size) (a n : ℕ) → T (run (right x) a n) → (t : ℕ) → a ≤ t → t < a + n → x ≡ sizeOf t
 size-run x a n p t h b = same x (sizeOf t) (by-run (right x) a n p t h b)
 
-pub size-rest : (kss : List (List ℕ)) (a n : ℕ) → T (run (λ t. anyKey kss t || right Varies t) a n) → (t : ℕ) → a ≤ t → t < a + n → NoneOf kss t → Varies ≡ sizeOf t
-size-rest kss a n p t h b o = same Varies (sizeOf t) (by-rest (right Varies) kss a n p t h b o)
+-- the size of each code of a kind, by a rule
+pub size-kind : (q : ℕ → Bool) (f : ℕ → Size) (n : ℕ) → T (run (λ t. not (q t) || sameSize (f t) (sizeOf t)) 0 n) → (t : ℕ) → t < n → q t ≡ true → f t ≡ sizeOf t
+size-kind q f n p t b e =
+    elim (or-yes (not (q t)) _ (by-run (λ t. not (q t) || sameSize (f t) (sizeOf t)) 0 n p t (omega arith) (omega arith)))
+    [ inl x ↦ absurd (subst (λ k. T (not k)) e x) | inr y ↦ same (f t) (sizeOf t) y ]
+
+-- a code that is no key and not of the kind
+pub size-rest : (q : ℕ → Bool) (kss : List (List ℕ)) (a n : ℕ) → T (run (λ t. anyKey kss t || (q t || right Varies t)) a n) → (t : ℕ) → a ≤ t → t < a + n → NoneOf kss t → q t ≡ false → Varies ≡ sizeOf t
+size-rest q kss a n p t h b o e =
+    elim (or-yes (q t) _ (by-rest (λ t. q t || right Varies t) kss a n p t h b o))
+    [ inl x ↦ absurd (subst T e x) | inr y ↦ same Varies (sizeOf t) y ]
 
 -- the same for a rule that a code keeps or not
 abbrev pub sameTruth : Bool → Bool → Bool
