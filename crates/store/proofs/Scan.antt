@@ -1,14 +1,15 @@
 -- Laws of the scan for a name: one attribute after the other. Assumes nothing.
 use Prim.Native.Nat.{ℕ, zero, suc, _+_, _-_, _≤_, _<_}
 use mathlib.Core.Path.{_≡_, refl, ap, sym, _∙_}
+use mathlib.Core.Bool.{Bool, cond}
 use mathlib.Core.List.{List, [], _∷_}
 use native.Mathlib.Omega.{arith}
 use native.Mathlib.Numerals.{add-one}
-use borrow.Author.Tests.{eq-eqb, ne-eqb}
-use Rattle.store.specs.declared.lookup.Attribute.{Attribute}
+use borrow.Author.Tests.{eq-eqb, ne-eqb, lt-ltb, le-ltb}
 use Rattle.store.specs.declared.lookup.Found.{Found}
 use Rattle.store.specs.declared.lookup.Found.the-variants.{At, Nothing}
 use Rattle.store.specs.Contents.{countOf, attributeAt, attributesFrom, attributesOf, findIn, findOf}
+use Rattle.store.specs.Inside.{foundAt}
 
 -- the attributes from number i on: the next one and those behind it, or none
 pub from-next : (form : ℕ) (s : List ℕ) (n i : ℕ) → i < n → attributesFrom form s (n - i) i ≡ attributeAt form s i ∷ attributesFrom form s (n - (i + 1)) (i + 1)
@@ -47,11 +48,19 @@ scan-all form s n name e = let z : n - 0 ≡ countOf s = omega arith in ap (λ k
 
 -- one turn of a scan that came to number i without a find, and there to the name m
 module _ (form : ℕ) (s : List ℕ) (n i name : ℕ) (so-far : scan form s n i name ≡ scan form s n 0 name) where
-  pub here : (m : ℕ) (a : Attribute) → n ≡ countOf s → i < n → m ≡ attributeAt form s i .name .0 → m ≡ name → a ≡ attributeAt form s i → At a ≡ findOf form s name
-  here m a e h is t whole = ap At whole ∙ sym (scan-hit form s n i name h (sym is ∙ t)) ∙ so-far ∙ scan-all form s n name e
+  pub here : (m : ℕ) → n ≡ countOf s → i < n → m ≡ attributeAt form s i .name .0 → m ≡ name → findOf form s name ≡ foundAt form s i
+  here m e h is t =
+      sym (scan-all form s n name e)
+      ∙ sym so-far
+      ∙ scan-hit form s n i name h (sym is ∙ t)
+      ∙ sym (ap (λ (b : Bool). cond b (At (attributeAt form s i)) Nothing) (lt-ltb i (countOf s) (omega arith)))
 
   pub further : (m : ℕ) → i < n → m ≡ attributeAt form s i .name .0 → (m ≡ name → ⊥) → scan form s n (i + 1) name ≡ scan form s n 0 name
   further m h is t = sym (scan-miss form s n i name h (λ q. t (is ∙ q))) ∙ so-far
 
-  pub nowhere : n ≡ countOf s → n ≤ i → Nothing ≡ findOf form s name
-  nowhere e h = sym (scan-end form s n i name h) ∙ so-far ∙ scan-all form s n name e
+  pub nowhere : n ≡ countOf s → n ≤ i → findOf form s name ≡ foundAt form s n
+  nowhere e h =
+      sym (scan-all form s n name e)
+      ∙ sym so-far
+      ∙ scan-end form s n i name h
+      ∙ sym (ap (λ (b : Bool). cond b (At (attributeAt form s n)) Nothing) (le-ltb n (countOf s) (omega arith)))

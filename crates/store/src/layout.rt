@@ -25,13 +25,13 @@ pub fn part(s: &[u8], from: usize, n: usize) -> &[u8]
     &s[from..end]
 }
 
-// Whether an attribute's values are strings with a length byte.
+// Whether an attribute's values are strings with a length byte: octet or character strings.
 pub fn is_text(a: Attribute) -> bool
     ensures { λ r. ⌜ r ≡ isText a ⌝ }
 {
-    let form = a.type_id.form();
-    match form {
-        Form::Text => true,
+    let code = a.type_id.0;
+    match code {
+        0x41..=0x42 => true,
         _ => false,
     }
 }

@@ -2,6 +2,7 @@
 // read as 0.
 ghost use mathlib.Core.Path.{_≡_};
 ghost use Rattle.store.specs.Contents.{clusterOf, countOf, attributeAt, reportable, nameOf, findOf};
+ghost use Rattle.store.specs.Inside.{foundAt};
 use super::layout::part;
 use frame::header::ManufacturerCode;
 use types::ids::AttributeId;
@@ -89,9 +90,9 @@ pub fn is_reportable(a: Attribute) -> bool
     a.access / 2 % 2 == 1
 }
 
-// The attribute of a name.
-pub fn find(s: &[u8], name: Name) -> Found
-    ensures { λ r. ⌜ r ≡ findOf 8 (now (s .entry)) (name .0) ⌝ }
+// The number of the first attribute of a name, or how many there are where none has it.
+fn place_of(s: &[u8], name: Name) -> u16
+    ensures { λ r. ⌜ findOf 8 (now (s .entry)) (name .0) ≡ foundAt 8 (now (s .entry)) r ⌝ }
 {
     let n = count_of(s);
     let wanted = name.0;
@@ -99,9 +100,20 @@ pub fn find(s: &[u8], name: Name) -> Found
     while i < n {
         let here = name_at(s, i);
         if here.0 == wanted {
-            return Found::At(attribute_at(s, i));
+            return i;
         }
         i += 1;
     }
-    Found::Nothing
+    n
+}
+
+// The attribute of a name. It is read here, where it is wanted: the scan hands back a number, and no attribute goes through memory.
+pub fn find(s: &[u8], name: Name) -> Found
+    ensures { λ r. ⌜ r ≡ findOf 8 (now (s .entry)) (name .0) ⌝ }
+{
+    let i = place_of(s, name);
+    if count_of(s) <= i {
+        return Found::Nothing;
+    }
+    Found::At(attribute_at(s, i))
 }

@@ -1,60 +1,44 @@
--- The scan from here finds what the scan from the start finds. Assumes nothing.
-use Prim.Native.Nat.{_-_, _≤_}
-use mathlib.Core.Path.{_≡_, refl}
+-- What the scan says, taken apart. Assumes nothing.
+use Prim.Native.Nat.{ℕ, _≤_, _<_}
+use mathlib.Core.Path.{_≡_, sym, ap, _∙_}
+use mathlib.Core.Bool.{Bool, cond}
+use mathlib.Core.List.{List}
 use native.Mathlib.Omega.{arith}
 use borrow.Author.Needs.{needs}
-use Rattle.store.proofs.Scan.{scan, here, further, nowhere}
+use borrow.Author.Tests.{lt-ltb, le-ltb}
+use denote.Ref.{now}
+use Rattle.store.specs.declared.lookup.Attribute.{Attribute}
+use Rattle.store.specs.declared.lookup.Found.the-variants.{At, Nothing}
+use Rattle.store.specs.Contents.{countOf, attributeAt}
+use Rattle.store.specs.Inside.{foundAt}
 use Rattle.store.proofs.lookup.find.Statement.{statement}
 use Rattle.store.proofs.lookup.find.Tie as tie
 
-abbrev Inv-loop : tie.InvT-loop
-Inv-loop s n wanted i₀ i = (i ≤ n) × (scan 8 s n i wanted ≡ scan 8 s n 0 wanted)
+none-there : (s : List ℕ) (i : ℕ) → countOf s ≤ i → Nothing ≡ foundAt 8 s i
+none-there s i h = sym (ap (λ (b : Bool). cond b (At (attributeAt 8 s i)) Nothing) (le-ltb i (countOf s) h))
 
-abbrev μ-loop : tie.MeasureT-loop
-μ-loop s n wanted i₀ i = n - i
+one-there : (s : List ℕ) (i : ℕ) (a : Attribute) → i < countOf s → a ≡ attributeAt 8 s i → At a ≡ foundAt 8 s i
+one-there s i a h e = ap At e ∙ sym (ap (λ (b : Bool). cond b (At (attributeAt 8 s i)) Nothing) (lt-ltb i (countOf s) h))
 
-count-of-requires : tie.Need-count-of-requires Inv-loop μ-loop
+place-of-requires : tie.Need-place-of-requires
+place-of-requires c κs = search needs
+
+count-of-requires : tie.Need-count-of-requires
 count-of-requires c κs = search needs
 
-loop-holds : tie.Need-loop-holds Inv-loop μ-loop
-loop-holds c = (omega arith, refl)
+returns : tie.Need-returns
+returns c =
+    none-there (now (c .before .before .before .before .args .s)) (c .before .before .place-of .result) (omega (arith, c .before .count-of .ensures, c .if1 .taken))
+    ∙ sym (c .before .before .place-of .ensures)
 
-name-at-requires : tie.Need-name-at-requires Inv-loop μ-loop
-name-at-requires c κs = search needs
-
-attribute-at-requires : tie.Need-attribute-at-requires Inv-loop μ-loop
+attribute-at-requires : tie.Need-attribute-at-requires
 attribute-at-requires c κs = search needs
 
-returns : tie.Need-returns Inv-loop μ-loop
-returns c =
-    let b = c .before .before .before .before .before in
-    here 8 _ _ _ _ (b .loop .inv .1) _ _ (b .before .count-of .ensures) (c .before .before .before .before .loop-test .taken) (c .before .before .before .name-at .ensures) (c .before .if1 .taken) (c .attribute-at .ensures)
-
-add-i : tie.Need-add-i Inv-loop μ-loop
-add-i c = omega arith
-
-loop-less : tie.Need-loop-less Inv-loop μ-loop
-loop-less c = omega arith
-
-loop-again : tie.Need-loop-again Inv-loop μ-loop
-loop-again c =
-    (omega arith, further 8 _ _ _ _ (c .before .before .before .before .loop .inv .1) _ (c .before .before .before .loop-test .taken) (c .before .before .name-at .ensures) (c .if1 .left))
-
-returns-2 : tie.Need-returns-2 Inv-loop μ-loop
-returns-2 c = nowhere 8 _ _ _ _ (c .before .loop .inv .1) (c .before .before .count-of .ensures) (c .loop-test .left)
+returns-2 : tie.Need-returns-2
+returns-2 c =
+    one-there (now (c .before .before .before .before .before .args .s)) (c .before .before .before .place-of .result) (c .attribute-at .result) (omega (arith, c .before .before .count-of .ensures, c .before .if1 .left)) (c .attribute-at .ensures)
+    ∙ sym (c .before .before .before .place-of .ensures)
 
 pub find-spec : {M : Type 1} → statement M
 find-spec =
-    tie.close
-    (tie.spec
-    Inv-loop
-    μ-loop
-    count-of-requires
-    loop-holds
-    name-at-requires
-    attribute-at-requires
-    returns
-    add-i
-    loop-less
-    loop-again
-    returns-2)
+    tie.close (tie.spec place-of-requires count-of-requires returns attribute-at-requires returns-2)
