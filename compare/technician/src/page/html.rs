@@ -65,8 +65,9 @@ fn data(cell: &str, name: &str) -> String {
     format!("<td{class} data-name=\"{name}\">{}</td>", inline(cell))
 }
 
+/// In digits: `inf` is a word.
 fn is_number(cell: &str) -> bool {
-    cell.parse::<i64>().is_ok()
+    cell.parse::<f64>().is_ok() && cell.ends_with(|letter: char| letter.is_ascii_digit())
 }
 
 /// Numbers stand at the right.
@@ -128,10 +129,11 @@ mod tests {
     #[test]
     fn code_and_numbers() {
         assert_eq!(inline("a `<b>` c"), "a <code>&lt;b&gt;</code> c");
-        assert_eq!(
-            data("-5", "x"),
-            "<td class=\"number\" data-name=\"x\">-5</td>"
-        );
+        for number in ["-5", "21.9"] {
+            let cell = format!("<td class=\"number\" data-name=\"x\">{number}</td>");
+            assert_eq!(data(number, "x"), cell);
+        }
+        assert!(!["", "inf", "NaN", "1 (2)"].into_iter().any(is_number));
         assert_eq!(
             data("`18`", "`y`"),
             "<td data-name=\"y\"><code>18</code></td>"
