@@ -1,13 +1,15 @@
 -- The number that is read from a frame is the number of the attribute in the store: both are the number of the value's bytes. Assumes
 -- nothing.
-use mathlib.Core.Path.{_≡_, sym, ap, _∙_, subst}
+use mathlib.Core.Path.{_≡_, refl, sym, ap, _∙_, subst}
 use mathlib.Core.Bool.{Bool, true, false, cond}
 use mathlib.Core.List.{List, [], _∷_, map}
 use mathlib.Core.Option.{none, some}
+use mathlib.Core.Logic.{_⊎_, inl, inr}
 use Prim.Native.Nat.{ℕ, zero, suc, _+_, _-_, _<_, _^_}
 use native.Mathlib.Omega.{arith}
 use lib.ListN.{length, take, drop, getD, getElem?}
 use lib.Dec.{eqb}
+use borrow.Author.Tests.{eqb-false}
 use Rattle.types.specs.Number.{unsignedAt}
 use Rattle.types.specs.Value.{numberAt}
 use Rattle.frame.specs.declared.header.ZclHeader.{ZclHeader}
@@ -165,7 +167,7 @@ report-number form s sequence ids room short size reply e k id t v w i =
     let y = in-reply (λ (x : Span). reportedRecord (cutOut f x)) (reportHeld f) (ReportTells form s) (spansOf ReportAttributes Report f) _ (sent .2) good k _ i in
     report-tells form s f (y .0) id t v w (y .1) (y .2)
 
--- ---- of a read reply, a record has a value only where it is one
+-- ---- record k
 
 module _ {B : Type 0} (h : Span → B) where
   from-list : (l : List Span) (k : ℕ) (y : B) → getElem? (map h l) k ≡ some y → (x : Span) × (h x ≡ y)
@@ -177,21 +179,28 @@ module _ {B : Type 0} (h : Span → B) where
   from-reply (read l) k y e = let there : getElem? (map h l) k ≡ some y = cc in from-list l k y there
   from-reply (unreadable why) k y e = let z : _≡_ {A = ℕ} 0 1 = cc in absurd (omega arith)
 
--- a record with these parts, if any
-abbrev IsValue : ReadRecord → Type 0
-IsValue r = (id : ℕ) × (t : ℕ) × (v : List ℕ) × (r ≡ value id t v)
+-- a value, with where it lies and its number; or a failure, whose status is not 0
+abbrev pub Valued : Held ReadRecord → Type 0
+Valued y = (id : ℕ) × (t : ℕ) × (v : List ℕ) × (w : ValueIn) × (y ≡ held (value id t v) (some w))
 
-pub read-held : (f : List ℕ) (k : ℕ) (r : ReadRecord) (w : ValueIn) → kth k (readReplyHeld f) ≡ read (some (held r (some w))) → IsValue r
+abbrev pub Failed : Held ReadRecord → Type 0
+Failed y = (id : ℕ) × (status : ℕ) × (y ≡ held (failure id status) none) × (status ≡ 0 → ⊥)
+
+pub read-ways : (f : List ℕ) (k : ℕ) (y : Held ReadRecord) → kth k (readReplyHeld f) ≡ read (some y) → Valued y ⊎ Failed y
 unfolding readReplyHeld readRecord
-read-held f k r w e =
-    let y = from-reply (readHeld f) (spansOf ReadAttributesResponse ReadStatus f) k _ e in
-    go (y .0) (eqb (getD (cutOut f (y .0)) 2 0) 0) (y .1)
+read-ways f k y e =
+    let x = from-reply (readHeld f) (spansOf ReadAttributesResponse ReadStatus f) k y e in
+    go (x .0) (eqb (getD (cutOut f (x .0)) 2 0) 0) refl (sym (x .1))
   where
-    go : (x : Span) (c : Bool)
-        → held (cond c (value (unsignedAt (cutOut f x) 0 2) (getD (cutOut f x) 3 0) (drop 4 (cutOut f x))) (failure (unsignedAt (cutOut f x) 0 2) (getD (cutOut f x) 2 0))) (cond c (some (valueIn f x 3)) none) ≡ held r (some w)
-        → IsValue r
-    go x true e = (unsignedAt (cutOut f x) 0 2, getD (cutOut f x) 3 0, drop 4 (cutOut f x), sym (ap (λ (y : Held ReadRecord). y .is) e))
-    go x false e =
-        let o : none ≡ some w = ap (λ (y : Held ReadRecord). y .value) e in
-        let z : _≡_ {A = ℕ} 0 1 = cc in
-        absurd (omega arith)
+    go : (x : Span) (c : Bool) → eqb (getD (cutOut f x) 2 0) 0 ≡ c
+        → y ≡ held (cond c (value (unsignedAt (cutOut f x) 0 2) (getD (cutOut f x) 3 0) (drop 4 (cutOut f x))) (failure (unsignedAt (cutOut f x) 0 2) (getD (cutOut f x) 2 0))) (cond c (some (valueIn f x 3)) none)
+        → Valued y ⊎ Failed y
+    go x true b e = inl (unsignedAt (cutOut f x) 0 2, getD (cutOut f x) 3 0, drop 4 (cutOut f x), valueIn f x 3, e)
+    go x false b e = inr (unsignedAt (cutOut f x) 0 2, getD (cutOut f x) 2 0, e, eqb-false (getD (cutOut f x) 2 0) 0 b)
+
+-- every record of a report has a value
+pub report-held : (f : List ℕ) (k : ℕ) (y : Held ReportRecord) → kth k (reportFrameHeld f) ≡ read (some y) → (w : ValueIn) × (y .value ≡ some w)
+unfolding reportFrameHeld
+report-held f k y e =
+    let x = from-reply (reportHeld f) (spansOf ReportAttributes Report f) k y e in
+    (valueIn f (x .0) 2, sym (ap (λ (q : Held ReportRecord). q .value) (x .1)))
