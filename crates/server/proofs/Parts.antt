@@ -1,6 +1,6 @@
 -- A request served in parts is the request served. Assumes nothing.
 use mathlib.Core.Path.{_≡_, refl, sym, ap, _∙_, subst}
-use mathlib.Core.Bool.{Bool, true, false, cond, _&&_, true≢false}
+use mathlib.Core.Bool.{Bool, true, false, cond, _&&_, true≢false, false≢true}
 use mathlib.Core.List.{List, [], _∷_}
 use Prim.Native.Nat.{ℕ, _-_, _≤_}
 use native.Mathlib.Omega.{arith}
@@ -33,7 +33,7 @@ use Rattle.server.specs.declared.checks.Opened.{Opened}
 use Rattle.server.specs.declared.checks.Opened.the-variants.{Frame, Refused}
 use Rattle.server.specs.Serve.{State, state, storing, unsupported, commanded, typed, byHeader, tabled, serve}
 use Rattle.server.specs.UnsupportedCluster.{isGlobal}
-use Rattle.server.specs.Parts.{isSound, headerOpened, openedOf, goingOn, usesTable, storeAlone, storeCommanded, storeTyped, ServedInParts, TableNotNeeded}
+use Rattle.server.specs.Parts.{isSound, headerOpened, openedOf, goingOn, usesTable, needsTable, storeAlone, storeCommanded, storeTyped, ServedInParts, TableNotNeeded}
 
 -- ---- the checks, one by one
 
@@ -168,6 +168,24 @@ module _ (form limit : ℕ) (s : List ℕ) (t : Table) (unicast : Bool) (h : Zcl
 pub table-not-needed : TableNotNeeded
 table-not-needed form limit s t unicast h body room e = typed-alone form limit s t unicast h body room (frameTypeOf (h .«frame_control» .0)) e
 
+-- ---- a frame that needs the table
+
+module _ (form limit : ℕ) (s : List ℕ) (t : Table) (unicast : Bool) (h : ZclHeader) (body : List ℕ) (room : ℕ) where
+  by-need : (k : FrameType) → (isGlobal k && usesTable (commandOf (h .«command_identifier» .0))) ≡ true
+      → (usesTable (commandOf (h .«command_identifier» .0)) ≡ true) × (commanded form limit s t unicast h body room (commandOf (h .«command_identifier» .0)) ≡ typed form limit s t unicast h body room k)
+  unfolding typed
+  by-need GlobalCommand e = (e, refl)
+  by-need ClusterCommand e = absurd (false≢true e)
+  by-need Reserved e = absurd (false≢true e)
+
+  -- it is a global command, one of the two
+  module _ (e : needsTable h ≡ true) where
+    pub needed-uses : usesTable (commandOf (h .«command_identifier» .0)) ≡ true
+    needed-uses = by-need (frameTypeOf (h .«frame_control» .0)) e .0
+
+    pub needed-typed : (c : CommandIdentifier) → commandOf (h .«command_identifier» .0) ≡ c → commanded form limit s t unicast h body room c ≡ typed form limit s t unicast h body room (frameTypeOf (h .«frame_control» .0))
+    needed-typed c q = ap (commanded form limit s t unicast h body room) (sym q) ∙ by-need (frameTypeOf (h .«frame_control» .0)) e .1
+
 -- ---- the commands by their tags
 
 -- of those that need no table
@@ -190,6 +208,28 @@ alone-uses DefaultResponse o = refl
 alone-uses DiscoverAttributes o = refl
 alone-uses DiscoverAttributesResponse o = refl
 alone-uses (Other b) o = refl
+
+-- of the two that need a table, the one that is not Configure Reporting
+abbrev others : List ℕ
+others = 0 ∷ 1 ∷ 2 ∷ 3 ∷ 4 ∷ 5 ∷ 7 ∷ 8 ∷ 9 ∷ 10 ∷ 11 ∷ 12 ∷ 13 ∷ 14 ∷ []
+
+pub other-needed : (c : CommandIdentifier) → usesTable c ≡ true → OneOf (0 ∷ 1 ∷ 2 ∷ 3 ∷ 4 ∷ 5 ∷ 7 ∷ 8 ∷ 9 ∷ 10 ∷ 11 ∷ 12 ∷ 13 ∷ 14 ∷ []) (tagOf command-identifier.the-type c)
+    → c ≡ ReadReportingConfiguration
+other-needed ReadAttributes e o = absurd (false≢true e)
+other-needed ReadAttributesResponse e o = absurd (false≢true e)
+other-needed WriteAttributes e o = absurd (false≢true e)
+other-needed WriteAttributesUndivided e o = absurd (false≢true e)
+other-needed WriteAttributesResponse e o = absurd (false≢true e)
+other-needed WriteAttributesNoResponse e o = absurd (false≢true e)
+other-needed ConfigureReporting e o = absurd (miss others 6 tt o)
+other-needed ConfigureReportingResponse e o = absurd (false≢true e)
+other-needed ReadReportingConfiguration e o = refl
+other-needed ReadReportingConfigurationResponse e o = absurd (false≢true e)
+other-needed ReportAttributes e o = absurd (false≢true e)
+other-needed DefaultResponse e o = absurd (false≢true e)
+other-needed DiscoverAttributes e o = absurd (false≢true e)
+other-needed DiscoverAttributesResponse e o = absurd (false≢true e)
+other-needed (Other b) e o = absurd (false≢true e)
 
 -- of those that are not served without a table
 abbrev rest : List ℕ
