@@ -1,14 +1,12 @@
 -- From what the functions of crate `reporting` ensure to what the functions towards C leave. Assumes nothing.
 use Prim.Native.Nat.{ℕ, _≤_}
 use mathlib.Core.Path.{_≡_, refl, sym, ap, _∙_}
-use mathlib.Core.Bool.{Bool, true, false, not, cond, _&&_, true≢false, false≢true}
+use mathlib.Core.Bool.{Bool, true, false, cond, _&&_, true≢false, false≢true}
 use mathlib.Core.List.{List, []}
 use mathlib.Core.Option.{Option, none, some}
-use native.Mathlib.Omega.{arith}
-use lib.ListN.{length}
 use lib.Dec.{ltb, leb}
 use lib.IntN.{ℤ}
-use borrow.Author.Tests.{ltb-false, le-leb, eq-eqb, not-false}
+use borrow.Author.Tests.{ltb-false, le-leb}
 use Rattle.frame.specs.Answer.{refusalNumber}
 use Rattle.frame.specs.declared.answer.Refusal.the-variants.{NotATable}
 use Rattle.reporting.specs.declared.entry.Key.{Key}
@@ -18,14 +16,11 @@ use Rattle.reporting.specs.declared.table.ReportingTable.{ReportingTable}
 use Rattle.reporting.specs.declared.table.Change.the-variants as ChangeV
 use Rattle.reporting.specs.declared.table.Report.the-variants as ReportV
 use Rattle.reporting.specs.declared.table.Setting.the-variants as SettingV
-use Rattle.reporting.specs.declared.carried.ReadTable.{ReadTable}
 use Rattle.reporting.specs.Entries.{lookupL, acceptsL, configureL, clearL, markL}
 use Rattle.reporting.specs.Due.{dueL}
 use Rattle.reporting.specs.Table.{room, Table, sound, bad, live, tableOf, holding, ReportTold, reportTold, askT, SettingTold, settingTold, settingO}
-use Rattle.reporting.specs.Carried.{tableIn, sized, isTable, tableBytes, Reading, reading, seen, readT, Written, written, writeT}
+use Rattle.reporting.specs.Carried.{tableIn, sized, isTable, tableBytes, Written, written, writeT}
 use Rattle.reporting.specs.Lent.{onLent, askLent, configurationLent, markLent, clearLent, ChangeLeft, leftAs, configureLent}
-use Rattle.reporting.proofs.Slots.{is-table}
-use Rattle.reporting.proofs.CarriageTable.{IsTable, the-conditions, table-count}
 use Rattle.server.specs.Parts.{isSound}
 use Rattle.hingedrift.specs.Tables.{bit, Left, left, onTable, noResult, newLeft, clearLeft, markLeft, configureLeft, askLeft, Configuration, configurationAs, noConfiguration, configurationBy, configurationLeft}
 
@@ -76,38 +71,6 @@ module _ (t : ReportingTable) (e : tableOf t ≡ holding []) (w : Bool) (bs bs�
       go : (b : Bool) → written w bs′ ≡ cond b (written true (tableBytes room [])) (written false bs) → left 8 bs′ noResult ≡ cond b (left 0 (tableBytes room []) noResult) (left 8 bs noResult)
       go true q = absurd (false≢true (sym h ∙ ap (λ (x : Written). x .done) q))
       go false q = ap (λ (x : Written). left 8 (x .bytes) noResult) q
-
--- ---- reading
-
-module _ (bs : List ℕ) (r : ReadTable) (e : reading r ≡ readT 16 bs) where
-  pub is-known : r .known ≡ isTable room bs
-  unfolding readT
-  is-known = go (isTable room bs) e
-    where
-      go : (b : Bool) → reading r ≡ cond b (seen true (tableIn bs)) (seen false []) → r .known ≡ b
-      go true q = ap (λ (x : Reading). x .known) q
-      go false q = ap (λ (x : Reading). x .known) q
-
-  -- bytes that are a table
-  module _ (h : not (r .known) ≡ false) where
-    is-one : isTable room bs ≡ true
-    is-one = sym is-known ∙ not-false _ h
-
-    the-table : IsTable room bs
-    the-table = the-conditions room bs is-one
-
-    seen-so : reading r ≡ seen true (tableIn bs)
-    unfolding readT
-    seen-so = e ∙ ap (λ (b : Bool). cond b (seen true (tableIn bs)) (seen false [])) is-one
-
-    -- what the operations meet
-    pub meets : tableOf (r .table) ≡ holding (tableIn bs)
-    meets =
-        let n : r .table .count ≡ length (tableIn bs) = ap (λ (x : Reading). x .count) seen-so in
-        is-table (r .table) (tableIn bs) (record { count = n; entries = ap (λ (x : Reading). x .entries) seen-so }) (omega (arith, table-count bs, the-table .count))
-
-    pub has-size : sized room bs ≡ true
-    has-size = eq-eqb _ _ (the-table .size)
 
 -- ---- the operations on the bytes
 

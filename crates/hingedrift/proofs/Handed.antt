@@ -1,29 +1,28 @@
 -- From what the functions of crate `server` ensure to what C has after a call. Assumes nothing.
 use Prim.Native.Nat.{ℕ}
 use mathlib.Core.Path.{_≡_, refl, sym, ap, _∙_}
-use mathlib.Core.Bool.{Bool, true, false, not, cond, _&&_}
+use mathlib.Core.Bool.{Bool, true, false}
 use mathlib.Core.List.{List}
 use lib.ListN.{drop}
-use lib.Dec.{ltb, leb}
-use borrow.Author.Tests.{ltb-true, ltb-false, le-leb, lt-leb}
 use Rattle.types.specs.Number.{AllBytes}
 use Rattle.frame.specs.declared.answer.Answer.{Answer}
 use Rattle.frame.specs.declared.header.ZclHeader.{ZclHeader}
+use Rattle.frame.specs.declared.command_identifier.CommandIdentifier.the-variants.{ConfigureReporting, ReadReportingConfiguration}
 use Rattle.frame.specs.Header.{frameTypeOf}
-use Rattle.frame.specs.Answer.{answerNumber, answerLength, Outcome, seen, refused}
+use Rattle.frame.specs.CommandIdentifier.{commandOf}
+use Rattle.frame.specs.Answer.{answerNumber, answerLength, Outcome, noState, seen, refused}
 use Rattle.store.specs.Layout.{isStore}
-use Rattle.reporting.specs.declared.table.ReportingTable.{ReportingTable}
-use Rattle.reporting.specs.declared.carried.ReadTable.{ReadTable}
-use Rattle.reporting.specs.Table.{room, Table, sound, bad, live, tableOf, holding}
-use Rattle.reporting.specs.Carried.{sized, isTable, tableIn, tableBytes, reading, readT, Written, written, writeT}
+use Rattle.reporting.specs.Table.{room, holding}
+use Rattle.reporting.specs.Carried.{isTable, tableIn, tableBytes}
 use Rattle.reporting.proofs.CarriageTable.{bytes-back}
+use Rattle.configure.specs.Configure.{configureOf, onBytes}
+use Rattle.configure.specs.Configuration.{configurationOf}
 use Rattle.server.specs.declared.checks.Opened.{Opened}
 use Rattle.server.specs.declared.checks.Opened.the-variants.{Frame, Refused}
-use Rattle.server.specs.Serve.{state, within, storing, typed, serve}
+use Rattle.server.specs.Serve.{within, storing, commanded, typed, serve}
 use Rattle.server.specs.Parts.{openedOf, goingOn, needsTable, storeTyped}
-use Rattle.server.proofs.Parts.{served-in-parts, table-not-needed}
-use Rattle.hingedrift.specs.Serving.{handed, isUnicast, Lent, lent, bytesAfter, carried, handleLeft}
-use Rattle.hingedrift.proofs.Bridge.{is-known, meets, has-size}
+use Rattle.server.proofs.Parts.{served-in-parts, table-not-needed, needed-typed}
+use Rattle.hingedrift.specs.Serving.{handed, isUnicast, Lent, lent, carried, handleLeft}
 
 -- number and length are the answer's
 pub hand : {S : Type 0} (a : Answer) (n used : ℕ) (d : List ℕ) (s : S) (o : Outcome S) → n ≡ answerNumber a → used ≡ answerLength a → seen a d s ≡ o → handed n used d s ≡ o
@@ -31,17 +30,7 @@ hand a n used d s o en eu e = (λ i. handed (en i) (eu i) d s) ∙ e
 
 -- ---- hd_handle_request
 
--- a table written back into bytes of its size: its own bytes, or those that were there
-after-write : (t : ReportingTable) (bs bs′ : List ℕ) (w : Bool) → sized room bs ≡ true → written w bs′ ≡ writeT 16 t bs → bs′ ≡ bytesAfter bs (tableOf t)
-unfolding writeT
-after-write t bs bs′ w z p = ap (λ (x : Written). x .bytes) (p ∙ ap (λ (b : Bool). cond (b && leb (t .count) 16) (written true (tableBytes 16 (live t))) (written false bs)) z) ∙ go (ltb room (t .count)) refl
-  where
-    go : (b : Bool) → ltb room (t .count) ≡ b
-        → cond (leb (t .count) 16) (written true (tableBytes 16 (live t))) (written false bs) .bytes ≡ bytesAfter bs (cond b (bad t) (sound (t .count) (live t)))
-    go true h = rw (lt-leb (t .count) 16 (ltb-true _ _ h)) refl
-    go false h = rw (le-leb (t .count) 16 (ltb-false _ _ h)) refl
-
--- bytes that are a table, and stay
+-- bytes that are a table
 module _ (bs : List ℕ) (bytes : AllBytes bs) (is : isTable room bs ≡ true) where
   back : tableBytes room (tableIn bs) ≡ bs
   back = bytes-back room bs bytes is
@@ -55,14 +44,20 @@ module _ (bs : List ℕ) (bytes : AllBytes bs) (is : isTable room bs ≡ true) w
         ∙ ap (λ (o : Outcome (List ℕ)). within (carried bs) (storing (holding (tableIn bs)) o)) e
         ∙ ap (within (carried bs)) (table-not-needed 8 room s (holding (tableIn bs)) unicast h body size n)
 
-    -- one that needs it: it was read, and is written back
-    pub frame-tabled : (r : ReadTable) → reading r ≡ readT 16 bs → (a : Answer) (d s′ : List ℕ) (t : ReportingTable) (w : Bool) (bs′ : List ℕ)
-        → seen a d (state s′ (tableOf t)) ≡ typed 8 room s (tableOf (r .table)) unicast h body size (frameTypeOf (h .«frame_control» .0)) → written w bs′ ≡ writeT 16 t bs
-        → seen a d (lent s′ bs′) ≡ within (carried bs) (typed 8 room s (holding (tableIn bs)) unicast h body size (frameTypeOf (h .«frame_control» .0)))
-    frame-tabled r e a d s′ t w bs′ g p =
-        let known : not (r .known) ≡ false = ap not (is-known bs r e ∙ is) in
-        ap (λ (x : List ℕ). seen a d (lent s′ x)) (after-write t bs bs′ w (has-size bs r e known) p)
-        ∙ ap (within (carried bs)) (g ∙ ap (λ (x : Table). typed 8 room s x unicast h body size (frameTypeOf (h .«frame_control» .0))) (meets bs r e known))
+    -- one that needs it: it is worked on where it lies
+    module _ (n : needsTable h ≡ true) where
+      pub frame-configured : commandOf (h .«command_identifier» .0) ≡ ConfigureReporting → (a : Answer) (d bs′ : List ℕ) → seen a d bs′ ≡ onBytes bs (configureOf 8 room s (holding (tableIn bs)) h body size)
+          → seen a d (lent s bs′) ≡ within (carried bs) (typed 8 room s (holding (tableIn bs)) unicast h body size (frameTypeOf (h .«frame_control» .0)))
+      unfolding commanded
+      frame-configured q a d bs′ e = ap (within (lent s)) e ∙ ap (within (carried bs)) (needed-typed 8 room s (holding (tableIn bs)) unicast h body size n ConfigureReporting q)
+
+      pub frame-told : commandOf (h .«command_identifier» .0) ≡ ReadReportingConfiguration → (a : Answer) (d : List ℕ) → seen a d noState ≡ configurationOf 8 s (holding (tableIn bs)) h body size
+          → seen a d (lent s bs) ≡ within (carried bs) (typed 8 room s (holding (tableIn bs)) unicast h body size (frameTypeOf (h .«frame_control» .0)))
+      unfolding commanded
+      frame-told q a d e =
+          ap (λ (x : List ℕ). seen a d (lent s x)) (sym back)
+          ∙ ap (within (λ u. lent s (tableBytes room (tableIn bs)))) e
+          ∙ ap (within (carried bs)) (needed-typed 8 room s (holding (tableIn bs)) unicast h body size n ReadReportingConfiguration q)
 
 module _ (s bs : List ℕ) (bytes : AllBytes bs) (cluster unicast : ℕ) (frame : List ℕ) (size : ℕ) where
   -- what is left to do behind the checks

@@ -1,4 +1,5 @@
-// A request served over a table that is lent as bytes: for a command that needs no table they are looked at, and neither read nor written.
+// A request served over a table that is lent as bytes. They are checked once; then the two commands that need the table work on them where they lie,
+// and no other touches them.
 ghost use mathlib.Core.Path.{_≡_};
 ghost use mathlib.Core.Bool.{true};
 ghost use lib.ListN.{length};
@@ -8,15 +9,15 @@ ghost use Rattle.reporting.specs.Table.{room, holding};
 ghost use Rattle.reporting.specs.Carried.{isTable, tableIn};
 ghost use Rattle.server.specs.Serve.{within, typed};
 ghost use Rattle.hingedrift.specs.Serving.{lent, carried, handleLeft};
+use configure::configuration_lent::read_reporting_configuration_lent;
+use configure::configure_lent::configure_reporting_lent;
 use frame::answer::Answer;
 use frame::answer::refuse;
+use frame::command_identifier::CommandIdentifier;
 use frame::header::ZclHeader;
 use reporting::carried::is_table;
-use reporting::carried::read_table;
-use reporting::carried::write_table;
 use server::checks::Opened;
 use server::checks::open_request;
-use server::serve::serve_frame;
 use server::without_table::needs_table;
 use server::without_table::serve_store;
 use types::ids::ClusterId;
@@ -36,11 +37,14 @@ fn frame_lent(
     if !needs_table(request) {
         return serve_store(store, request, body, unicast, reply);
     }
-    let read = read_table(table);
-    let before = read.table;
-    let served = serve_frame(store, before, request, body, unicast, reply);
-    write_table(table, served.table);
-    served.answer
+    let number = request.command_identifier;
+    let command = CommandIdentifier::from_bits(number.0);
+    match command {
+        CommandIdentifier::ConfigureReporting => {
+            configure_reporting_lent(store, table, request, body, reply)
+        }
+        _ => read_reporting_configuration_lent(store, table, request, body, reply),
+    }
 }
 
 // A request: the checks, then its frame.
