@@ -1,7 +1,7 @@
 -- What the operations on a table's bytes find, and what they then say. Assumes nothing.
-use Prim.Native.Nat.{ℕ, zero, suc, _+_, _*_, _≤_, _<_}
+use Prim.Native.Nat.{ℕ, zero, suc, _+_, _*_, _^_, _≤_, _<_}
 use mathlib.Core.Path.{_≡_, refl, ap, sym, _∙_}
-use mathlib.Core.Bool.{Bool, true, false, cond, _&&_, _||_}
+use mathlib.Core.Bool.{Bool, true, false, cond, _&&_, _||_, false≢true}
 use mathlib.Core.List.{List, [], _∷_, _++_, map}
 use mathlib.Core.Option.{some}
 use native.Mathlib.Omega.{arith}
@@ -16,18 +16,21 @@ use Rattle.frame.specs.declared.answer.Refusal.the-variants.{NotATable}
 use Rattle.reporting.specs.declared.entry.Key.{Key}
 use Rattle.reporting.specs.declared.entry.ReportingConfig.{ReportingConfig}
 use Rattle.reporting.specs.declared.entry.Entry.{Entry}
+use Rattle.reporting.specs.declared.table.Change.{Change}
 use Rattle.reporting.specs.declared.table.Change.the-variants as ChangeV
 use Rattle.reporting.specs.declared.table.Report.the-variants as ReportV
+use Rattle.reporting.specs.declared.table.Setting.{Setting}
 use Rattle.reporting.specs.declared.table.Setting.the-variants as SettingV
-use Rattle.reporting.specs.Entries.{matches, findL, lookupL, updateL, fresh, replaced, clearL, markE}
+use Rattle.reporting.specs.Entries.{matches, findL, lookupL, updateL, fresh, replaced, acceptsL, configureL, clearL, markE}
 use Rattle.reporting.specs.Due.{dueE, dueO, dueL}
-use Rattle.reporting.specs.Table.{room, ReportTold, reportTold, settingTold, settingO}
-use Rattle.reporting.specs.Carried.{widths, total, laid, numbersIn, rowsIn, numbersOf, entryOf, countIn, slotsIn, tableIn, tableBytes, isTable, written}
-use Rattle.reporting.specs.Lent.{onLent, askLent, configurationLent, markLent, clearLent, leftAs, configureLent}
+use Rattle.reporting.specs.Table.{room, holding, ReportTold, reportTold, settingTold, settingO, configurationT}
+use Rattle.reporting.specs.Carried.{widths, total, laid, numbersIn, rowsIn, numbersOf, entryOf, countIn, slotsIn, tableIn, tableBytes, isTable, Clean, Reading, seen, readT, written}
+use Rattle.reporting.specs.Lent.{onLent, askLent, configurationLent, markLent, clearLent, ChangeLeft, leftAs, configureLent, ChangeKept, keptAs, configureIn}
 use Rattle.reporting.proofs.Places.{find-le, lookup-at, lookup-none, update-at, update-none, clear-none, clear-place}
 use Rattle.reporting.proofs.CarriageCode.{entry-at}
-use Rattle.reporting.proofs.CarriageTable.{table-count, bytes-back}
+use Rattle.reporting.proofs.CarriageTable.{the-conditions, table-count, table-clean, bytes-back, read-written}
 use Rattle.reporting.proofs.CarriageLoops.{slot-size, known-size, known-count, slotsFrom, slots-start, slots-more, slots-end}
+use Rattle.reporting.proofs.Kept.{Kept, configure-keeps, clear-keeps}
 use Rattle.reporting.proofs.Patches.{over-sets, slot-over, slot-added, slot-gone}
 
 -- ---- one slot
@@ -96,6 +99,10 @@ module _ (bs : List ℕ) where
   unfolding onLent
   refused-so refusal rest h = ap (λ (b : Bool). cond b (rest (tableIn bs)) refusal) (sym h)
 
+  known-so : {R : Type 0} (refusal : R) (rest : List Entry → R) → isTable room bs ≡ true → rest (tableIn bs) ≡ onLent bs refusal rest
+  unfolding onLent
+  known-so refusal rest h = ap (λ (b : Bool). cond b (rest (tableIn bs)) refusal) (sym h)
+
   pub ask-refused : (k : Key) (now : ℕ) (v : ℤ) → isTable room bs ≡ false → reportTold (ReportV.Refused NotATable) ≡ askLent k now v bs
   unfolding askLent
   ask-refused k now v h = refused-so _ _ h
@@ -116,15 +123,18 @@ module _ (bs : List ℕ) where
   unfolding configureLent
   configure-refused k g h = refused-so _ _ h
 
+-- what configuring says, and the bytes of the entries that it leaves
+abbrev changed : Key → ReportingConfig → List Entry → ChangeLeft
+changed k g l = leftAs (cond (acceptsL room k l) ChangeV.Done ChangeV.Full) (tableBytes room (configureL room k g l))
+
 -- in bytes that are a table, the scan for the key k came to `at`
 pub record FoundSlot (bs : List ℕ) (k : Key) (at : ℕ) : Type 0 where
   pub known : isTable room bs ≡ true
   pub place : at ≡ findL k (tableIn bs)
 
 module _ {bs : List ℕ} {k : Key} {at : ℕ} (found : FoundSlot bs k at) where
-  pub said-so : {R : Type 0} (refusal : R) (rest : List Entry → R) → rest (tableIn bs) ≡ onLent bs refusal rest
-  unfolding onLent
-  said-so refusal rest = ap (λ (b : Bool). cond b (rest (tableIn bs)) refusal) (sym (found .known))
+  said-so : {R : Type 0} (refusal : R) (rest : List Entry → R) → rest (tableIn bs) ≡ onLent bs refusal rest
+  said-so refusal rest = known-so bs refusal rest (found .known)
 
   pub absent : countIn bs ≤ at → length (tableIn bs) ≤ findL k (tableIn bs)
   absent h = omega (arith, table-count bs, found .place)
@@ -152,13 +162,11 @@ module _ {bs : List ℕ} {k : Key} {at : ℕ} (found : FoundSlot bs k at) where
       let d : b ≡ dueL k now v (tableIn bs) = eb ∙ (λ i. dueE (ee i) now (ev i)) ∙ sym (ap (λ m. dueO m now v) (found-is h)) in
       ap (λ (x : Bool). record { number = 0; due = x }) d ∙ said-so _ _
 
-  pub setting-absent : countIn bs ≤ at → settingTold SettingV.Nothing ≡ configurationLent k bs
-  unfolding configurationLent
-  setting-absent h = sym (ap settingO (lookup-none k (tableIn bs) (absent h))) ∙ said-so _ _
+  pub setting-absent : countIn bs ≤ at → settingTold SettingV.Nothing ≡ configurationT k (holding (tableIn bs))
+  setting-absent h = sym (ap settingO (lookup-none k (tableIn bs) (absent h)))
 
-  pub setting-is : (e : Entry) → e ≡ slotEntry bs at → at < countIn bs → settingTold (SettingV.Given (e .config)) ≡ configurationLent k bs
-  unfolding configurationLent
-  setting-is e ee h = ap (λ (x : Entry). settingTold (SettingV.Given (x .config))) ee ∙ sym (ap settingO (found-is h)) ∙ said-so _ _
+  pub setting-is : (e : Entry) → e ≡ slotEntry bs at → at < countIn bs → settingTold (SettingV.Given (e .config)) ≡ configurationT k (holding (tableIn bs))
+  setting-is e ee h = ap (λ (x : Entry). settingTold (SettingV.Given (x .config))) ee ∙ sym (ap settingO (found-is h))
 
   -- ---- what is left
 
@@ -190,16 +198,14 @@ module _ {bs : List ℕ} {k : Key} {at : ℕ} (found : FoundSlot bs k at) where
 
     -- the answer and the entries by the tests of acceptsL and configureL
     as-configured : (g : ReportingConfig) (a b : Bool) → ltb (findL k (tableIn bs)) (length (tableIn bs)) ≡ a → ltb (length (tableIn bs)) room ≡ b
-        → leftAs (cond (a || b) ChangeV.Done ChangeV.Full) (tableBytes room (cond a (updateL k (replaced k g) (tableIn bs)) (cond b (tableIn bs ++ (fresh k g ∷ [])) (tableIn bs)))) ≡ configureLent k g bs
-    unfolding configureLent
+        → leftAs (cond (a || b) ChangeV.Done ChangeV.Full) (tableBytes room (cond a (updateL k (replaced k g) (tableIn bs)) (cond b (tableIn bs ++ (fresh k g ∷ [])) (tableIn bs)))) ≡ changed k g (tableIn bs)
     as-configured g a b ea eb =
         sym
         (λ i.
         leftAs (cond (ea i || eb i) ChangeV.Done ChangeV.Full)
         (tableBytes room (cond (ea i) (updateL k (replaced k g) (tableIn bs)) (cond (eb i) (tableIn bs ++ (fresh k g ∷ [])) (tableIn bs)))))
-        ∙ said-so _ _
 
-    pub configure-full : (g : ReportingConfig) → room ≤ at → leftAs ChangeV.Full bs ≡ configureLent k g bs
+    pub configure-full : (g : ReportingConfig) → room ≤ at → leftAs ChangeV.Full bs ≡ changed k g (tableIn bs)
     configure-full g p =
         let n = table-count bs in
         let c = known-count bs (found .known) in
@@ -208,13 +214,13 @@ module _ {bs : List ℕ} {k : Key} {at : ℕ} (found : FoundSlot bs k at) where
         ∙ as-configured g false false (le-ltb (findL k (tableIn bs)) (length (tableIn bs)) (omega (arith, n, c, f, found .place))) (le-ltb (length (tableIn bs)) room (omega (arith, n, c, f, found .place)))
 
     pub configure-old : (g : ReportingConfig) (after : List ℕ) (e : Entry) → e ≡ fresh k g → at < countIn bs → after ≡ sets bs (1 + 29 * at) (laid widths (numbersOf e))
-        → leftAs ChangeV.Done after ≡ configureLent k g bs
+        → leftAs ChangeV.Done after ≡ changed k g (tableIn bs)
     configure-old g after e ee p w =
         ap (leftAs ChangeV.Done) (patched after (replaced k g) e ee p w)
         ∙ as-configured g true (ltb (length (tableIn bs)) room) (lt-ltb _ _ (present p)) refl
 
     pub configure-new : (g : ReportingConfig) (after : List ℕ) (e : Entry) → e ≡ fresh k g → countIn bs ≤ at → at < room → after ≡ sets bs (1 + 29 * at) (laid widths (numbersOf e))
-        → leftAs ChangeV.Done (set after 0 (countIn bs + 1)) ≡ configureLent k g bs
+        → leftAs ChangeV.Done (set after 0 (countIn bs + 1)) ≡ changed k g (tableIn bs)
     configure-new g after e ee p r w =
         let n = table-count bs in
         let f = find-le k (tableIn bs) in
@@ -226,14 +232,13 @@ module _ {bs : List ℕ} {k : Key} {at : ℕ} (found : FoundSlot bs k at) where
         ∙ ap (leftAs ChangeV.Done) (slot-added room (tableIn bs) (fresh k g) (omega arith))
         ∙ as-configured g false true (le-ltb _ _ (absent p)) (lt-ltb (length (tableIn bs)) room (omega arith))
 
-    pub clear-absent : countIn bs ≤ at → written true bs ≡ clearLent k bs
-    unfolding clearLent
-    clear-absent p = ap (λ (l : List ℕ). written true l) (kept ∙ ap (tableBytes room) (sym (clear-none k (tableIn bs) (absent p)))) ∙ said-so _ _
+    pub clear-absent : countIn bs ≤ at → bs ≡ tableBytes room (clearL k (tableIn bs))
+    clear-absent p = kept ∙ ap (tableBytes room) (sym (clear-none k (tableIn bs) (absent p)))
 
     -- the last entry stands in the hole, and zeros where it stood
-    moved : (last : ℕ) (e : Entry) (filled after : List ℕ) → at < countIn bs → last + 1 ≡ countIn bs → e ≡ slotEntry bs last
+    pub clear-moved : (last : ℕ) (e : Entry) (filled after : List ℕ) → at < countIn bs → last + 1 ≡ countIn bs → e ≡ slotEntry bs last
         → filled ≡ sets bs (1 + 29 * at) (laid widths (numbersOf e)) → after ≡ over filled (1 + 29 * last) (zeros 29) → set after 0 last ≡ tableBytes room (clearL k (tableIn bs))
-    moved last e filled after p q ee ef ea =
+    clear-moved last e filled after p q ee ef ea =
         let l : List Entry = tableIn bs in
         let m : List Entry = set l at e in
         let d : Entry = slotEntry bs last in
@@ -252,7 +257,61 @@ module _ {bs : List ℕ} {k : Key} {at : ℕ} (found : FoundSlot bs k at) where
         ∙ slot-gone room (take last m) (getD m last d) (omega arith)
         ∙ ap (tableBytes room) gone
 
-    pub clear-is : (last : ℕ) (e : Entry) (filled after : List ℕ) → at < countIn bs → last + 1 ≡ countIn bs → e ≡ slotEntry bs last
-        → filled ≡ sets bs (1 + 29 * at) (laid widths (numbersOf e)) → after ≡ over filled (1 + 29 * last) (zeros 29) → written true (set after 0 last) ≡ clearLent k bs
-    unfolding clearLent
-    clear-is last e filled after p q ee ef ea = ap (λ (l : List ℕ). written true l) (moved last e filled after p q ee ef ea) ∙ said-so _ _
+-- ---- the table that is left
+
+-- a fresh entry has one form where the key and the configuration are within their types
+pub fresh-clean : (k : Key) (g : ReportingConfig) → k .cluster .0 < 2 ^ 16 → k .attribute .0 < 2 ^ 16 → g .«min_interval» < 2 ^ 16 → g .«max_interval» < 2 ^ 16 → g .«reportable_change» < 2 ^ 64
+    → Clean (fresh k g)
+fresh-clean k g c a m x d = record {
+  cluster = c;
+  attribute = a;
+  minimum = m;
+  maximum = x;
+  change = d;
+  time = omega arith;
+  value = omega arith;
+  quiet = λ q. (refl, refl);
+}
+
+module _ (bs : List ℕ) (h : AllBytes bs) (t : isTable room bs ≡ true) where
+  fit : Kept room (tableIn bs)
+  fit = record { small = omega (arith, table-count bs, the-conditions room bs t .count); clean = table-clean room bs h t }
+
+  -- from the bytes to what a reader of them sees
+  pub clear-seen : (k : Key) (after : List ℕ) → after ≡ tableBytes room (clearL k (tableIn bs)) → readT room after ≡ seen true (clearL k (tableIn bs))
+  clear-seen k after e = let f = clear-keeps room k (tableIn bs) fit in ap (readT room) e ∙ read-written room (clearL k (tableIn bs)) (f .small) (f .clean)
+
+  pub configure-seen : (k : Key) (g : ReportingConfig) (answer : Change) (after : List ℕ) → Clean (fresh k g) → leftAs answer after ≡ changed k g (tableIn bs) → keptAs answer after ≡ configureIn k g (tableIn bs)
+  unfolding configureIn
+  configure-seen k g answer after c e =
+      let f = configure-keeps room k g (tableIn bs) c fit in
+      λ i. record {
+        told = e i .told;
+        table = (ap (λ (x : ChangeLeft). readT room (x .bytes)) e ∙ read-written room (configureL room k g (tableIn bs)) (f .small) (f .clean)) i;
+      }
+
+-- and back: bytes in which a reader sees these entries
+pub seen-bytes : (l : List Entry) (bs : List ℕ) → AllBytes bs → readT room bs ≡ seen true l → bs ≡ tableBytes room l
+unfolding readT
+seen-bytes l bs h e = go (isTable room bs) refl e
+  where
+    go : (b : Bool) → isTable room bs ≡ b → cond b (seen true (tableIn bs)) (seen false []) ≡ seen true l → bs ≡ tableBytes room l
+    go true t p = sym (bytes-back room bs h t) ∙ ap (λ (r : Reading). tableBytes room (r .entries)) p
+    go false t p = absurd (false≢true (ap (λ (r : Reading). r .known) p))
+
+-- ---- the check, and then the function without it
+
+module _ (bs : List ℕ) (t : isTable room bs ≡ true) where
+  pub setting-known : (k : Key) (answer : Setting) → settingTold answer ≡ configurationT k (holding (tableIn bs)) → settingTold answer ≡ configurationLent k bs
+  unfolding configurationLent
+  setting-known k answer e = e ∙ known-so bs _ _ t
+
+  pub clear-known : (k : Key) (after : List ℕ) → AllBytes after → readT room after ≡ seen true (clearL k (tableIn bs)) → written true after ≡ clearLent k bs
+  unfolding clearLent
+  clear-known k after h e = ap (λ (l : List ℕ). written true l) (seen-bytes (clearL k (tableIn bs)) after h e) ∙ known-so bs _ _ t
+
+  pub configure-known : (k : Key) (g : ReportingConfig) (answer : Change) (after : List ℕ) → AllBytes after → keptAs answer after ≡ configureIn k g (tableIn bs) → leftAs answer after ≡ configureLent k g bs
+  unfolding configureLent configureIn
+  configure-known k g answer after h e =
+      let b = seen-bytes (configureL room k g (tableIn bs)) after h (ap (λ (x : ChangeKept). x .table) e) in
+      (λ i. record { told = e i .told; bytes = b i }) ∙ known-so bs _ (changed k g) t

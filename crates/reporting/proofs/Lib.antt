@@ -24,6 +24,8 @@ pub mod CarriageCode
 pub mod CarriageLoops
 -- one slot of a table's bytes written over
 pub mod Patches
+-- entries that fit a table's bytes, after each operation
+pub mod Kept
 -- the operations on the table's bytes
 pub mod Lending
 -- examples that compute

@@ -13,8 +13,8 @@ use Rattle.reporting.specs.declared.table.Change.the-variants as ChangeV
 use Rattle.reporting.specs.declared.table.Report.the-variants as ReportV
 use Rattle.reporting.specs.declared.table.Setting.the-variants as SettingV
 use Rattle.reporting.specs.Entries.{acceptsL, configureL, clearL, markL}
-use Rattle.reporting.specs.Table.{room, holding, ChangeTold, changeTold, ReportTold, reportTold, askT, SettingTold, settingTold, configurationT}
-use Rattle.reporting.specs.Carried.{tableIn, isTable, tableBytes, Written, written}
+use Rattle.reporting.specs.Table.{room, Table, sound, bad, holding, ChangeTold, changeTold, ReportTold, reportTold, askT, SettingTold, settingTold, configurationT}
+use Rattle.reporting.specs.Carried.{tableIn, isTable, tableBytes, Reading, seen, readT, Written, written}
 
 -- of a table's entries what `rest` says; of other bytes the refusal
 unfoldable pub onLent : {R : Type 0} → List ℕ → R → (List Entry → R) → R
@@ -45,3 +45,21 @@ unfoldable pub configureLent : Key → ReportingConfig → List ℕ → ChangeLe
 configureLent k g bs =
     onLent bs (leftAs (ChangeV.Refused NotATable) bs)
     (λ l. leftAs (cond (acceptsL room k l) ChangeV.Done ChangeV.Full) (tableBytes room (configureL room k g l)))
+
+-- ---- on bytes that are known to be a table: what is said, and the table that the bytes are afterwards
+
+pub record ChangeKept : Type 0 where
+  pub told : ChangeTold
+  pub table : Reading
+
+abbrev pub keptAs : Change → List ℕ → ChangeKept
+keptAs answer bytes = record { told = changeTold answer; table = readT room bytes }
+
+unfoldable pub configureIn : Key → ReportingConfig → List Entry → ChangeKept
+configureIn k g l =
+    record { told = changeTold (cond (acceptsL room k l) ChangeV.Done ChangeV.Full); table = seen true (configureL room k g l) }
+
+-- the bytes of a table where it is one; else they stay
+abbrev pub bytesAfter : List ℕ → Table → List ℕ
+bytesAfter bs (sound n l) = tableBytes room l
+bytesAfter bs (bad t) = bs

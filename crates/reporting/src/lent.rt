@@ -1,15 +1,16 @@
 // The reporting table's operations on the bytes that carry it. They are checked whole; then the slots in question are read where they
-// lie, and only what changes is written. What each says is what the method by value says of the table that the bytes are.
+// lie, and only what changes is written. What each says is what the method by value says of the table that the bytes are. The functions
+// `.._in` do not check: whoever serves a frame has asked `is_table` once.
 ghost use mathlib.Core.Path.{_≡_};
 ghost use mathlib.Core.Bool.{true};
 ghost use Prim.Native.Nat.{_+_, _≤_};
 ghost use lib.ListN.{length, drop};
 ghost use Rattle.types.specs.Number.{zeros};
 ghost use Rattle.frame.specs.Reply.{over};
-ghost use Rattle.reporting.specs.Entries.{matches, findL};
-ghost use Rattle.reporting.specs.Table.{room, reportTold, settingTold};
-ghost use Rattle.reporting.specs.Carried.{widths, numbersIn, entryOf, tableIn, isTable, written};
-ghost use Rattle.reporting.specs.Lent.{askLent, configurationLent, markLent, leftAs, configureLent, clearLent};
+ghost use Rattle.reporting.specs.Entries.{matches, findL, clearL};
+ghost use Rattle.reporting.specs.Table.{room, holding, reportTold, settingTold, configurationT};
+ghost use Rattle.reporting.specs.Carried.{widths, numbersIn, entryOf, tableIn, isTable, seen, readT, written};
+ghost use Rattle.reporting.specs.Lent.{askLent, configurationLent, markLent, leftAs, configureLent, clearLent, keptAs, configureIn};
 use super::carried::LIMIT;
 use super::carried::SLOT;
 use super::carried::is_table;
@@ -72,13 +73,11 @@ pub fn ask_lent(bytes: &[u8], key: Key, now: u32, value: i64) -> Report
     Report::NotDue
 }
 
-// The key's configuration.
-pub fn configuration_lent(bytes: &[u8], key: Key) -> Setting
-    ensures { λ r. ⌜ settingTold r ≡ configurationLent key (now (bytes .entry)) ⌝ }
+// The key's configuration. No entry point. The bytes must be a table: whoever serves a frame has asked `is_table` once.
+pub fn configuration_in(bytes: &[u8], key: Key) -> Setting
+    requires { ⌜ isTable room (now bytes) ≡ true ⌝ }
+    ensures { λ r. ⌜ settingTold r ≡ configurationT key (holding (tableIn (now (bytes .entry)))) ⌝ }
 {
-    if !is_table(bytes) {
-        return Setting::Refused(Refusal::NotATable);
-    }
     let n = bytes[0] as usize;
     let at = find_slot(bytes, key);
     if n <= at {
@@ -87,6 +86,16 @@ pub fn configuration_lent(bytes: &[u8], key: Key) -> Setting
     let e = read_slot(bytes, 1 + SLOT * at);
     let config = e.config;
     Setting::Given(config)
+}
+
+// The key's configuration.
+pub fn configuration_lent(bytes: &[u8], key: Key) -> Setting
+    ensures { λ r. ⌜ settingTold r ≡ configurationLent key (now (bytes .entry)) ⌝ }
+{
+    if !is_table(bytes) {
+        return Setting::Refused(Refusal::NotATable);
+    }
+    configuration_in(bytes, key)
 }
 
 // Keeps the time and the value of a report, and says whether the bytes were a table; otherwise they are as they were.
@@ -108,13 +117,12 @@ pub fn mark_lent(bytes: &mut [u8], key: Key, now: u32, value: i64) -> bool
     true
 }
 
-// Sets the key's configuration, and forgets its last report. A new key takes the slot behind the last one.
-pub fn configure_lent(bytes: &mut [u8], key: Key, config: ReportingConfig) -> Change
-    ensures { λ r. ⌜ leftAs r (now (bytes .exit)) ≡ configureLent key config (now (bytes .entry)) ⌝ }
+// Sets the key's configuration, and forgets its last report. A new key takes the slot behind the last one. No entry point. The bytes
+// must be a table: whoever serves a frame has asked `is_table` once.
+pub fn configure_in(bytes: &mut [u8], key: Key, config: ReportingConfig) -> Change
+    requires { ⌜ isTable room (now bytes) ≡ true ⌝ }
+    ensures { λ r. ⌜ keptAs r (now (bytes .exit)) ≡ configureIn key config (tableIn (now (bytes .entry))) ⌝ }
 {
-    if !is_table(bytes) {
-        return Change::Refused(Refusal::NotATable);
-    }
     let n = bytes[0] as usize;
     let at = find_slot(bytes, key);
     if LIMIT <= at {
@@ -127,6 +135,16 @@ pub fn configure_lent(bytes: &mut [u8], key: Key, config: ReportingConfig) -> Ch
     Change::Done
 }
 
+// Sets the key's configuration where the bytes are a table, and refuses other bytes.
+pub fn configure_lent(bytes: &mut [u8], key: Key, config: ReportingConfig) -> Change
+    ensures { λ r. ⌜ leftAs r (now (bytes .exit)) ≡ configureLent key config (now (bytes .entry)) ⌝ }
+{
+    if !is_table(bytes) {
+        return Change::Refused(Refusal::NotATable);
+    }
+    configure_in(bytes, key, config)
+}
+
 // Zeros in the slot at `at`.
 fn blank_slot(bytes: &mut [u8], at: usize)
     requires { ⌜ at + 29 ≤ length (now bytes) ⌝ }
@@ -135,22 +153,31 @@ fn blank_slot(bytes: &mut [u8], at: usize)
     clear(&mut bytes[at..at + SLOT]);
 }
 
-// Takes the key's entry out, and says whether the bytes were a table: the last slot moves into its place, and zeros into the last.
-pub fn clear_lent(bytes: &mut [u8], key: Key) -> bool
-    ensures { λ r. ⌜ written r (now (bytes .exit)) ≡ clearLent key (now (bytes .entry)) ⌝ }
+// Takes the key's entry out: the last slot moves into its place, and zeros into the last. No entry point. The bytes must be a table:
+// whoever serves a frame has asked `is_table` once.
+pub fn clear_in(bytes: &mut [u8], key: Key)
+    requires { ⌜ isTable room (now bytes) ≡ true ⌝ }
+    ensures { λ _. ⌜ readT room (now (bytes .exit)) ≡ seen true (clearL key (tableIn (now (bytes .entry)))) ⌝ }
 {
-    if !is_table(bytes) {
-        return false;
-    }
     let n = bytes[0] as usize;
     let at = find_slot(bytes, key);
     if n <= at {
-        return true;
+        return;
     }
     let last = n - 1;
     let e = read_slot(bytes, 1 + SLOT * last);
     write_slot(bytes, 1 + SLOT * at, e);
     blank_slot(bytes, 1 + SLOT * last);
     bytes[0] = last as u8;
+}
+
+// Takes the key's entry out, and says whether the bytes were a table; otherwise they are as they were.
+pub fn clear_lent(bytes: &mut [u8], key: Key) -> bool
+    ensures { λ r. ⌜ written r (now (bytes .exit)) ≡ clearLent key (now (bytes .entry)) ⌝ }
+{
+    if !is_table(bytes) {
+        return false;
+    }
+    clear_in(bytes, key);
     true
 }

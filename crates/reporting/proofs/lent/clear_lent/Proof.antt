@@ -1,29 +1,17 @@
--- The last slot goes into the one that the scan came to, zeros into the last, and the count is one less. Assumes nothing.
+-- The check, and then the entry taken out of a table's bytes. Assumes nothing.
 use borrow.Author.Needs.{needs}
-use native.Mathlib.Omega.{arith}
 use mathlib.Core.Path.{_≡_, sym, _∙_}
 use mathlib.Core.Bool.{true}
-use Prim.Native.Nat.{_-_}
-use lib.ListN.{length, getD, length-set}
 use borrow.Author.Tests.{not-true, not-false}
 use denote.Ref.{now}
-use Rattle.types.specs.Number.{AllBytes}
 use Rattle.reporting.specs.Table.{room}
 use Rattle.reporting.specs.Carried.{isTable}
-use Rattle.reporting.proofs.CarriageLoops.{known-size, known-count}
-use Rattle.reporting.proofs.Lending.{FoundSlot, clear-refused, clear-absent, clear-is}
+use Rattle.reporting.proofs.Lending.{clear-refused, clear-known}
 use Rattle.reporting.proofs.lent.clear_lent.Statement.{statement}
 use Rattle.reporting.proofs.lent.clear_lent.Tie as tie
 
 known : (c : tie.Else1) → isTable room (now (c .before .before .before .before .args .bytes)) ≡ true
 known c = sym (c .before .is-table .ensures) ∙ not-false _ (c .if1 .left)
-
--- what is known once the scan has come back
-found : (c : tie.After-find-slot) → FoundSlot (now (c .before .before .before .before .before .before .before .args .bytes)) (c .before .before .before .before .before .before .before .args .key) (c .find-slot .result)
-found c = record { known = known (c .before .before .before); place = c .find-slot .ensures }
-
-all-bytes : (c : tie.After-find-slot) → AllBytes (now (c .before .before .before .before .before .before .before .args .bytes))
-all-bytes c i = c .before .before .before .before .before .before .slice-known .given i .fits
 
 is-table-requires : tie.Need-is-table-requires
 is-table-requires c κs = search needs
@@ -31,100 +19,18 @@ is-table-requires c κs = search needs
 same-length : tie.Need-same-length
 same-length c = search needs
 
-slice-read-n : tie.Need-slice-read-n
-slice-read-n c = omega (arith, known-size (now (c .before .before .before .before .before .args .bytes)) (known (c .before)))
+returns : tie.Need-returns
+returns c = clear-refused (now (c .before .before .before .before .args .bytes)) _ (sym (c .before .is-table .ensures) ∙ not-true _ (c .if1 .taken))
 
-cast-n : tie.Need-cast-n
-cast-n c = omega (arith, c .slice-known2 .given 0)
-
-find-slot-requires : tie.Need-find-slot-requires
-find-slot-requires c κs = known (c .before .before)
+clear-in-requires : tie.Need-clear-in-requires
+clear-in-requires c κs = known (c .before)
 
 same-length-2 : tie.Need-same-length-2
 same-length-2 c = search needs
 
-returns : tie.Need-returns
-returns c = clear-refused (now (c .before .before .before .before .args .bytes)) _ (sym (c .before .is-table .ensures) ∙ not-true _ (c .if1 .taken))
-
 returns-2 : tie.Need-returns-2
-returns-2 c = clear-absent (found (c .before)) (all-bytes (c .before)) (c .if2 .taken)
-
-sub-last : tie.Need-sub-last
-sub-last c = search needs
-
-mul-read-slot : tie.Need-mul-read-slot
-mul-read-slot c = omega (arith, known-count (now (c .before .before .before .before .before .before .before .before .before .args .bytes)) (known (c .before .before .before .before .before)))
-
-add-read-slot : tie.Need-add-read-slot
-add-read-slot c = omega (arith, known-count (now (c .before .before .before .before .before .before .before .before .before .args .bytes)) (known (c .before .before .before .before .before)))
-
-read-slot-requires : tie.Need-read-slot-requires
-read-slot-requires c κs = omega (arith, known-count (now (c .before .before .before .before .before .before .before .before .before .args .bytes)) (known (c .before .before .before .before .before)), known-size (now (c .before .before .before .before .before .before .before .before .before .args .bytes)) (known (c .before .before .before .before .before)), c .before .if2 .left)
-
-mul-write-slot : tie.Need-mul-write-slot
-mul-write-slot c = omega (arith, known-count (now (c .before .before .before .before .before .before .before .before .before .before .before .args .bytes)) (known (c .before .before .before .before .before .before .before)), c .before .before .before .if2 .left)
-
-add-write-slot : tie.Need-add-write-slot
-add-write-slot c = omega (arith, known-count (now (c .before .before .before .before .before .before .before .before .before .before .before .args .bytes)) (known (c .before .before .before .before .before .before .before)), c .before .before .before .if2 .left)
-
-write-slot-requires : tie.Need-write-slot-requires
-write-slot-requires c κs = omega (arith, known-count (now (c .before .before .before .before .before .before .before .before .before .before .before .args .bytes)) (known (c .before .before .before .before .before .before .before)), known-size (now (c .before .before .before .before .before .before .before .before .before .before .before .args .bytes)) (known (c .before .before .before .before .before .before .before)), c .before .before .before .if2 .left)
-
--- the bytes keep their length, with the hole filled and with the last slot blank
-size-filled : (c : tie.After-write-slot) → length (c .write-slot .last .0) ≡ length (now (c .before .before .before .before .before .before .before .before .before .before .before .before .args .bytes))
-size-filled c = c .write-slot .kept .0
-
-size-after : (c : tie.After-blank-slot) → length (c .blank-slot .last .0) ≡ length (now (c .before .before .before .before .before .before .before .before .before .before .before .before .before .before .before .before .args .bytes))
-size-after c = c .blank-slot .kept .0 ∙ size-filled (c .before .before .before .before)
-
-mul-blank-slot : tie.Need-mul-blank-slot
-mul-blank-slot c = omega (arith, known-count (now (c .before .before .before .before .before .before .before .before .before .before .before .before .before .before .before .args .bytes)) (known (c .before .before .before .before .before .before .before .before .before .before .before)))
-
-add-blank-slot : tie.Need-add-blank-slot
-add-blank-slot c = omega (arith, known-count (now (c .before .before .before .before .before .before .before .before .before .before .before .before .before .before .before .args .bytes)) (known (c .before .before .before .before .before .before .before .before .before .before .before)))
-
-blank-slot-requires : tie.Need-blank-slot-requires
-blank-slot-requires c κs =
-    omega (arith, known-count (now (c .before .before .before .before .before .before .before .before .before .before .before .before .before .before .before .args .bytes)) (known (c .before .before .before .before .before .before .before .before .before .before .before)), known-size (now (c .before .before .before .before .before .before .before .before .before .before .before .before .before .before .before .args .bytes)) (known (c .before .before .before .before .before .before .before .before .before .before .before)), c .before .before .before .before .before .before .before .if2 .left, size-filled (c .before .before .before))
-
-cast-bytes : tie.Need-cast-bytes
-cast-bytes c = omega (arith, known-count (now (c .before .before .before .before .before .before .before .before .before .before .before .before .before .before .before .before .before .before .args .bytes)) (known (c .before .before .before .before .before .before .before .before .before .before .before .before .before .before)))
-
-slice-write-bytes : tie.Need-slice-write-bytes
-slice-write-bytes c = omega (arith, size-after (c .before .before), known-size (now (c .before .before .before .before .before .before .before .before .before .before .before .before .before .before .before .before .before .before .args .bytes)) (known (c .before .before .before .before .before .before .before .before .before .before .before .before .before .before)))
-
-same-length-3 : tie.Need-same-length-3
-same-length-3 c = length-set (c .before .before .blank-slot .last .0) 0 _ ∙ size-after (c .before .before)
-
-returns-3 : tie.Need-returns-3
-returns-3 c =
-    let bs = now (c .before .before .before .before .before .before .before .before .before .before .before .before .before .before .before .before .before .before .args .bytes) in
-    clear-is (found (c .before .before .before .before .before .before .before .before .before .before .before)) (all-bytes (c .before .before .before .before .before .before .before .before .before .before .before)) (getD bs 0 0 - 1) (c .before .before .before .before .before .before .before .before .read-slot .result) (c .before .before .before .before .before .before .write-slot .last .0) (c .before .before .blank-slot .last .0)
-    (c .before .before .before .before .before .before .before .before .before .before .if2 .left) (omega (arith, c .before .before .before .before .before .before .before .before .before .before .if2 .left)) (c .before .before .before .before .before .before .before .before .read-slot .ensures) (c .before .before .before .before .before .before .write-slot .ensures) (c .before .before .blank-slot .ensures)
+returns-2 c = clear-known (now (c .before .before .before .before .before .before .before .before .args .bytes)) (known (c .before .before .before .before)) _ (c .before .before .clear-in .last .0) (λ i. c .slice-known2 .given i .fits) (c .before .before .clear-in .ensures)
 
 pub clear-lent-spec : {M : Type 1} → statement M
 clear-lent-spec =
-    tie.close
-    (tie.spec
-    is-table-requires
-    same-length
-    returns
-    slice-read-n
-    cast-n
-    find-slot-requires
-    same-length-2
-    returns-2
-    sub-last
-    mul-read-slot
-    add-read-slot
-    read-slot-requires
-    mul-write-slot
-    add-write-slot
-    write-slot-requires
-    mul-blank-slot
-    add-blank-slot
-    blank-slot-requires
-    cast-bytes
-    slice-write-bytes
-    same-length-3
-    returns-3)
+    tie.close (tie.spec is-table-requires same-length returns clear-in-requires same-length-2 returns-2)

@@ -1,65 +1,30 @@
--- The configuration of the slot that the scan came to. Assumes nothing.
+-- The check, and then the answer of a table's bytes. Assumes nothing.
 use borrow.Author.Needs.{needs}
-use native.Mathlib.Omega.{arith}
 use mathlib.Core.Path.{_≡_, sym, _∙_}
 use mathlib.Core.Bool.{true}
 use borrow.Author.Tests.{not-true, not-false}
 use denote.Ref.{now}
 use Rattle.reporting.specs.Table.{room}
 use Rattle.reporting.specs.Carried.{isTable}
-use Rattle.reporting.proofs.CarriageLoops.{known-size, known-count}
-use Rattle.reporting.proofs.Lending.{FoundSlot, setting-refused, setting-absent, setting-is}
+use Rattle.reporting.proofs.Lending.{setting-refused, setting-known}
 use Rattle.reporting.proofs.lent.configuration_lent.Statement.{statement}
 use Rattle.reporting.proofs.lent.configuration_lent.Tie as tie
-
-is-table-requires : tie.Need-is-table-requires
-is-table-requires c κs = search needs
 
 known : (c : tie.Else1) → isTable room (now (c .before .before .before .args .bytes)) ≡ true
 known c = sym (c .before .is-table .ensures) ∙ not-false _ (c .if1 .left)
 
--- what is known once the scan has come back
-found : (c : tie.After-find-slot) → FoundSlot (now (c .before .before .before .before .before .args .bytes)) (c .before .before .before .before .before .args .key) (c .find-slot .result)
-found c = record { known = known (c .before .before); place = c .find-slot .ensures }
-
-shared-slice-read-n : tie.Need-shared-slice-read-n
-shared-slice-read-n c = omega (arith, known-size (now (c .before .before .before .before .args .bytes)) (known (c .before)))
-
-cast-n : tie.Need-cast-n
-cast-n c = omega (arith, c .shared-slice-known2 .given 0)
-
-find-slot-requires : tie.Need-find-slot-requires
-find-slot-requires c κs = known (c .before)
-
-mul-read-slot : tie.Need-mul-read-slot
-mul-read-slot c = omega (arith, known-count (now (c .before .before .before .before .before .before .args .bytes)) (known (c .before .before .before)))
-
-add-read-slot : tie.Need-add-read-slot
-add-read-slot c = omega (arith, known-count (now (c .before .before .before .before .before .before .args .bytes)) (known (c .before .before .before)))
-
-read-slot-requires : tie.Need-read-slot-requires
-read-slot-requires c κs = omega (arith, known-count (now (c .before .before .before .before .before .before .args .bytes)) (known (c .before .before .before)), known-size (now (c .before .before .before .before .before .before .args .bytes)) (known (c .before .before .before)))
+is-table-requires : tie.Need-is-table-requires
+is-table-requires c κs = search needs
 
 returns : tie.Need-returns
 returns c = setting-refused (now (c .before .before .before .args .bytes)) _ (sym (c .before .is-table .ensures) ∙ not-true _ (c .if1 .taken))
 
-returns-2 : tie.Need-returns-2
-returns-2 c = setting-absent (found (c .before)) (c .if2 .taken)
+configuration-in-requires : tie.Need-configuration-in-requires
+configuration-in-requires c κs = known (c)
 
-returns-3 : tie.Need-returns-3
-returns-3 c = setting-is (found (c .before .before .before)) (c .before .read-slot .result) (c .before .read-slot .ensures) (c .before .before .if2 .left)
+returns-2 : tie.Need-returns-2
+returns-2 c = setting-known (now (c .before .before .before .before .args .bytes)) (known (c .before)) _ (c .configuration-in .result) (c .configuration-in .ensures)
 
 pub configuration-lent-spec : {M : Type 1} → statement M
 configuration-lent-spec =
-    tie.close
-    (tie.spec
-    is-table-requires
-    returns
-    shared-slice-read-n
-    cast-n
-    find-slot-requires
-    returns-2
-    mul-read-slot
-    add-read-slot
-    read-slot-requires
-    returns-3)
+    tie.close (tie.spec is-table-requires returns configuration-in-requires returns-2)
