@@ -7,6 +7,7 @@ use Prim.Native.Nat.{ℕ, _≤_}
 use native.Mathlib.Omega.{arith}
 use lib.Dec.{ltb}
 use borrow.Author.Tests.{lt-ltb}
+use Rattle.types.specs.Number.{AllBytes}
 use Rattle.frame.proofs.Codes.{refusal-same, refusal-nonzero}
 use Rattle.reporting.specs.declared.entry.Entry.{Entry}
 use Rattle.reporting.specs.declared.table.ReportingTable.{ReportingTable}
@@ -20,12 +21,15 @@ use Rattle.reporting.specs.declared.table.Setting.the-variants as Settin
 use Rattle.reporting.specs.declared.table.Length.{Length}
 use Rattle.reporting.specs.declared.table.Length.the-variants as LengthV
 use Rattle.reporting.specs.Table.{room, Table, sound, bad, live, tableOf, Alike, ChangeTold, changeTold, ReportTold, reportTold, SettingTold, settingTold, LengthTold, lengthTold, Outcome, outcome}
-use Rattle.reporting.specs.Table.{configureT, clearT, markT, configurationT, askT, lengthT}
+use Rattle.reporting.specs.Table.{holding, configureT, clearT, markT, configurationT, askT, lengthT}
+use Rattle.reporting.specs.Entries.{configureL, clearL}
 use Rattle.reporting.specs.Carried.{tableIn, isTable, seen, Reading, readT, Written, written, writeT}
-use Rattle.reporting.specs.Lent.{askLent, configurationLent, markLent, clearLent, ChangeLeft}
+use Rattle.reporting.specs.Lent.{askLent, configurationLent, markLent, clearLent, ChangeLeft, ChangeKept, configureIn}
 use Rattle.reporting.specs.Unique.{IsTableOnce, ReadTableOnce, WriteTableOnce, DistanceOnce, IsOnce, MovedByOnce, RipeOnce, FreshOnce, IsOfOnce, EntryMarkOnce}
+use Rattle.reporting.specs.Unique.{ConfigurationInOnce, ConfigureInOnce, ClearInOnce}
 use Rattle.reporting.specs.Unique.{DueOnce, AskLentOnce, ConfigurationLentOnce, MarkLentOnce, ClearLentOnce, ConfigureLentOnce, NewOnce, ConfigureOnce, ClearOnce, ReportingTableMarkOnce, ConfigurationOnce, AskOnce, LenOnce}
 use Rattle.reporting.proofs.CarriageTable.{the-conditions, table-count}
+use Rattle.reporting.proofs.Lending.{seen-bytes}
 
 -- ---- answers
 
@@ -214,6 +218,23 @@ pub configure-lent-once : ConfigureLentOnce
 configure-lent-once bytes key config r q x y e f =
     let p = e ∙ sym f in
     (change-same r q (ap (λ (z : ChangeLeft). z .told) p), ap (λ (z : ChangeLeft). z .bytes) p)
+
+pub configuration-in-once : ConfigurationInOnce
+configuration-in-once bytes key r q e f = one-setting (configurationT key (holding (tableIn bytes))) r q e f
+
+-- two buffers in which a reader sees the same entries
+one-seen : (l : List Entry) (x y : List ℕ) → AllBytes x → AllBytes y → readT room x ≡ seen true l → readT room y ≡ seen true l → x ≡ y
+one-seen l x y a b e f = seen-bytes l x a e ∙ sym (seen-bytes l y b f)
+
+pub configure-in-once : ConfigureInOnce
+unfolding configureIn
+configure-in-once bytes key config r q x y a b e f = (
+  change-same r q (ap (λ (z : ChangeKept). z .told) (e ∙ sym f)),
+  one-seen (configureL room key config (tableIn bytes)) x y a b (ap (λ (z : ChangeKept). z .table) e) (ap (λ (z : ChangeKept). z .table) f),
+)
+
+pub clear-in-once : ClearInOnce
+clear-in-once bytes key x y a b e f = one-seen (clearL key (tableIn bytes)) x y a b e f
 
 -- src/table.rt
 

@@ -1,10 +1,11 @@
 -- No second answer fits a contract: one claim for each public function, of two results and exit buffers that meet it at the same entry values.
 -- Of a table that comes back the slots past its count are no part (`Alike`). Assumes nothing: these are definitions.
 use mathlib.Core.Path.{_≡_}
-use mathlib.Core.Bool.{Bool}
+use mathlib.Core.Bool.{Bool, true}
 use mathlib.Core.List.{List, []}
 use Prim.Native.Nat.{ℕ}
 use lib.IntN.{ℤ}
+use Rattle.types.specs.Number.{AllBytes}
 use Rattle.reporting.specs.declared.carried.ReadTable.{ReadTable}
 use Rattle.reporting.specs.declared.entry.Key.{Key}
 use Rattle.reporting.specs.declared.entry.ReportingConfig.{ReportingConfig}
@@ -17,10 +18,10 @@ use Rattle.reporting.specs.declared.table.Setting.{Setting}
 use Rattle.reporting.specs.declared.table.Length.{Length}
 use Rattle.reporting.specs.Table.{room, tableOf, Alike, reportTold, settingTold, lengthTold, outcome}
 use Rattle.reporting.specs.Table.{holding, configureT, clearT, markT, configurationT, askT, lengthT}
-use Rattle.reporting.specs.Entries.{same, matches, fresh, markE}
+use Rattle.reporting.specs.Entries.{same, matches, fresh, clearL, markE}
 use Rattle.reporting.specs.Due.{dist, movedBy, ripe, dueE}
-use Rattle.reporting.specs.Carried.{isTable, reading, readT, written, writeT}
-use Rattle.reporting.specs.Lent.{askLent, configurationLent, markLent, clearLent, leftAs, configureLent}
+use Rattle.reporting.specs.Carried.{tableIn, isTable, seen, reading, readT, written, writeT}
+use Rattle.reporting.specs.Lent.{askLent, configurationLent, markLent, clearLent, leftAs, configureLent, keptAs, configureIn}
 
 -- src/carried.rt
 abbrev pub IsTableOnce : Type 0
@@ -101,6 +102,32 @@ ConfigureLentOnce =
     → leftAs r x ≡ configureLent key config bytes
     → leftAs q y ≡ configureLent key config bytes
     → (r ≡ q) × (x ≡ y)
+
+-- Of the functions without the check the contract speaks of the table that the bytes are afterwards; a table has one form as bytes.
+abbrev pub ConfigurationInOnce : Type 0
+ConfigurationInOnce =
+    (bytes : List ℕ) (key : Key) (r q : Setting)
+    → settingTold r ≡ configurationT key (holding (tableIn bytes))
+    → settingTold q ≡ configurationT key (holding (tableIn bytes))
+    → r ≡ q
+
+abbrev pub ConfigureInOnce : Type 0
+ConfigureInOnce =
+    (bytes : List ℕ) (key : Key) (config : ReportingConfig) (r q : Change) (x y : List ℕ)
+    → AllBytes x
+    → AllBytes y
+    → keptAs r x ≡ configureIn key config (tableIn bytes)
+    → keptAs q y ≡ configureIn key config (tableIn bytes)
+    → (r ≡ q) × (x ≡ y)
+
+abbrev pub ClearInOnce : Type 0
+ClearInOnce =
+    (bytes : List ℕ) (key : Key) (x y : List ℕ)
+    → AllBytes x
+    → AllBytes y
+    → readT room x ≡ seen true (clearL key (tableIn bytes))
+    → readT room y ≡ seen true (clearL key (tableIn bytes))
+    → x ≡ y
 
 -- src/table.rt
 abbrev pub NewOnce : Type 0
