@@ -10,8 +10,9 @@ use Rattle.frame.specs.Answer.{Outcome, noState, refused}
 use Rattle.store.specs.Contents.{nameOf}
 use Rattle.store.specs.Layout.{isStore}
 use Rattle.store.specs.Value.{Telling, telling, numberOf}
-use Rattle.reporting.specs.Table.{room, Table, sound, bad, holding}
-use Rattle.reporting.specs.Carried.{isTable, tableIn, tableBytes}
+use Rattle.reporting.specs.Table.{room, holding}
+use Rattle.reporting.specs.Carried.{isTable, tableIn}
+use Rattle.reporting.specs.Lent.{bytesAfter}
 use Rattle.server.specs.Serve.{State, within, serve}
 use Rattle.server.specs.UnsupportedCluster.{unsupportedCluster}
 use Rattle.server.specs.Report.{reportOf}
@@ -47,11 +48,6 @@ pub record Lent : Type 0 where
 
 abbrev pub lent : List ℕ → List ℕ → Lent
 lent s bs = record { store = s; table = bs }
-
--- the bytes of a table where it is one; else they stay
-abbrev pub bytesAfter : List ℕ → Table → List ℕ
-bytesAfter bs (sound n l) = tableBytes room l
-bytesAfter bs (bad t) = bs
 
 abbrev pub carried : List ℕ → State → Lent
 carried bs x = lent (x .store) (bytesAfter bs (x .table))
