@@ -27,7 +27,7 @@ use Rattle.reporting.specs.Events.{Event, configured, cleared, run, Wish, clear
 use Rattle.reporting.proofs.Histories.{run-append}
 use Rattle.configure.specs.Configure.{checked, setting}
 use Rattle.configure.specs.declared.settle.Deed.{Deed}
-use Rattle.configure.specs.Inside.{Judges, Does, Settles}
+use Rattle.configure.specs.Inside.{Holds, Judges, Does, Settles}
 
 -- ---- the methods of the table
 
@@ -39,23 +39,24 @@ not-done (ChangeV.Refused why) o = refl
 
 -- what a method did is what the deed's events leave
 module _ (k : Key) (t : ReportingTable) (r : Changed) where
-  pub clear-settles : outcome r ≡ clearT k (tableOf t) → Settles (Deed.Clears k) t Success (r .table)
+  pub clear-settles : outcome r ≡ clearT k (tableOf t) → Settles (Deed.Clears k) (Holds t) (Holds (r .table)) Success
   clear-settles e l es h = record { is = refl; left = ap (λ (o : Outcome). o .table) (e ∙ ap (clearT k) h) ∙ ap holding (sym (run-append room es (cleared k ∷ []) l)) }
 
-  pub set-settles : (g : ReportingConfig) (status : Status) → status ≡ statusW sets (changeTold (r .answer) .accepted) → outcome r ≡ configureT room k g (tableOf t) → Settles (Deed.Sets k g) t status (r .table)
+  pub set-settles : (g : ReportingConfig) (status : Status) → status ≡ statusW sets (changeTold (r .answer) .accepted) → outcome r ≡ configureT room k g (tableOf t) → Settles (Deed.Sets k g) (Holds t) (Holds (r .table)) status
   set-settles g status q e l es h = go (acceptsL room k (run room es l)) (e ∙ ap (configureT room k g) h)
     where
       accepted : (o : Outcome) → outcome r ≡ o → status ≡ statusW sets (o .told .accepted)
       accepted o x = q ∙ ap (λ (y : Outcome). statusW sets (y .told .accepted)) x
 
-      go : (c : Bool) → outcome r ≡ cond c (doneT (configureL room k g (run room es l))) (fullT (run room es l)) → Does l (did (statusW sets c) (es ++ eventsW sets c k g)) status (r .table)
+      go : (c : Bool) → outcome r ≡ cond c (doneT (configureL room k g (run room es l))) (fullT (run room es l)) → Does (Holds (r .table)) l (did (statusW sets c) (es ++ eventsW sets c k g)) status
       go true x = record { is = accepted (doneT (configureL room k g (run room es l))) x; left = ap (λ (o : Outcome). o .table) x ∙ ap holding (sym (run-append room es (configured k g ∷ []) l)) }
       go false x = record { is = accepted (fullT (run room es l)) x; left = ap (λ (o : Outcome). o .table) x ∙ ap holding (sym (run-append room es [] l)) }
 
 -- which deed it was, and what it left
-pub settled-by : (t : ReportingTable) {deed d : Deed} {status e : Status} {u v : ReportingTable} → deed ≡ d → u ≡ v → status ≡ e → Settles d t e v → Settles deed t status u
-settled-by t {deed} {d} {status} {e} {u} {v} p q r h =
-    subst (λ (x : Deed). Settles x t status u) (sym p) (subst (λ (x : ReportingTable). Settles d t status x) (sym q) (subst (λ (x : Status). Settles d t x v) (sym r) h))
+pub settled-by : {T : Type 0} (Of : T → List Entry → Type 0) (Was : List Entry → Type 0) {deed d : Deed} {status e : Status} {u v : T}
+    → deed ≡ d → u ≡ v → status ≡ e → Settles d Was (Of v) e → Settles deed Was (Of u) status
+settled-by {T} Of Was {deed} {d} {status} {e} {u} {v} p q r h =
+    subst (λ (x : Deed). Settles x Was (Of u) status) (sym p) (subst (λ (x : T). Settles d Was (Of x) status) (sym q) (subst (λ (x : Status). Settles d Was (Of v) x) (sym r) h))
 
 -- ---- the deed that a configuration wishes
 

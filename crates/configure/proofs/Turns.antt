@@ -35,12 +35,12 @@ use Rattle.reporting.specs.declared.table.ReportingTable.{ReportingTable}
 use Rattle.reporting.specs.declared.table.Length.{Length}
 use Rattle.reporting.specs.declared.table.Length.the-variants as LengthV
 use Rattle.reporting.specs.Table.{room, Table, sound, bad, live, tableOf, holding, LengthTold, lengthTold, lengthT}
-use Rattle.reporting.specs.Events.{Event}
+use Rattle.reporting.specs.Events.{Event, run}
 use Rattle.reporting.proofs.Slots.{live-length}
 use Rattle.configure.specs.Request.{keyFor, received, reported, configureAt, configures}
 use Rattle.configure.specs.Configure.{Failure, failure, encode, checked, setting, tried, configuring, configureEvents, left, configureOf}
 use Rattle.configure.specs.declared.settle.Deed.{Deed}
-use Rattle.configure.specs.Inside.{Left, Judges, Does, Settles, Took, Runs}
+use Rattle.configure.specs.Inside.{Holds, Judges, Does, Settles, Took, Runs}
 use Rattle.configure.proofs.Items.{ahead}
 
 -- a failure takes bytes
@@ -62,59 +62,59 @@ module _ (s : List ℕ) (request : ZclHeader) (body : List ℕ) (at end id : ℕ
 
 -- ---- the loop
 
--- where it stands in a table of these entries: the events so far
-pub record Along (s : List ℕ) (request : ZclHeader) (body : List ℕ) (start : ℕ) (l : List Entry) (d₀ : List ℕ) (t : ReportingTable) (d : List ℕ) (at out : ℕ) : Type 0 where
+-- where it stands in a table of these entries: the events so far. Over what the table was at the start and what it is: a value, or bytes
+pub record Along (s : List ℕ) (request : ZclHeader) (body : List ℕ) (start : ℕ) (l : List Entry) (d₀ : List ℕ) (Is : List Entry → Type 0) (d : List ℕ) (at out : ℕ) : Type 0 where
   pub events : List Event
-  pub left : Left l events t
+  pub left : Is (run room events l)
   pub going : Going (configuring 8 room s request l) (configureAt body) (length body) start [] d₀ events d at out
 
-pub record Goes (s : List ℕ) (request : ZclHeader) (body : List ℕ) (start : ℕ) (t₀ : ReportingTable) (d₀ : List ℕ) (t : ReportingTable) (d : List ℕ) (at out : ℕ) : Type 0 where
+pub record Goes (s : List ℕ) (request : ZclHeader) (body : List ℕ) (start : ℕ) (Was : List Entry → Type 0) (d₀ : List ℕ) (Is : List Entry → Type 0) (d : List ℕ) (at out : ℕ) : Type 0 where
   pub reply-length : length d ≡ length d₀
-  pub along : (l : List Entry) → tableOf t₀ ≡ holding l → Along s request body start l d₀ t d at out
+  pub along : (l : List Entry) → Was l → Along s request body start l d₀ Is d at out
 
-pub goes-first : (s : List ℕ) (request : ZclHeader) (body : List ℕ) (start : ℕ) (t : ReportingTable) (d : List ℕ) → Goes s request body start t d t d 0 start
-goes-first s request body start t d = record {
+pub goes-first : (s : List ℕ) (request : ZclHeader) (body : List ℕ) (start : ℕ) (Was : List Entry → Type 0) (d : List ℕ) → Goes s request body start Was d Was d 0 start
+goes-first s request body start Was d = record {
   reply-length = refl;
   along = λ l h. record { events = []; left = h; going = going-first (configuring 8 room s request l) (configureAt body) (length body) start [] d };
 }
 
-module _ {s : List ℕ} {request : ZclHeader} {body : List ℕ} {start : ℕ} {t₀ : ReportingTable} {d₀ : List ℕ} {t : ReportingTable} {d : List ℕ} {at out : ℕ}
-    (g : Goes s request body start t₀ d₀ t d at out) where
-  pub goes-done : length body ≤ at → Runs s request body start t₀ d₀ (Pass.Through out) t d
+module _ {s : List ℕ} {request : ZclHeader} {body : List ℕ} {start : ℕ} {Was : List Entry → Type 0} {d₀ : List ℕ} {Is : List Entry → Type 0} {d : List ℕ} {at out : ℕ}
+    (g : Goes s request body start Was d₀ Is d at out) where
+  pub goes-done : length body ≤ at → Runs s request body start Was d₀ (Pass.Through out) Is d
   goes-done h l e =
       let x = g .along l e in
       record { events = x .events; left = x .left; passed = going-done (x .going) h }
 
   module _ (lt : at < length body) where
-    pub goes-cut : (after : List ℕ) → configureAt body at ≡ unread → Runs s request body start t₀ d₀ Pass.Cut t after
+    pub goes-cut : (after : List ℕ) → configureAt body at ≡ unread → Runs s request body start Was d₀ Pass.Cut Is after
     goes-cut after m l e =
         let x = g .along l e in
         record { events = x .events; left = x .left; passed = going-cut (x .going) lt (x .events) after (record { is = m; same = refl }) }
 
-    module _ (end direction id : ℕ) (deed : Deed) (k : Took s request body at end direction id deed) (status : Status) (u : ReportingTable) (does : Settles deed t status u)
+    module _ (end direction id : ℕ) (deed : Deed) (k : Took s request body at end direction id deed) (status : Status) (Now : List Entry → Type 0) (does : Settles deed Is Now status)
         (r : Put) (after : List ℕ) (p : putting r after ≡ noting d out status (encode (failure (statusCode status) direction id))) where
       abbrev fails : Failure
       fails = failure (statusCode status) direction id
 
       -- what the definition does: the events with this record's behind them
-      abbrev want : (l : List Entry) → tableOf t₀ ≡ holding l → Did (List Event)
+      abbrev want : (l : List Entry) → Was l → Did (List Event)
       want l e = tried 8 room s request l (g .along l e .events) (k .taken)
 
-      done : (l : List Entry) (e : tableOf t₀ ≡ holding l) → Does l (want l e) status u
+      done : (l : List Entry) (e : Was l) → Does Now l (want l e) status
       done l e =
           let x = g .along l e in
-          subst (λ (w : Did (List Event)). Does l w status u) (k .judged l (x .events)) (does l (x .events) (x .left))
+          subst (λ (w : Did (List Event)). Does Now l w status) (k .judged l (x .events)) (does l (x .events) (x .left))
 
-      took : (l : List Entry) (e : tableOf t₀ ≡ holding l) → TookOne (configuring 8 room s request l) (configureAt body) (g .along l e .events) at end status fails (want l e .state)
+      took : (l : List Entry) (e : Was l) → TookOne (configuring 8 room s request l) (configureAt body) (g .along l e .events) at end status fails (want l e .state)
       took l e = record { taken = k .taken; is = k .is; does = ap (λ (y : Status). did y (want l e .state)) (done l e .is); named = k .named status }
 
-      pub goes-more : (o : ℕ) → r ≡ At o → length after ≡ length d → Goes s request body start t₀ d₀ u after end o
+      pub goes-more : (o : ℕ) → r ≡ At o → length after ≡ length d → Goes s request body start Was d₀ Now after end o
       goes-more o q n = record {
         reply-length = n ∙ g .reply-length;
         along = λ l e. record { events = want l e .state; left = done l e .left; going = going-more (g .along l e .going) lt (ahead body) end status fails (want l e .state) (took l e) r after p o q n };
       }
 
-      pub goes-stop : r ≡ Full → Runs s request body start t₀ d₀ Pass.Full u after
+      pub goes-stop : r ≡ Full → Runs s request body start Was d₀ Pass.Full Now after
       goes-stop q l e = record { events = want l e .state; left = done l e .left; passed = going-stop (g .along l e .going) lt (ahead body) end status fails (want l e .state) (took l e) r after p q }
 
 -- ---- the whole command
@@ -145,23 +145,36 @@ module _ (s : List ℕ) (t : ReportingTable) (request : ZclHeader) (body : List 
   unfolding configureOf
   command-bad h q = refused-with x d n NotATable (tableOf t) q ∙ ap (refused n NotATable) h ∙ sym (ap (λ (y : Table). configureOf 8 room s y request body n) h)
 
-  module _ (l : List Entry) (h : tableOf t ≡ holding l) where
-    -- from the events to the table
-    by-events : (es : List Event) (u : ReportingTable) → Left l es u → seen x d es ≡ configureEvents 8 room s l request body n → seen x d (tableOf u) ≡ configureOf 8 room s (tableOf t) request body n
-    unfolding configureOf
-    by-events es u w e = ap (seen x d) w ∙ ap (left room l) e ∙ sym (ap (λ (y : Table). configureOf 8 room s y request body n) h)
+-- what the command says in a table of these entries: events, and they leave what the table is afterwards
+pub record Came (s : List ℕ) (request : ZclHeader) (body : List ℕ) (n : ℕ) (l : List Entry) (x : Answer) (d : List ℕ) (Is : List Entry → Type 0) : Type 0 where
+  pub events : List Event
+  pub left : Is (run room events l)
+  pub says : seen x d events ≡ configureEvents 8 room s l request body n
 
-    module _ (r : Put) (after : List ℕ) (p : putting r after ≡ put (zeros n) 0 (replyHead request ConfigureReportingResponse)) where
-      pub command-full : r ≡ Full → seen x d noState ≡ refused (length after) ReplyTooLong noState → seen x d (tableOf t) ≡ configureOf 8 room s (tableOf t) request body n
-      unfolding configureEvents
-      command-full e q =
-          by-events [] t h (headed-past request ConfigureReportingResponse [] n r after p (performed (configuring 8 room s request l) (configures body) [] n) e x d q)
+module _ (s : List ℕ) (request : ZclHeader) (body : List ℕ) (n : ℕ) (x : Answer) (d : List ℕ) (l : List Entry) (Was : List Entry → Type 0) (h : Was l)
+    (r : Put) (after : List ℕ) (p : putting r after ≡ put (zeros n) 0 (replyHead request ConfigureReportingResponse)) where
+  pub command-full : r ≡ Full → seen x d noState ≡ refused (length after) ReplyTooLong noState → Came s request body n l x d Was
+  unfolding configureEvents
+  command-full e q = record {
+    events = [];
+    left = h;
+    says = headed-past request ConfigureReportingResponse [] n r after p (performed (configuring 8 room s request l) (configures body) [] n) e x d q;
+  }
 
-      pub command-run : (start : ℕ) → r ≡ At start → (done : Pass) (u : ReportingTable) (last : List ℕ) → Runs s request body start t after done u last → length last ≡ length after
-          → seen x d noState ≡ concludedAt last start done → seen x d (tableOf u) ≡ configureOf 8 room s (tableOf t) request body n
-      unfolding configureEvents
-      command-run start e done u last w k q =
-          let y = w l h in
-          by-events (y .events) u (y .left)
-          (headed-performs request ConfigureReportingResponse [] n r after p (configuring 8 room s request l) (configures body) start e x (y .events) d
-          (performs (configuring 8 room s request l) some (configures body) start [] after done (y .events) last (y .passed) k x d q))
+  pub command-run : (start : ℕ) → r ≡ At start → (done : Pass) (Is : List Entry → Type 0) (last : List ℕ) → Runs s request body start Was after done Is last → length last ≡ length after
+      → seen x d noState ≡ concludedAt last start done → Came s request body n l x d Is
+  unfolding configureEvents
+  command-run start e done Is last w k q =
+      let y = w l h in
+      record {
+        events = y .events;
+        left = y .left;
+        says = headed-performs request ConfigureReportingResponse [] n r after p (configuring 8 room s request l) (configures body) start e x (y .events) d
+            (performs (configuring 8 room s request l) some (configures body) start [] after done (y .events) last (y .passed) k x d q);
+      }
+
+-- from the events to the table
+module _ {s : List ℕ} {request : ZclHeader} {body : List ℕ} {n : ℕ} {l : List Entry} {x : Answer} {d : List ℕ} where
+  pub by-value : (t u : ReportingTable) → Holds t l → Came s request body n l x d (Holds u) → seen x d (tableOf u) ≡ configureOf 8 room s (tableOf t) request body n
+  unfolding configureOf
+  by-value t u h w = ap (seen x d) (w .left) ∙ ap (left room l) (w .says) ∙ sym (ap (λ (y : Table). configureOf 8 room s y request body n) h)

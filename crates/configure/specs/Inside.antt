@@ -1,7 +1,7 @@
 -- What inner functions say; nothing that a caller of this crate must believe. Assumes nothing: these are definitions.
 use mathlib.Core.Path.{_≡_}
 use Prim.Native.Nat.{ℕ}
-use mathlib.Core.Bool.{Bool}
+use mathlib.Core.Bool.{Bool, true}
 use mathlib.Core.List.{List, [], _∷_, _++_}
 use Rattle.frame.specs.declared.header.ZclHeader.{ZclHeader}
 use Rattle.frame.specs.declared.status.Status.{Status}
@@ -15,6 +15,7 @@ use Rattle.reporting.specs.declared.entry.Entry.{Entry}
 use Rattle.reporting.specs.declared.table.ReportingTable.{ReportingTable}
 use Rattle.reporting.specs.Entries.{acceptsL}
 use Rattle.reporting.specs.Table.{room, tableOf, holding, sound}
+use Rattle.reporting.specs.Carried.{seen, readT}
 use Rattle.reporting.specs.Events.{Event, cleared, run, sets, statusW, eventsW}
 use Rattle.configure.specs.declared.record.Next.{Next}
 use Rattle.configure.specs.declared.settle.Deed.{Deed}
@@ -38,9 +39,12 @@ itemOf Next.Cut = unread
 
 -- ---- a configuration and the table
 
--- a table is what events leave of these entries
-abbrev pub Left : List Entry → List Event → ReportingTable → Type 0
-Left l es t = tableOf t ≡ holding (run room es l)
+-- a table of these entries: a value, and bytes
+abbrev pub Holds : ReportingTable → List Entry → Type 0
+Holds t l = tableOf t ≡ holding l
+
+abbrev pub Carries : List ℕ → List Entry → Type 0
+Carries bs l = readT room bs ≡ seen true l
 
 -- what a deed comes to in a table that events left: its status, and the events with its own behind them
 abbrev pub deedOf : Deed → List Entry → List Event → Did (List Event)
@@ -55,12 +59,13 @@ abbrev pub Judges : (List Entry → List Event → Did (List Event)) → Deed �
 Judges want deed = (l : List Entry) (es : List Event) → deedOf deed l es ≡ want l es
 
 -- it was done: this status was given, and the table is what its events leave
-pub record Does (l : List Entry) (want : Did (List Event)) (status : Status) (u : ReportingTable) : Type 0 where
+pub record Does (Is : List Entry → Type 0) (l : List Entry) (want : Did (List Event)) (status : Status) : Type 0 where
   pub is : status ≡ want .status
-  pub left : Left l (want .state) u
+  pub left : Is (run room (want .state) l)
 
-abbrev pub Settles : Deed → ReportingTable → Status → ReportingTable → Type 0
-Settles deed t status u = (l : List Entry) (es : List Event) → Left l es t → Does l (deedOf deed l es) status u
+-- over what the table was and what it is: a value, or bytes
+abbrev pub Settles : Deed → (List Entry → Type 0) → (List Entry → Type 0) → Status → Type 0
+Settles deed Was Is status = (l : List Entry) (es : List Event) → Was (run room es l) → Does Is l (deedOf deed l es) status
 
 -- ---- the pass
 
@@ -76,13 +81,13 @@ Turns s request body at (Turn.Read end direction id deed) = Took s request body 
 Turns s request body at Turn.Cut = configureAt body at ≡ unread
 
 -- every record was done, in a table of these entries and behind whatever head the buffer showed
-pub record Ran (s : List ℕ) (request : ZclHeader) (body : List ℕ) (start : ℕ) (l : List Entry) (d : List ℕ) (done : Pass) (u : ReportingTable) (after : List ℕ) : Type 0 where
+pub record Ran (s : List ℕ) (request : ZclHeader) (body : List ℕ) (start : ℕ) (l : List Entry) (d : List ℕ) (done : Pass) (Is : List Entry → Type 0) (after : List ℕ) : Type 0 where
   pub events : List Event
-  pub left : Left l events u
+  pub left : Is (run room events l)
   pub passed : Passed (configuring 8 room s request l) (configures body) start [] d done events after
 
-abbrev pub Runs : List ℕ → ZclHeader → List ℕ → ℕ → ReportingTable → List ℕ → Pass → ReportingTable → List ℕ → Type 0
-Runs s request body start t d done u after = (l : List Entry) → tableOf t ≡ holding l → Ran s request body start l d done u after
+abbrev pub Runs : List ℕ → ZclHeader → List ℕ → ℕ → (List Entry → Type 0) → List ℕ → Pass → (List Entry → Type 0) → List ℕ → Type 0
+Runs s request body start Was d done Is after = (l : List Entry) → Was l → Ran s request body start l d done Is after
 
 -- ---- 08
 

@@ -4,7 +4,7 @@ ghost use Rattle.frame.specs.Status.{statusCode};
 ghost use Rattle.frame.specs.Reply.{putting};
 ghost use Rattle.frame.specs.Failures.{noting};
 ghost use Rattle.configure.specs.Configure.{failure, encode};
-ghost use Rattle.configure.specs.Inside.{Turns, Runs};
+ghost use Rattle.configure.specs.Inside.{Holds, Turns, Runs};
 use super::record::Next;
 use super::record::next_record;
 use super::settle::Deed;
@@ -82,7 +82,7 @@ pub(crate) fn configure_records(
     reply: &mut [u8],
     start: usize,
 ) -> Passed
-    ensures { λ r. ⌜ Runs (now (store .entry)) request (now (body .entry)) start table (now (reply .entry)) (r .done) (r .table) (now (reply .exit)) ⌝ }
+    ensures { λ r. ⌜ Runs (now (store .entry)) request (now (body .entry)) start (Holds table) (now (reply .entry)) (r .done) (Holds (r .table)) (now (reply .exit)) ⌝ }
 {
     let mut kept = table;
     let mut at: usize = 0;

@@ -4,7 +4,8 @@ use lib.ListN.{length}
 use denote.Ref.{now}
 use Rattle.reporting.specs.Table.{tableOf, holding, live}
 use Rattle.reporting.proofs.Slots.{length-mapped}
-use Rattle.configure.proofs.Turns.{is-bad, is-held, command-bad, command-full, command-run}
+use Rattle.configure.specs.Inside.{Holds}
+use Rattle.configure.proofs.Turns.{is-bad, is-held, command-bad, command-full, command-run, by-value}
 use borrow.Author.Needs.{needs}
 use Rattle.configure.proofs.configure.configure_reporting.Statement.{statement}
 use Rattle.configure.proofs.configure.configure_reporting.Tie as tie
@@ -55,7 +56,8 @@ returns-2 c =
     let a = c .before .before .before .before .before .before .before .before .before .before .before .before .before .before .before .before .args in
     let b = c .before .before .before .before .before .before .before .before .begin-reply in
     let x = c .before .before .refuse2 in
-    command-full (now (a .store)) (a .table) (a .request) (now (a .body)) (length (now (a .reply))) (x .result) (x .last .0) (live (a .table)) (held (c .before .before .before .before .before .before .before .before .before .before)) (b .result) (b .last .0) (b .ensures) (c .before .before .before .before .enum-told3 .given .1) (x .ensures)
+    let h = held (c .before .before .before .before .before .before .before .before .before .before) in
+    by-value (a .table) (a .table) h (command-full (now (a .store)) (a .request) (now (a .body)) (length (now (a .reply))) (x .result) (x .last .0) (live (a .table)) (Holds (a .table)) h (b .result) (b .last .0) (b .ensures) (c .before .before .before .before .enum-told3 .given .1) (x .ensures))
 
 configure-records-requires : tie.Need-configure-records-requires
 configure-records-requires c κs = search needs
@@ -73,7 +75,8 @@ returns-3 c =
     let f = c .before .before .before .before .before .before .before .before .before .before .begun .given in
     let y = c .before .before .before .before .before .before .before .configure-records in
     let x = c .before .before .conclude in
-    command-run (now (a .store)) (a .table) (a .request) (now (a .body)) (length (now (a .reply))) (x .result) (x .last .0) (live (a .table)) (held (c .before .before .before .before .before .before .before .before .before .before .before .before .before .before .before .before)) (b .result) (b .last .0) (b .ensures) (f .0 .0) (f .1) (y .result .done) (y .result .table) (y .last .1 .1 .1 .1 .0) (y .ensures) (y .kept .1 .1 .1 .1 .0) (x .ensures)
+    let h = held (c .before .before .before .before .before .before .before .before .before .before .before .before .before .before .before .before) in
+    by-value (a .table) (y .result .table) h (command-run (now (a .store)) (a .request) (now (a .body)) (length (now (a .reply))) (x .result) (x .last .0) (live (a .table)) (Holds (a .table)) h (b .result) (b .last .0) (b .ensures) (f .0 .0) (f .1) (y .result .done) (Holds (y .result .table)) (y .last .1 .1 .1 .1 .0) (y .ensures) (y .kept .1 .1 .1 .1 .0) (x .ensures))
 
 pub configure-reporting-spec : {M : Type 1} → statement M
 configure-reporting-spec =

@@ -7,7 +7,7 @@ use native.Mathlib.Omega.{arith}
 use lib.ListN.{length}
 use denote.Ref.{now}
 use Rattle.configure.specs.declared.pass.Turn.{Turn}
-use Rattle.configure.specs.Inside.{Settles, Took, Turns}
+use Rattle.configure.specs.Inside.{Holds, Settles, Took, Turns}
 use Rattle.configure.proofs.Items.{ahead}
 use Rattle.configure.proofs.Settings.{clear-settles, set-settles, settled-by}
 use Rattle.configure.proofs.Turns.{Goes, goes-first, goes-done, goes-cut, goes-more, goes-stop}
@@ -15,7 +15,7 @@ use Rattle.configure.proofs.pass.configure_records.Statement.{statement
 use Rattle.configure.proofs.pass.configure_records.Tie as tie
 
 abbrev Inv-loop : tie.InvT-loop
-Inv-loop store request body reply₀ start kept₀ at₀ out₀ reply kept at out = Goes store request body start kept₀ reply₀ kept reply at out
+Inv-loop store request body reply₀ start kept₀ at₀ out₀ reply kept at out = Goes store request body start (Holds kept₀) reply₀ (Holds kept) reply at out
 
 abbrev μ-loop : tie.MeasureT-loop
 μ-loop store request body reply₀ start kept₀ at₀ out₀ reply kept at out = length body - at
@@ -29,17 +29,17 @@ took : (c : tie.After-turn Inv-loop μ-loop) → Took (now (c .before .before .b
 took c = did (c .before .before) _ (c .turn .given .1)
 
 -- where the arms meet: its deed is done
-settled : (c : tie.At-match2-came Inv-loop μ-loop) → Settles (c .before .before .turn .given .0 .1 .1 .1 .0) (c .before .before .before .before .before .before .loop .kept) (c .match2 .status) (c .match2 .kept)
+settled : (c : tie.At-match2-came Inv-loop μ-loop) → Settles (c .before .before .turn .given .0 .1 .1 .1 .0) (Holds (c .before .before .before .before .before .before .loop .kept)) (Holds (c .match2 .kept)) (c .match2 .status)
 settled c =
     let t = c .before .before .before .before .before .before .loop .kept in
-    ⊎-elim (λ w. settled-by t (w .1 .given .1) (w .3) (w .4) (λ l es h. record { is = refl; left = h }))
-    (⊎-elim (λ w. settled-by t (w .1 .given .1) (w .5) (w .6) (clear-settles (w .1 .given .0 .0) t (w .3 .result) (w .3 .ensures)))
-    (λ w. settled-by t (w .1 .given .1) (w .6) (w .7) (set-settles (w .1 .given .0 .0) t (w .3 .result) (w .1 .given .0 .1 .0) (w .5 .result) (w .5 .ensures) (w .3 .ensures)))) (c .match2 .came)
+    ⊎-elim (λ w. settled-by Holds (Holds t) (w .1 .given .1) (w .3) (w .4) (λ l es h. record { is = refl; left = h }))
+    (⊎-elim (λ w. settled-by Holds (Holds t) (w .1 .given .1) (w .5) (w .6) (clear-settles (w .1 .given .0 .0) t (w .3 .result) (w .3 .ensures)))
+    (λ w. settled-by Holds (Holds t) (w .1 .given .1) (w .6) (w .7) (set-settles (w .1 .given .0 .0) t (w .3 .result) (w .1 .given .0 .1 .0) (w .5 .result) (w .5 .ensures) (w .3 .ensures)))) (c .match2 .came)
 
 loop-holds : tie.Need-loop-holds Inv-loop μ-loop
 loop-holds c =
     let a = c .before .before .before .args in
-    goes-first (now (a .store)) (a .request) (now (a .body)) (a .start) (a .table) (now (a .reply))
+    goes-first (now (a .store)) (a .request) (now (a .body)) (a .start) (Holds (a .table)) (now (a .reply))
 
 configure-turn-requires : tie.Need-configure-turn-requires Inv-loop μ-loop
 configure-turn-requires c κs = search needs
@@ -91,7 +91,7 @@ returns-2 c =
     let x = c .before .before .before .before .before .before .before .before .turn .given .0 in
     let y = c .before .before .before .before .before .before .match2 in
     let n = c .before .before .before .before .note in
-    goes-stop (c .before .before .before .before .before .before .before .before .before .before .before .before .loop .inv) (c .before .before .before .before .before .before .before .before .before .before .before .loop-test .taken) (x .0) (x .1 .0) (x .1 .1 .0 .0) (x .1 .1 .1 .0) (took (c .before .before .before .before .before .before .before .before)) (y .status) (y .kept) (settled (c .before .before .before .before .before .before)) (n .result) (n .last .0) (n .ensures) (c .enum-told2 .given .1)
+    goes-stop (c .before .before .before .before .before .before .before .before .before .before .before .before .loop .inv) (c .before .before .before .before .before .before .before .before .before .before .before .loop-test .taken) (x .0) (x .1 .0) (x .1 .1 .0 .0) (x .1 .1 .1 .0) (took (c .before .before .before .before .before .before .before .before)) (y .status) (Holds (y .kept)) (settled (c .before .before .before .before .before .before)) (n .result) (n .last .0) (n .ensures) (c .enum-told2 .given .1)
 
 loop-less : tie.Need-loop-less Inv-loop μ-loop
 loop-less c =
@@ -103,7 +103,7 @@ loop-again c =
     let x = c .before .before .before .before .before .before .before .before .before .turn .given .0 in
     let y = c .before .before .before .before .before .before .before .match2 in
     let n = c .before .before .before .before .before .note in
-    goes-more (c .before .before .before .before .before .before .before .before .before .before .before .before .before .loop .inv) (c .before .before .before .before .before .before .before .before .before .before .before .before .loop-test .taken) (x .0) (x .1 .0) (x .1 .1 .0 .0) (x .1 .1 .1 .0) (took (c .before .before .before .before .before .before .before .before .before)) (y .status) (y .kept) (settled (c .before .before .before .before .before .before .before)) (n .result) (n .last .0) (n .ensures) (c .before .next .given .0 .0) (c .before .next .given .1) (n .kept .0)
+    goes-more (c .before .before .before .before .before .before .before .before .before .before .before .before .before .loop .inv) (c .before .before .before .before .before .before .before .before .before .before .before .before .loop-test .taken) (x .0) (x .1 .0) (x .1 .1 .0 .0) (x .1 .1 .1 .0) (took (c .before .before .before .before .before .before .before .before .before)) (y .status) (Holds (y .kept)) (settled (c .before .before .before .before .before .before .before)) (n .result) (n .last .0) (n .ensures) (c .before .next .given .0 .0) (c .before .next .given .1) (n .kept .0)
 
 same-length-3 : tie.Need-same-length-3 Inv-loop μ-loop
 same-length-3 c = c .before .loop .inv .reply-length
