@@ -3,9 +3,11 @@ use mathlib.Core.Path.{_≡_, refl, sym, ap, _∙_, subst}
 use mathlib.Core.Bool.{Bool, true, false, cond}
 use mathlib.Core.List.{List, [], _∷_, _++_, append-nil}
 use Prim.Native.Nat.{ℕ}
+use native.Mathlib.Omega.{arith}
 use borrow.Author.Tests.{eq-eqb, ne-eqb}
 use types.Run.{OneOf, miss}
 use denote.Enum.Declared.{tagOf}
+use Rattle.types.specs.Number.{AllBytes}
 use Rattle.frame.specs.declared.status.Status.{Status}
 use Rattle.frame.specs.declared.status.Status.the-variants.{Success, InvalidValue, InsufficientSpace, UnsupportedAttribute, UnreportableAttribute, InvalidDataType}
 use Rattle.frame.specs.Failures.{Did, did}
@@ -21,13 +23,16 @@ use Rattle.reporting.specs.declared.table.ReportingTable.{ReportingTable}
 use Rattle.reporting.specs.declared.table.Change.{Change}
 use Rattle.reporting.specs.declared.table.Change.the-variants as ChangeV
 use Rattle.reporting.specs.declared.table.Changed.{Changed}
-use Rattle.reporting.specs.Entries.{acceptsL, configureL}
-use Rattle.reporting.specs.Table.{room, tableOf, holding, changeTold, Outcome, outcome, doneT, fullT, configureT, clearT}
+use Rattle.reporting.specs.Entries.{acceptsL, configureL, clearL}
+use Rattle.reporting.specs.Table.{room, tableOf, holding, ChangeTold, changeTold, Outcome, outcome, doneT, fullT, configureT, clearT}
+use Rattle.reporting.specs.Carried.{tableIn, isTable, tableBytes, Reading, seen, readT}
+use Rattle.reporting.specs.Lent.{ChangeKept, keptAs, configureIn}
 use Rattle.reporting.specs.Events.{Event, configured, cleared, run, Wish, clears, wrong, sets, wish, statusW, eventsW}
-use Rattle.reporting.proofs.Histories.{run-append}
+use Rattle.reporting.proofs.Histories.{run-append, configure-refused}
+use Rattle.reporting.proofs.CarriageTable.{bytes-back}
 use Rattle.configure.specs.Configure.{checked, setting}
 use Rattle.configure.specs.declared.settle.Deed.{Deed}
-use Rattle.configure.specs.Inside.{Holds, Judges, Does, Settles}
+use Rattle.configure.specs.Inside.{Holds, Carries, Judges, Does, Settles}
 
 -- ---- the methods of the table
 
@@ -51,6 +56,57 @@ module _ (k : Key) (t : ReportingTable) (r : Changed) where
       go : (c : Bool) → outcome r ≡ cond c (doneT (configureL room k g (run room es l))) (fullT (run room es l)) → Does (Holds (r .table)) l (did (statusW sets c) (es ++ eventsW sets c k g)) status
       go true x = record { is = accepted (doneT (configureL room k g (run room es l))) x; left = ap (λ (o : Outcome). o .table) x ∙ ap holding (sym (run-append room es (configured k g ∷ []) l)) }
       go false x = record { is = accepted (fullT (run room es l)) x; left = ap (λ (o : Outcome). o .table) x ∙ ap holding (sym (run-append room es [] l)) }
+
+-- ---- a table that is lent as bytes
+
+reading-is : (b : Bool) (m l : List Entry) → cond b (seen true m) (seen false []) ≡ seen true l → (b ≡ true) × (m ≡ l)
+reading-is true m l e = (refl, ap (λ (x : Reading). x .entries) e)
+reading-is false m l e =
+    let z : _≡_ {A = ℕ} 0 1 = ap (λ (x : Reading). cond (x .known) 1 0) e in
+    absurd (omega arith)
+
+-- bytes that carry entries are a table, and it holds these
+pub carries-is : (bs : List ℕ) (l : List Entry) → Carries bs l → (isTable room bs ≡ true) × (tableIn bs ≡ l)
+unfolding readT
+carries-is bs l h = reading-is (isTable room bs) (tableIn bs) l h
+
+-- a table carries its entries
+pub carries-own : (bs : List ℕ) → isTable room bs ≡ true → Carries bs (tableIn bs)
+unfolding readT
+carries-own bs e = rw e refl
+
+-- they are the only bytes that carry them
+pub carries-bytes : (bs : List ℕ) (l : List Entry) → AllBytes bs → Carries bs l → bs ≡ tableBytes room l
+carries-bytes bs l b h =
+    let w = carries-is bs l h in
+    sym (bytes-back room bs b (w .0)) ∙ ap (tableBytes room) (w .1)
+
+-- what a function on the bytes did is what the deed's events leave
+module _ (k : Key) (bs after : List ℕ) where
+  pub clear-settles-lent : readT room after ≡ seen true (clearL k (tableIn bs)) → Settles (Deed.Clears k) (Carries bs) (Carries after) Success
+  clear-settles-lent e l es h = record {
+    is = refl;
+    left = e ∙ ap (λ (m : List Entry). seen true (clearL k m)) (carries-is bs (run room es l) h .1) ∙ ap (seen true) (sym (run-append room es (cleared k ∷ []) l));
+  }
+
+  pub set-settles-lent : (g : ReportingConfig) (answer : Change) (status : Status) → status ≡ statusW sets (changeTold answer .accepted) → keptAs answer after ≡ configureIn k g (tableIn bs)
+      → Settles (Deed.Sets k g) (Carries bs) (Carries after) status
+  unfolding configureIn
+  set-settles-lent g answer status q e l es h = go (acceptsL room k (run room es l)) refl (ap (λ (x : ChangeKept). x .told) all)
+    where
+      all : keptAs answer after ≡ configureIn k g (run room es l)
+      all = e ∙ ap (configureIn k g) (carries-is bs (run room es l) h .1)
+
+      kept : readT room after ≡ seen true (configureL room k g (run room es l))
+      kept = ap (λ (x : ChangeKept). x .table) all
+
+      go : (c : Bool) → acceptsL room k (run room es l) ≡ c → changeTold answer ≡ changeTold (cond c ChangeV.Done ChangeV.Full)
+          → Does (Carries after) l (did (statusW sets c) (es ++ eventsW sets c k g)) status
+      go true a x = record { is = q ∙ ap (λ (y : ChangeTold). statusW sets (y .accepted)) x; left = kept ∙ ap (seen true) (sym (run-append room es (configured k g ∷ []) l)) }
+      go false a x = record {
+        is = q ∙ ap (λ (y : ChangeTold). statusW sets (y .accepted)) x;
+        left = kept ∙ ap (seen true) (configure-refused room k g (run room es l) a ∙ sym (run-append room es [] l));
+      }
 
 -- which deed it was, and what it left
 pub settled-by : {T : Type 0} (Of : T → List Entry → Type 0) (Was : List Entry → Type 0) {deed d : Deed} {status e : Status} {u v : T}

@@ -7,7 +7,7 @@ use native.Mathlib.Omega.{arith}
 use lib.ListN.{length}
 use lib.Dec.{ltb}
 use borrow.Author.Tests.{ltb-false}
-use Rattle.types.specs.Number.{zeros}
+use Rattle.types.specs.Number.{AllBytes, zeros}
 use Rattle.frame.specs.declared.header.ZclHeader.{ZclHeader}
 use Rattle.frame.specs.declared.status.Status.{Status}
 use Rattle.frame.specs.declared.status.Status.the-variants.{UnreportableAttribute}
@@ -20,7 +20,7 @@ use Rattle.frame.specs.declared.answer.Refusal.the-variants.{NotATable, ReplyTo
 use Rattle.frame.specs.declared.command_identifier.CommandIdentifier.the-variants.{ConfigureReportingResponse}
 use Rattle.frame.specs.Status.{statusCode}
 use Rattle.frame.specs.Header.{replyHead}
-use Rattle.frame.specs.Answer.{refusalNumber, noState, seen, refused}
+use Rattle.frame.specs.Answer.{refusalNumber, Outcome, noState, seen, refused}
 use Rattle.frame.specs.Walk.{item, unread}
 use Rattle.frame.specs.Reply.{putting, put}
 use Rattle.frame.specs.Failures.{Did, did, performed, noting, concludedAt}
@@ -35,13 +35,15 @@ use Rattle.reporting.specs.declared.table.ReportingTable.{ReportingTable}
 use Rattle.reporting.specs.declared.table.Length.{Length}
 use Rattle.reporting.specs.declared.table.Length.the-variants as LengthV
 use Rattle.reporting.specs.Table.{room, Table, sound, bad, live, tableOf, holding, LengthTold, lengthTold, lengthT}
+use Rattle.reporting.specs.Carried.{tableIn, isTable}
 use Rattle.reporting.specs.Events.{Event, run}
 use Rattle.reporting.proofs.Slots.{live-length}
 use Rattle.configure.specs.Request.{keyFor, received, reported, configureAt, configures}
-use Rattle.configure.specs.Configure.{Failure, failure, encode, checked, setting, tried, configuring, configureEvents, left, configureOf}
+use Rattle.configure.specs.Configure.{Failure, failure, encode, checked, setting, tried, configuring, configureEvents, left, configureOf, onBytes}
 use Rattle.configure.specs.declared.settle.Deed.{Deed}
-use Rattle.configure.specs.Inside.{Holds, Judges, Does, Settles, Took, Runs}
+use Rattle.configure.specs.Inside.{Holds, Carries, Judges, Does, Settles, Took, Runs}
 use Rattle.configure.proofs.Items.{ahead}
+use Rattle.configure.proofs.Settings.{carries-is, carries-own, carries-bytes}
 
 -- a failure takes bytes
 pub some : (f : Failure) → 0 < length (encode f)
@@ -117,6 +119,11 @@ module _ {s : List ℕ} {request : ZclHeader} {body : List ℕ} {start : ℕ} {W
       pub goes-stop : r ≡ Full → Runs s request body start Was d₀ Pass.Full Now after
       goes-stop q l e = record { events = want l e .state; left = done l e .left; passed = going-stop (g .along l e .going) lt (ahead body) end status fails (want l e .state) (took l e) r after p q }
 
+-- bytes that were a table are one in every turn
+pub still-table : (bs₀ bs : List ℕ) {s : List ℕ} {request : ZclHeader} {body : List ℕ} {start : ℕ} {d₀ d : List ℕ} {at out : ℕ}
+    → Goes s request body start (Carries bs₀) d₀ (Carries bs) d at out → isTable room bs₀ ≡ true → isTable room bs ≡ true
+still-table bs₀ bs g e = carries-is bs _ (g .along (tableIn bs₀) (carries-own bs₀ e) .left) .0
+
 -- ---- the whole command
 
 module _ (t : ReportingTable) (r : Length) (e : lengthTold r ≡ lengthT (tableOf t)) where
@@ -178,3 +185,7 @@ module _ {s : List ℕ} {request : ZclHeader} {body : List ℕ} {n : ℕ} {l : L
   pub by-value : (t u : ReportingTable) → Holds t l → Came s request body n l x d (Holds u) → seen x d (tableOf u) ≡ configureOf 8 room s (tableOf t) request body n
   unfolding configureOf
   by-value t u h w = ap (seen x d) (w .left) ∙ ap (left room l) (w .says) ∙ sym (ap (λ (y : Table). configureOf 8 room s y request body n) h)
+
+  pub by-bytes : (bs after : List ℕ) → AllBytes after → Came s request body n l x d (Carries after) → seen x d after ≡ onBytes bs (configureOf 8 room s (holding l) request body n)
+  unfolding configureOf
+  by-bytes bs after b w = ap (seen x d) (carries-bytes after (run room (w .events) l) b (w .left)) ∙ ap (λ (o : Outcome (List Event)). onBytes bs (left room l o)) (w .says)

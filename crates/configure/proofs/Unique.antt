@@ -5,12 +5,13 @@ use Prim.Native.Nat.{ℕ}
 use lib.ListN.{length}
 use Rattle.frame.specs.Answer.{Outcome, noState, seen}
 use Rattle.frame.proofs.Outcome.{only-one}
-use Rattle.reporting.specs.Table.{room, Table, tableOf, Alike}
+use Rattle.reporting.specs.Table.{room, Table, tableOf, holding, Alike}
+use Rattle.reporting.specs.Carried.{tableIn}
 use Rattle.reporting.proofs.Unique.{alike}
 use Rattle.configure.specs.declared.configure.Configured.{Configured}
 use Rattle.configure.specs.Configuration.{configurationOf}
-use Rattle.configure.specs.Configure.{configureOf}
-use Rattle.configure.specs.Unique.{ChangeWidthOnce, ReadReportingConfigurationOnce, ConfigureReportingOnce}
+use Rattle.configure.specs.Configure.{configureOf, onBytes}
+use Rattle.configure.specs.Unique.{ChangeWidthOnce, ReadReportingConfigurationOnce, ConfigureReportingOnce, ConfigureReportingLentOnce}
 
 pub one-configured : (o : Outcome Table) (r s : Configured) (d e : List ℕ) → seen (r .answer) d (tableOf (r .table)) ≡ o → seen (s .answer) e (tableOf (s .table)) ≡ o
     → (r .answer ≡ s .answer) × ((d ≡ e) × Alike (r .table) (s .table))
@@ -34,3 +35,9 @@ read-reporting-configuration-once store table request body reply r q x y e f =
 
 pub configure-reporting-once : ConfigureReportingOnce
 configure-reporting-once store table request body reply r q x y e f = one-configured (configureOf 8 room store (tableOf table) request body (length reply)) r q x y e f
+
+-- src/configure_lent.rt
+
+pub configure-reporting-lent-once : ConfigureReportingLentOnce
+configure-reporting-lent-once store table request body reply r q x y t u e f =
+    only-one (onBytes table (configureOf 8 room store (holding (tableIn table)) request body (length reply))) r q x y t u e f

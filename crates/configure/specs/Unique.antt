@@ -8,11 +8,12 @@ use Rattle.frame.specs.declared.answer.Answer.{Answer}
 use Rattle.frame.specs.declared.header.ZclHeader.{ZclHeader}
 use Rattle.frame.specs.Answer.{noState, seen}
 use Rattle.reporting.specs.declared.table.ReportingTable.{ReportingTable}
-use Rattle.reporting.specs.Table.{room, tableOf, Alike}
+use Rattle.reporting.specs.Table.{room, tableOf, holding, Alike}
+use Rattle.reporting.specs.Carried.{tableIn}
 use Rattle.configure.specs.declared.configure.Configured.{Configured}
 use Rattle.configure.specs.Request.{changeWidth}
 use Rattle.configure.specs.Configuration.{configurationOf}
-use Rattle.configure.specs.Configure.{configureOf}
+use Rattle.configure.specs.Configure.{configureOf, onBytes}
 
 -- src/change.rt
 abbrev pub ChangeWidthOnce : Type 0
@@ -33,3 +34,11 @@ ConfigureReportingOnce =
     → seen (r .answer) x (tableOf (r .table)) ≡ configureOf 8 room store (tableOf table) request body (length reply)
     → seen (q .answer) y (tableOf (q .table)) ≡ configureOf 8 room store (tableOf table) request body (length reply)
     → (r .answer ≡ q .answer) × ((x ≡ y) × Alike (r .table) (q .table))
+
+-- src/configure_lent.rt
+abbrev pub ConfigureReportingLentOnce : Type 0
+ConfigureReportingLentOnce =
+    (store table : List ℕ) (request : ZclHeader) (body reply : List ℕ) (r q : Answer) (x y t u : List ℕ)
+    → seen r x t ≡ onBytes table (configureOf 8 room store (holding (tableIn table)) request body (length reply))
+    → seen q y u ≡ onBytes table (configureOf 8 room store (holding (tableIn table)) request body (length reply))
+    → (r ≡ q) × ((x ≡ y) × (t ≡ u))

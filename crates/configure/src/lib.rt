@@ -3,6 +3,7 @@
 pub mod change;
 pub mod configuration;
 pub mod configure;
+pub mod configure_lent;
 mod key;
 mod pass;
 mod record;

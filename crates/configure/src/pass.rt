@@ -36,7 +36,7 @@ pub(crate) struct Passed {
 }
 
 // One record read and judged.
-fn configure_turn(store: &[u8], request: ZclHeader, body: &[u8], at: usize) -> Turn
+pub(crate) fn configure_turn(store: &[u8], request: ZclHeader, body: &[u8], at: usize) -> Turn
     ensures { λ r. ⌜ Turns (now (store .entry)) request (now (body .entry)) at r ⌝ }
 {
     let next = next_record(body, at);
@@ -63,7 +63,13 @@ fn configure_turn(store: &[u8], request: ZclHeader, body: &[u8], at: usize) -> T
 }
 
 // Lists a failure: status, direction, id.
-fn note(reply: &mut [u8], out: usize, status: Status, direction: u8, id: AttributeId) -> Put
+pub(crate) fn note(
+    reply: &mut [u8],
+    out: usize,
+    status: Status,
+    direction: u8,
+    id: AttributeId,
+) -> Put
     ensures { λ r. ⌜ putting r (now (reply .exit)) ≡ noting (now (reply .entry)) out status (encode (failure (statusCode status) direction (id .0))) ⌝ }
 {
     let n = id.0;

@@ -1,0 +1,71 @@
+-- The header, and the records behind it; the bytes are a table by the requirement. Assumes nothing.
+use borrow.Author.Needs.{needs}
+use lib.ListN.{length}
+use denote.Ref.{now}
+use Rattle.reporting.specs.Carried.{tableIn}
+use Rattle.configure.specs.Inside.{Carries}
+use Rattle.configure.proofs.Settings.{carries-own}
+use Rattle.configure.proofs.Turns.{command-full, command-run, by-bytes}
+use Rattle.configure.proofs.configure_lent.configure_reporting_lent.Statement.{statement}
+use Rattle.configure.proofs.configure_lent.configure_reporting_lent.Tie as tie
+
+begin-reply-requires : tie.Need-begin-reply-requires
+begin-reply-requires c κs = search needs
+
+enum-known-begun : tie.Need-enum-known-begun
+enum-known-begun c = search needs
+
+enum-told : tie.Need-enum-told
+enum-told c = search needs
+
+refuse-requires : tie.Need-refuse-requires
+refuse-requires c κs = search needs
+
+same-length : tie.Need-same-length
+same-length c = search needs
+
+returns : tie.Need-returns
+returns c =
+    let a = c .before .before .before .before .before .before .before .before .before .before .before .before .before .before .args in
+    let bs = now (c .before .before .before .before .before .before .before .before .before .before .before .before .before .before .args .table) in
+    let b = c .before .before .before .before .before .before .before .before .begin-reply in
+    let x = c .before .before .refuse in
+    by-bytes bs bs (λ i. c .before .before .before .before .before .before .before .before .before .before .before .before .slice-known .given i .fits) (command-full (now (a .store)) (a .request) (now (a .body)) (length (now (a .reply))) (x .result) (x .last .0) (tableIn bs) (Carries bs) (carries-own bs (c .before .before .before .before .before .before .before .before .before .before .before .before .before .before .pre)) (b .result) (b .last .0) (b .ensures) (c .before .before .before .before .enum-told .given .1) (x .ensures))
+
+configure-records-lent-requires : tie.Need-configure-records-lent-requires
+configure-records-lent-requires c κs = search needs
+
+conclude-requires : tie.Need-conclude-requires
+conclude-requires c κs = search needs
+
+same-length-2 : tie.Need-same-length-2
+same-length-2 c = search needs
+
+same-length-3 : tie.Need-same-length-3
+same-length-3 c = search needs
+
+returns-2 : tie.Need-returns-2
+returns-2 c =
+    let a = c .before .before .before .before .before .before .before .before .before .before .before .before .before .before .before .before .before .before .before .before .before .before .args in
+    let bs = now (c .before .before .before .before .before .before .before .before .before .before .before .before .before .before .before .before .before .before .before .before .before .before .args .table) in
+    let b = c .before .before .before .before .before .before .before .before .before .before .before .before .before .before .before .before .begin-reply in
+    let f = c .before .before .before .before .before .before .before .before .before .before .before .before .begun .given in
+    let y = c .before .before .before .before .before .before .before .before .configure-records-lent in
+    let x = c .before .before .conclude in
+    by-bytes bs (y .last .1 .0) (λ i. c .before .before .before .before .before .before .slice-known5 .given i .fits) (command-run (now (a .store)) (a .request) (now (a .body)) (length (now (a .reply))) (x .result) (x .last .0) (tableIn bs) (Carries bs) (carries-own bs (c .before .before .before .before .before .before .before .before .before .before .before .before .before .before .before .before .before .before .before .before .before .before .pre)) (b .result) (b .last .0) (b .ensures) (f .0 .0) (f .1) (y .result) (Carries (y .last .1 .0)) (y .last .1 .1 .1 .1 .0) (y .ensures) (y .kept .1 .1 .1 .1 .0) (x .ensures))
+
+pub configure-reporting-lent-spec : {M : Type 1} → statement M
+configure-reporting-lent-spec =
+    tie.close
+    (tie.spec
+    begin-reply-requires
+    enum-known-begun
+    enum-told
+    refuse-requires
+    same-length
+    returns
+    configure-records-lent-requires
+    conclude-requires
+    same-length-2
+    same-length-3
+    returns-2)
