@@ -1,13 +1,11 @@
 -- A configuration: from what the table's methods ensure to the events of its deed, and from the deed to the definition. Assumes nothing.
 use mathlib.Core.Path.{_≡_, refl, sym, ap, _∙_, subst}
-use mathlib.Core.Bool.{Bool, true, false, cond}
+use mathlib.Core.Bool.{Bool, true, false, cond, false≢true}
 use mathlib.Core.List.{List, [], _∷_, _++_, append-nil}
 use Prim.Native.Nat.{ℕ}
-use native.Mathlib.Omega.{arith}
 use borrow.Author.Tests.{eq-eqb, ne-eqb}
 use types.Run.{OneOf, miss}
 use denote.Enum.Declared.{tagOf}
-use Rattle.types.specs.Number.{AllBytes}
 use Rattle.frame.specs.declared.status.Status.{Status}
 use Rattle.frame.specs.declared.status.Status.the-variants.{Success, InvalidValue, InsufficientSpace, UnsupportedAttribute, UnreportableAttribute, InvalidDataType}
 use Rattle.frame.specs.Failures.{Did, did}
@@ -25,11 +23,10 @@ use Rattle.reporting.specs.declared.table.Change.the-variants as ChangeV
 use Rattle.reporting.specs.declared.table.Changed.{Changed}
 use Rattle.reporting.specs.Entries.{acceptsL, configureL, clearL}
 use Rattle.reporting.specs.Table.{room, tableOf, holding, ChangeTold, changeTold, Outcome, outcome, doneT, fullT, configureT, clearT}
-use Rattle.reporting.specs.Carried.{tableIn, isTable, tableBytes, Reading, seen, readT}
+use Rattle.reporting.specs.Carried.{tableIn, isTable, Reading, seen, readT}
 use Rattle.reporting.specs.Lent.{ChangeKept, keptAs, configureIn}
 use Rattle.reporting.specs.Events.{Event, configured, cleared, run, Wish, clears, wrong, sets, wish, statusW, eventsW}
 use Rattle.reporting.proofs.Histories.{run-append, configure-refused}
-use Rattle.reporting.proofs.CarriageTable.{bytes-back}
 use Rattle.configure.specs.Configure.{checked, setting}
 use Rattle.configure.specs.declared.settle.Deed.{Deed}
 use Rattle.configure.specs.Inside.{Holds, Carries, Judges, Does, Settles}
@@ -61,9 +58,7 @@ module _ (k : Key) (t : ReportingTable) (r : Changed) where
 
 reading-is : (b : Bool) (m l : List Entry) → cond b (seen true m) (seen false []) ≡ seen true l → (b ≡ true) × (m ≡ l)
 reading-is true m l e = (refl, ap (λ (x : Reading). x .entries) e)
-reading-is false m l e =
-    let z : _≡_ {A = ℕ} 0 1 = ap (λ (x : Reading). cond (x .known) 1 0) e in
-    absurd (omega arith)
+reading-is false m l e = absurd (false≢true (ap (λ (x : Reading). x .known) e))
 
 -- bytes that carry entries are a table, and it holds these
 pub carries-is : (bs : List ℕ) (l : List Entry) → Carries bs l → (isTable room bs ≡ true) × (tableIn bs ≡ l)
@@ -74,12 +69,6 @@ carries-is bs l h = reading-is (isTable room bs) (tableIn bs) l h
 pub carries-own : (bs : List ℕ) → isTable room bs ≡ true → Carries bs (tableIn bs)
 unfolding readT
 carries-own bs e = rw e refl
-
--- they are the only bytes that carry them
-pub carries-bytes : (bs : List ℕ) (l : List Entry) → AllBytes bs → Carries bs l → bs ≡ tableBytes room l
-carries-bytes bs l b h =
-    let w = carries-is bs l h in
-    sym (bytes-back room bs b (w .0)) ∙ ap (tableBytes room) (w .1)
 
 -- what a function on the bytes did is what the deed's events leave
 module _ (k : Key) (bs after : List ℕ) where

@@ -38,12 +38,13 @@ use Rattle.reporting.specs.Table.{room, Table, sound, bad, live, tableOf, holdi
 use Rattle.reporting.specs.Carried.{tableIn, isTable}
 use Rattle.reporting.specs.Events.{Event, run}
 use Rattle.reporting.proofs.Slots.{live-length}
+use Rattle.reporting.proofs.Lending.{seen-bytes}
 use Rattle.configure.specs.Request.{keyFor, received, reported, configureAt, configures}
 use Rattle.configure.specs.Configure.{Failure, failure, encode, checked, setting, tried, configuring, configureEvents, left, configureOf, onBytes}
 use Rattle.configure.specs.declared.settle.Deed.{Deed}
 use Rattle.configure.specs.Inside.{Holds, Carries, Judges, Does, Settles, Took, Runs}
 use Rattle.configure.proofs.Items.{ahead}
-use Rattle.configure.proofs.Settings.{carries-is, carries-own, carries-bytes}
+use Rattle.configure.proofs.Settings.{carries-is, carries-own}
 
 -- a failure takes bytes
 pub some : (f : Failure) → 0 < length (encode f)
@@ -188,4 +189,4 @@ module _ {s : List ℕ} {request : ZclHeader} {body : List ℕ} {n : ℕ} {l : L
 
   pub by-bytes : (bs after : List ℕ) → AllBytes after → Came s request body n l x d (Carries after) → seen x d after ≡ onBytes bs (configureOf 8 room s (holding l) request body n)
   unfolding configureOf
-  by-bytes bs after b w = ap (seen x d) (carries-bytes after (run room (w .events) l) b (w .left)) ∙ ap (λ (o : Outcome (List Event)). onBytes bs (left room l o)) (w .says)
+  by-bytes bs after b w = ap (seen x d) (seen-bytes (run room (w .events) l) after b (w .left)) ∙ ap (λ (o : Outcome (List Event)). onBytes bs (left room l o)) (w .says)
