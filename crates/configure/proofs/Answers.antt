@@ -1,4 +1,4 @@
--- The record for what is asked, by what is found in the store and in the table. Assumes nothing.
+-- The record for what is asked: what is sought by the store, and what the table gives. Assumes nothing.
 use mathlib.Core.Path.{_≡_, refl, sym, ap, _∙_}
 use mathlib.Core.Bool.{true, false, true≢false, false≢true}
 use mathlib.Core.Option.{Option, none, some}
@@ -8,8 +8,11 @@ use borrow.Author.Tests.{eq-eqb, ne-eqb}
 use denote.Enum.Declared.{tagOf}
 use types.Run.{OneOf, miss}
 use Rattle.frame.specs.declared.header.ZclHeader.{ZclHeader}
+use Rattle.frame.specs.declared.reply.Put.{Put}
 use Rattle.frame.specs.declared.status.Status.the-variants.{UnsupportedAttribute, UnreportableAttribute, NotFound}
 use Rattle.frame.specs.Status.{statusCode}
+use Rattle.frame.specs.Reply.{putting, put}
+use Rattle.frame.proofs.Shortened.{turned-put}
 use Rattle.store.specs.declared.lookup.Attribute.{Attribute}
 use Rattle.store.specs.declared.lookup.Found.{Found}
 use Rattle.store.specs.declared.lookup.Found.the-variants.{At, Nothing}
@@ -21,67 +24,74 @@ use Rattle.reporting.proofs.table.Setting as setting-type
 use Rattle.reporting.specs.declared.table.Setting.{Setting}
 use Rattle.reporting.specs.declared.table.Setting.the-variants as SettingV
 use Rattle.reporting.specs.Entries.{lookupL}
-use Rattle.reporting.specs.Table.{Table, sound, SettingTold, settingTold, settingO, configurationT}
+use Rattle.reporting.specs.Table.{SettingTold, settingTold, settingO}
+use Rattle.configure.specs.declared.seek.Sought.{Sought}
 use Rattle.configure.specs.Request.{Asked, asked, keyFor}
-use Rattle.configure.specs.Configuration.{SettingRecord, setting, failure, sentAs, settingBy, recordBy, recordFor}
+use Rattle.configure.specs.Configuration.{SettingRecord, setting, failure, encode, sentAs, settingBy, recordBy, recordFor}
+use Rattle.configure.specs.Inside.{soughtBy, Seeks, Answered}
 
--- ---- what the table says of an entry
+-- ---- what the table gives
 
 module _ (r : Asked) (t : ℕ) where
-  -- it gives a configuration: the record has it, as it is sent
-  setting-given : (o : Option Entry) (g : ReportingConfig) → settingTold (SettingV.Given g) ≡ settingO o
-      → settingBy o r t ≡ setting (r .direction) (r .id) t (sentAs t g)
+  -- a configuration: the record has it, as it is sent
+  setting-given : (o : Option Entry) (g : ReportingConfig) → settingTold (SettingV.Given g) ≡ settingO o → setting (r .direction) (r .id) t (sentAs t g) ≡ settingBy o r t
   setting-given none g e = absurd (true≢false (ap (λ (y : SettingTold). y .found) e))
-  setting-given (some x) g e = ap (λ (y : ReportingConfig). setting (r .direction) (r .id) t (sentAs t y)) (sym (ap (λ (y : SettingTold). y .configuration) e))
+  setting-given (some x) g e = ap (λ (y : ReportingConfig). setting (r .direction) (r .id) t (sentAs t y)) (ap (λ (y : SettingTold). y .configuration) e)
 
-  -- it gives none: 8b
-  setting-none : (o : Option Entry) (a : Setting) → OneOf (1 ∷ 2 ∷ []) (tagOf setting-type.the-type a) → settingTold a ≡ settingO o
-      → settingBy o r t ≡ failure (statusCode NotFound) (r .direction) (r .id)
-  setting-none none a h e = refl
-  setting-none (some x) (SettingV.Given g) h e = absurd (miss (1 ∷ 2 ∷ []) 0 tt h)
-  setting-none (some x) SettingV.Nothing h e = absurd (false≢true (ap (λ (y : SettingTold). y .found) e))
-  setting-none (some x) (SettingV.Refused why) h e = absurd (false≢true (ap (λ (y : SettingTold). y .found) e))
+  -- none: 8b
+  setting-none : (o : Option Entry) (x : Setting) → OneOf (1 ∷ 2 ∷ []) (tagOf setting-type.the-type x) → settingTold x ≡ settingO o
+      → failure (statusCode NotFound) (r .direction) (r .id) ≡ settingBy o r t
+  setting-none none x h e = refl
+  setting-none (some y) (SettingV.Given g) h e = absurd (miss (1 ∷ 2 ∷ []) 0 tt h)
+  setting-none (some y) SettingV.Nothing h e = absurd (false≢true (ap (λ (y : SettingTold). y .found) e))
+  setting-none (some y) (SettingV.Refused why) h e = absurd (false≢true (ap (λ (y : SettingTold). y .found) e))
 
--- ---- what is found in the store
+  -- the same of what is put
+  module _ (d : List ℕ) (out : ℕ) (p : Put) (after : List ℕ) (x : Setting) (o : Option Entry) (told : settingTold x ≡ settingO o) where
+    pub put-given : (g : ReportingConfig) → x ≡ SettingV.Given g → putting p after ≡ put d out (encode (setting (r .direction) (r .id) t (sentAs t g)))
+        → putting p after ≡ put d out (encode (settingBy o r t))
+    put-given g is e = e ∙ ap (λ (y : SettingRecord). put d out (encode y)) (setting-given o g (ap settingTold (sym is) ∙ told))
 
-module _ (s : List ℕ) (l : List Entry) (request : ZclHeader) (direction id : ℕ) where
-  abbrev made : SettingRecord
-  made = recordFor 8 s l request (asked direction id)
+    pub put-none : OneOf (1 ∷ 2 ∷ []) (tagOf setting-type.the-type x) → putting p after ≡ put d out (encode (failure (statusCode NotFound) (r .direction) (r .id)))
+        → putting p after ≡ put d out (encode (settingBy o r t))
+    put-none h e = e ∙ ap (λ (y : SettingRecord). put d out (encode y)) (setting-none o x h told)
 
-  by-found : (f : Found) → findOf 8 s (nameOf (request .«manufacturer_code» .0) id) ≡ f → made ≡ recordBy l (keyFor s request id) (asked direction id) f
+-- ---- what is sought, by what is found in the store
+
+module _ (s : List ℕ) (request : ZclHeader) (direction id : ℕ) where
+  by-found : (f : Found) → findOf 8 s (nameOf (request .«manufacturer_code» .0) id) ≡ f → (l : List Entry)
+      → recordBy l (keyFor s request id) (asked direction id) f ≡ recordFor 8 s l request (asked direction id)
   unfolding recordFor
-  by-found f e = ap (recordBy l (keyFor s request id) (asked direction id)) e
+  by-found f e l = ap (recordBy l (keyFor s request id) (asked direction id)) (sym e)
 
   -- no attribute: 86
-  pub made-nothing : findOf 8 s (nameOf (request .«manufacturer_code» .0) id) ≡ Nothing → made ≡ failure (statusCode UnsupportedAttribute) direction id
+  pub seeks-nothing : findOf 8 s (nameOf (request .«manufacturer_code» .0) id) ≡ Nothing → Seeks s request direction id (Sought.Fails UnsupportedAttribute)
   unfolding recordBy
-  made-nothing e = by-found Nothing e
+  seeks-nothing e l = by-found Nothing e l
 
   module _ (a : Attribute) (found : findOf 8 s (nameOf (request .«manufacturer_code» .0) id) ≡ At a) where
     -- of what this device receives: 8c
-    pub made-received : (direction ≡ 0 → ⊥) → made ≡ failure (statusCode UnreportableAttribute) direction id
+    pub seeks-received : (direction ≡ 0 → ⊥) → Seeks s request direction id (Sought.Fails UnreportableAttribute)
     unfolding recordBy
-    made-received h = by-found (At a) found ∙ rw (ne-eqb direction 0 h)
+    seeks-received h l = sym (sym (by-found (At a) found l) ∙ rw (ne-eqb direction 0 h))
 
     module _ (zero : direction ≡ 0) where
       -- not reportable: 8c
-      pub made-unreportable : reportable a ≡ false → made ≡ failure (statusCode UnreportableAttribute) direction id
+      pub seeks-unreportable : reportable a ≡ false → Seeks s request direction id (Sought.Fails UnreportableAttribute)
       unfolding recordBy
-      made-unreportable h = by-found (At a) found ∙ rw (eq-eqb direction 0 zero, h)
+      seeks-unreportable h l = sym (sym (by-found (At a) found l) ∙ rw (eq-eqb direction 0 zero, h))
 
-      -- else as the table says, if it holds these entries
-      module _ (is : reportable a ≡ true) (T : Table) (n : ℕ) (holds : T ≡ sound n l) (k : Key) (named : k ≡ keyFor s request id) (x : Setting) (told : settingTold x ≡ configurationT k T) where
-        by-entry : made ≡ settingBy (lookupL (keyFor s request id) l) (asked direction id) (a .«type_id» .0)
-        unfolding recordBy
-        by-entry = by-found (At a) found ∙ rw (eq-eqb direction 0 zero, is)
+      -- else the entry, and the attribute's type
+      pub seeks-entry : reportable a ≡ true → (k : Key) → k ≡ keyFor s request id → Seeks s request direction id (Sought.Entry k (a .«type_id»))
+      unfolding recordBy
+      seeks-entry h k named l =
+          ap (λ (j : Key). settingBy (lookupL j l) (asked direction id) (a .«type_id» .0)) named
+          ∙ sym (sym (by-found (At a) found l) ∙ rw (eq-eqb direction 0 zero, h))
 
-        said : settingTold x ≡ settingO (lookupL (keyFor s request id) l)
-        said = told ∙ ap (configurationT k) holds ∙ ap (λ (j : Key). settingO (lookupL j l)) named
+-- ---- one that is asked, in a table with these entries
 
-        -- no entry: 8b
-        pub made-none : OneOf (1 ∷ 2 ∷ []) (tagOf setting-type.the-type x) → made ≡ failure (statusCode NotFound) direction id
-        made-none h = by-entry ∙ setting-none (asked direction id) (a .«type_id» .0) (lookupL (keyFor s request id) l) x h said
-
-        -- what is configured, as it is sent
-        pub made-given : (g : ReportingConfig) → x ≡ SettingV.Given g → made ≡ setting direction id (a .«type_id» .0) (sentAs (a .«type_id» .0) g)
-        made-given g e = by-entry ∙ setting-given (asked direction id) (a .«type_id» .0) (lookupL (keyFor s request id) l) g (ap settingTold (sym e) ∙ said)
+-- what is put for what was sought is the answer
+pub answered : (s : List ℕ) (l : List Entry) (request : ZclHeader) (direction id : ℕ) (x y : Sought) → Seeks s request direction id x → x ≡ y → (d : List ℕ) (out : ℕ) (p : Put) (after : List ℕ)
+    → putting p after ≡ put d out (encode (soughtBy l (asked direction id) y)) → Answered s l request direction id d out p after
+answered s l request direction id x y seeks e d out p after g =
+    turned-put encode (λ fit. recordFor 8 s l request) (asked direction id) d out (soughtBy l (asked direction id) y) (λ fit. sym (seeks l) ∙ ap (soughtBy l (asked direction id)) e) p after g

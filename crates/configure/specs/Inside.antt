@@ -13,8 +13,8 @@ use Rattle.frame.specs.Failures.{Did, did}
 use Rattle.frame.specs.Passes.{Passed}
 use Rattle.reporting.specs.declared.entry.Entry.{Entry}
 use Rattle.reporting.specs.declared.table.ReportingTable.{ReportingTable}
-use Rattle.reporting.specs.Entries.{acceptsL}
-use Rattle.reporting.specs.Table.{room, tableOf, holding, sound}
+use Rattle.reporting.specs.Entries.{acceptsL, lookupL}
+use Rattle.reporting.specs.Table.{room, tableOf, holding}
 use Rattle.reporting.specs.Carried.{seen, readT}
 use Rattle.reporting.specs.Events.{Event, cleared, run, sets, statusW, eventsW}
 use Rattle.configure.specs.declared.record.Next.{Next}
@@ -27,7 +27,8 @@ use Rattle.frame.specs.declared.answer.Answer.{Answer}
 use Rattle.frame.specs.declared.reply.Put.{Put}
 use Rattle.frame.specs.Shortened.{Turned, Walked}
 use Rattle.configure.specs.declared.configuration.NextAsked.{NextAsked}
-use Rattle.configure.specs.Configuration.{encode, recordFor}
+use Rattle.configure.specs.declared.seek.Sought.{Sought}
+use Rattle.configure.specs.Configuration.{SettingRecord, encode, settingBy, recordFor}
 use Rattle.configure.specs.declared.configuration.NextAsked.the-variants as NextAskedV
 
 -- ---- 06: one record
@@ -96,12 +97,19 @@ abbrev pub askedItem : NextAsked → Item Asked
 askedItem (NextAskedV.Asked direction id next) = item (asked direction (id .0)) next
 askedItem NextAskedV.Cut = unread
 
--- one that is asked was answered, from a table with whatever entries
-abbrev pub Answered : List ℕ → ReportingTable → ZclHeader → ℕ → ℕ → List ℕ → ℕ → Put → List ℕ → Type 0
-Answered s table request direction id d out r after =
-    (n : ℕ) (l : List Entry) → tableOf table ≡ sound n l → Turned encode (λ fit. recordFor 8 s l request) (asked direction id) d out r after
+-- the record that is sent for what is sought, from these entries
+abbrev pub soughtBy : List Entry → Asked → Sought → SettingRecord
+soughtBy l r (Sought.Fails why) = SettingRecord.failure (statusCode why) (r .direction) (r .id)
+soughtBy l r (Sought.Entry k t) = settingBy (lookupL k l) r (t .0)
+
+-- it is what the definition wants, whatever the entries
+abbrev pub Seeks : List ℕ → ZclHeader → ℕ → ℕ → Sought → Type 0
+Seeks s request direction id x = (l : List Entry) → soughtBy l (asked direction id) x ≡ recordFor 8 s l request (asked direction id)
+
+-- one that is asked was answered, from a table with these entries
+abbrev pub Answered : List ℕ → List Entry → ZclHeader → ℕ → ℕ → List ℕ → ℕ → Put → List ℕ → Type 0
+Answered s l request direction id d out r after = Turned encode (λ fit. recordFor 8 s l request) (asked direction id) d out r after
 
 -- every one was
-abbrev pub AllAnswered : List ℕ → ReportingTable → ZclHeader → List ℕ → List ℕ → ℕ → Answer → List ℕ → Type 0
-AllAnswered s table request body d from r after =
-    (n : ℕ) (l : List Entry) → tableOf table ≡ sound n l → Walked encode (λ fit. recordFor 8 s l request) (askedAt body) (length body) d from r after
+abbrev pub AllAnswered : List ℕ → List Entry → ZclHeader → List ℕ → List ℕ → ℕ → Answer → List ℕ → Type 0
+AllAnswered s l request body d from r after = Walked encode (λ fit. recordFor 8 s l request) (askedAt body) (length body) d from r after

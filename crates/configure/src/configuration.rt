@@ -1,14 +1,20 @@
 // Read Reporting Configuration: a record of the reply for each that was asked, as long as they fit.
 ghost use mathlib.Core.Path.{_≡_};
+ghost use mathlib.Core.List.{List};
+ghost use mathlib.Core.Option.{Option};
+ghost use Prim.Native.Nat.{ℕ};
 ghost use lib.ListN.{length};
 ghost use Rattle.frame.specs.Status.{statusCode};
 ghost use Rattle.frame.specs.Answer.{seen, noState};
 ghost use Rattle.frame.specs.Reply.{putting, put};
-ghost use Rattle.reporting.specs.Table.{tableOf};
-ghost use Rattle.configure.specs.Request.{askedAt};
-ghost use Rattle.configure.specs.Configuration.{setting, failure, encode, sentAs, configurationOf};
+ghost use Rattle.reporting.specs.declared.entry.Entry.{Entry};
+ghost use Rattle.reporting.specs.Table.{sound, tableOf, settingTold, settingO};
+ghost use Rattle.configure.specs.Request.{asked, askedAt};
+ghost use Rattle.configure.specs.Configuration.{setting, failure, encode, sentAs, settingBy, configurationOf};
 ghost use Rattle.configure.specs.Inside.{askedItem, Answered, AllAnswered};
 use super::change::change_width;
+use super::seek::Sought;
+use super::seek::seek;
 use frame::answer::Answer;
 use frame::answer::Refusal;
 use frame::answer::refuse;
@@ -19,16 +25,10 @@ use frame::reply::Put;
 use frame::reply::clear;
 use frame::reply::put_run;
 use frame::status::Status;
-use reporting::entry::Key;
 use reporting::entry::ReportingConfig;
 use reporting::table::Length;
 use reporting::table::ReportingTable;
 use reporting::table::Setting;
-use store::lookup::Found;
-use store::lookup::cluster_of;
-use store::lookup::find;
-use store::lookup::is_reportable;
-use store::lookup::name_of;
 use types::ids::AttributeId;
 use types::ids::TypeId;
 use types::number::byte_at;
@@ -36,13 +36,13 @@ use types::number::le_bytes;
 use types::number::u16_at;
 
 // What is asked, and where the next one starts; or that it is cut.
-enum NextAsked {
+pub(crate) enum NextAsked {
     Asked(u8, AttributeId, usize),
     Cut,
 }
 
 // The direction and id at `at`.
-fn next_asked(body: &[u8], at: usize) -> NextAsked
+pub(crate) fn next_asked(body: &[u8], at: usize) -> NextAsked
     ensures { λ r. ⌜ askedItem r ≡ askedAt (now (body .entry)) at ⌝ }
 {
     if body.len() < 3 {
@@ -56,7 +56,13 @@ fn next_asked(body: &[u8], at: usize) -> NextAsked
 }
 
 // Puts status, direction and id.
-fn put_failure(reply: &mut [u8], out: usize, why: Status, direction: u8, id: AttributeId) -> Put
+pub(crate) fn put_failure(
+    reply: &mut [u8],
+    out: usize,
+    why: Status,
+    direction: u8,
+    id: AttributeId,
+) -> Put
     ensures { λ r. ⌜ putting r (now (reply .exit)) ≡ put (now (reply .entry)) out (encode (failure (statusCode why) direction (id .0))) ⌝ }
 {
     let n = id.0;
@@ -107,7 +113,24 @@ fn put_setting(
     put_run(reply, out, &all[..end])
 }
 
-// One that is asked: 86, 8c, 8c, 8b, or what is configured.
+// Puts what the table gives: 8b where that is nothing.
+pub(crate) fn put_found(
+    reply: &mut [u8],
+    out: usize,
+    direction: u8,
+    id: AttributeId,
+    type_id: TypeId,
+    setting: Setting,
+) -> Put
+    ensures { λ r. ⌜ ((o : Option Entry) → settingTold setting ≡ settingO o → putting r (now (reply .exit)) ≡ put (now (reply .entry)) out (encode (settingBy o (asked direction (id .0)) («type_id» .0)))) ⌝ }
+{
+    let Setting::Given(config) = setting else {
+        return put_failure(reply, out, Status::NotFound, direction, id);
+    };
+    put_setting(reply, out, direction, id, type_id, config)
+}
+
+// One that is asked: a failure, or what the table gives.
 fn configuration_turn(
     store: &[u8],
     table: ReportingTable,
@@ -117,26 +140,16 @@ fn configuration_turn(
     reply: &mut [u8],
     out: usize,
 ) -> Put
-    ensures { λ r. ⌜ Answered (now (store .entry)) table request direction (id .0) (now (reply .entry)) out r (now (reply .exit)) ⌝ }
+    ensures { λ r. ⌜ ((n : ℕ) (l : List Entry) → tableOf table ≡ sound n l → Answered (now (store .entry)) l request direction (id .0) (now (reply .entry)) out r (now (reply .exit))) ⌝ }
 {
-    let name = name_of(request.manufacturer_code, id);
-    let Found::At(a) = find(store, name) else {
-        return put_failure(reply, out, Status::UnsupportedAttribute, direction, id);
-    };
-    if direction != 0 {
-        return put_failure(reply, out, Status::UnreportableAttribute, direction, id);
+    let sought = seek(store, request, direction, id);
+    match sought {
+        Sought::Fails(why) => put_failure(reply, out, why, direction, id),
+        Sought::Entry(key, type_id) => {
+            let setting = table.configuration(key);
+            put_found(reply, out, direction, id, type_id, setting)
+        }
     }
-    if !is_reportable(a) {
-        return put_failure(reply, out, Status::UnreportableAttribute, direction, id);
-    }
-    let key = Key {
-        cluster: cluster_of(store),
-        attribute: id,
-    };
-    let Setting::Given(config) = table.configuration(key) else {
-        return put_failure(reply, out, Status::NotFound, direction, id);
-    };
-    put_setting(reply, out, direction, id, a.type_id, config)
 }
 
 // Every record of the body, behind a header that ends at `from`. The walk stops without error at the first record that does not fit.
@@ -148,7 +161,7 @@ fn configuration_records(
     reply: &mut [u8],
     from: usize,
 ) -> Answer
-    ensures { λ r. ⌜ AllAnswered (now (store .entry)) table request (now (body .entry)) (now (reply .entry)) from r (now (reply .exit)) ⌝ }
+    ensures { λ r. ⌜ ((n : ℕ) (l : List Entry) → tableOf table ≡ sound n l → AllAnswered (now (store .entry)) l request (now (body .entry)) (now (reply .entry)) from r (now (reply .exit))) ⌝ }
 {
     let mut at: usize = 0;
     let mut out = from;

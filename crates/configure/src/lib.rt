@@ -7,4 +7,5 @@ pub mod configure_lent;
 mod key;
 mod pass;
 mod record;
+mod seek;
 mod settle;
