@@ -11,7 +11,7 @@ use Rattle.reporting.proofs.Unique.{alike}
 use Rattle.configure.specs.declared.configure.Configured.{Configured}
 use Rattle.configure.specs.Configuration.{configurationOf}
 use Rattle.configure.specs.Configure.{configureOf, onBytes}
-use Rattle.configure.specs.Unique.{ChangeWidthOnce, ReadReportingConfigurationOnce, ConfigureReportingOnce, ConfigureReportingLentOnce}
+use Rattle.configure.specs.Unique.{ChangeWidthOnce, ReadReportingConfigurationOnce, ReadReportingConfigurationLentOnce, ConfigureReportingOnce, ConfigureReportingLentOnce}
 
 pub one-configured : (o : Outcome Table) (r s : Configured) (d e : List ℕ) → seen (r .answer) d (tableOf (r .table)) ≡ o → seen (s .answer) e (tableOf (s .table)) ≡ o
     → (r .answer ≡ s .answer) × ((d ≡ e) × Alike (r .table) (s .table))
@@ -29,6 +29,13 @@ change-width-once «type_id» r q e f = e ∙ sym f
 pub read-reporting-configuration-once : ReadReportingConfigurationOnce
 read-reporting-configuration-once store table request body reply r q x y e f =
     let w = only-one (configurationOf 8 store (tableOf table) request body (length reply)) r q x y noState noState e f in
+    (w .0, w .1 .0)
+
+-- src/configuration_lent.rt
+
+pub read-reporting-configuration-lent-once : ReadReportingConfigurationLentOnce
+read-reporting-configuration-lent-once store table request body reply r q x y e f =
+    let w = only-one (configurationOf 8 store (holding (tableIn table)) request body (length reply)) r q x y noState noState e f in
     (w .0, w .1 .0)
 
 -- src/configure.rt

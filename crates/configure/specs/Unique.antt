@@ -27,6 +27,14 @@ ReadReportingConfigurationOnce =
     → seen q y noState ≡ configurationOf 8 store (tableOf table) request body (length reply)
     → (r ≡ q) × (x ≡ y)
 
+-- src/configuration_lent.rt
+abbrev pub ReadReportingConfigurationLentOnce : Type 0
+ReadReportingConfigurationLentOnce =
+    (store table : List ℕ) (request : ZclHeader) (body reply : List ℕ) (r q : Answer) (x y : List ℕ)
+    → seen r x noState ≡ configurationOf 8 store (holding (tableIn table)) request body (length reply)
+    → seen q y noState ≡ configurationOf 8 store (holding (tableIn table)) request body (length reply)
+    → (r ≡ q) × (x ≡ y)
+
 -- src/configure.rt
 abbrev pub ConfigureReportingOnce : Type 0
 ConfigureReportingOnce =
