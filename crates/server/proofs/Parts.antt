@@ -168,23 +168,26 @@ module _ (form limit : ℕ) (s : List ℕ) (t : Table) (unicast : Bool) (h : Zcl
 pub table-not-needed : TableNotNeeded
 table-not-needed form limit s t unicast h body room e = typed-alone form limit s t unicast h body room (frameTypeOf (h .«frame_control» .0)) e
 
--- ---- a frame that needs the table
+-- ---- a frame that needs the table: a global command, one of the two
+
+uses-so : (k : FrameType) (b : Bool) → (isGlobal k && b) ≡ true → b ≡ true
+uses-so GlobalCommand b e = e
+uses-so ClusterCommand b e = absurd (false≢true e)
+uses-so Reserved b e = absurd (false≢true e)
+
+pub needed-uses : (h : ZclHeader) → needsTable h ≡ true → usesTable (commandOf (h .«command_identifier» .0)) ≡ true
+needed-uses h e = uses-so (frameTypeOf (h .«frame_control» .0)) _ e
 
 module _ (form limit : ℕ) (s : List ℕ) (t : Table) (unicast : Bool) (h : ZclHeader) (body : List ℕ) (room : ℕ) where
-  by-need : (k : FrameType) → (isGlobal k && usesTable (commandOf (h .«command_identifier» .0))) ≡ true
-      → (usesTable (commandOf (h .«command_identifier» .0)) ≡ true) × (commanded form limit s t unicast h body room (commandOf (h .«command_identifier» .0)) ≡ typed form limit s t unicast h body room k)
+  typed-so : (k : FrameType) (b : Bool) → (isGlobal k && b) ≡ true → commanded form limit s t unicast h body room (commandOf (h .«command_identifier» .0)) ≡ typed form limit s t unicast h body room k
   unfolding typed
-  by-need GlobalCommand e = (e, refl)
-  by-need ClusterCommand e = absurd (false≢true e)
-  by-need Reserved e = absurd (false≢true e)
+  typed-so GlobalCommand b e = refl
+  typed-so ClusterCommand b e = absurd (false≢true e)
+  typed-so Reserved b e = absurd (false≢true e)
 
-  -- it is a global command, one of the two
-  module _ (e : needsTable h ≡ true) where
-    pub needed-uses : usesTable (commandOf (h .«command_identifier» .0)) ≡ true
-    needed-uses = by-need (frameTypeOf (h .«frame_control» .0)) e .0
-
-    pub needed-typed : (c : CommandIdentifier) → commandOf (h .«command_identifier» .0) ≡ c → commanded form limit s t unicast h body room c ≡ typed form limit s t unicast h body room (frameTypeOf (h .«frame_control» .0))
-    needed-typed c q = ap (commanded form limit s t unicast h body room) (sym q) ∙ by-need (frameTypeOf (h .«frame_control» .0)) e .1
+  pub needed-typed : needsTable h ≡ true → (c : CommandIdentifier) → commandOf (h .«command_identifier» .0) ≡ c
+      → commanded form limit s t unicast h body room c ≡ typed form limit s t unicast h body room (frameTypeOf (h .«frame_control» .0))
+  needed-typed e c q = ap (commanded form limit s t unicast h body room) (sym q) ∙ typed-so (frameTypeOf (h .«frame_control» .0)) _ e
 
 -- ---- the commands by their tags
 
