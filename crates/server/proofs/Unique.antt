@@ -13,10 +13,10 @@ use Rattle.reporting.proofs.Unique.{alike}
 use Rattle.server.specs.declared.serve.Served.{Served}
 use Rattle.server.specs.DefaultResponse.{defaultResponse}
 use Rattle.server.specs.Report.{reportOf}
-use Rattle.server.specs.Serve.{State, state, typed, serve}
+use Rattle.server.specs.Serve.{State, state, serve}
 use Rattle.server.specs.Parts.{storeTyped}
 use Rattle.server.specs.UnsupportedCluster.{unsupportedCluster}
-use Rattle.server.specs.Unique.{OpenRequestOnce, DefaultResponseOnce, ReportOnce, ServeFrameOnce, HandleRequestOnce, UnsupportedClusterOnce, NeedsTableOnce, ServeStoreOnce}
+use Rattle.server.specs.Unique.{OpenRequestOnce, DefaultResponseOnce, ReportOnce, HandleRequestOnce, UnsupportedClusterOnce, NeedsTableOnce, ServeStoreOnce}
 
 -- ---- what is seen of a call tells all that it left
 
@@ -46,9 +46,6 @@ pub report-once : ReportOnce
 report-once store sequence ids frame r q x y e f = one-answered (reportOf 8 store sequence ids (length frame)) r q x y e f
 
 -- src/serve.rt
-
-pub serve-frame-once : ServeFrameOnce
-serve-frame-once store table request body unicast reply r q x y s u e f = one-served (typed 8 room store (tableOf table) unicast request body (length reply) (frameTypeOf (request .«frame_control» .0))) r q x y s u e f
 
 pub handle-request-once : HandleRequestOnce
 handle-request-once store table cluster unicast request reply r q x y s u e f = one-served (serve 8 room store (tableOf table) (cluster .0) unicast request (length reply)) r q x y s u e f

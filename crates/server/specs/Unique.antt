@@ -17,7 +17,7 @@ use Rattle.server.specs.declared.checks.Opened.{Opened}
 use Rattle.server.specs.declared.serve.Served.{Served}
 use Rattle.server.specs.DefaultResponse.{defaultResponse}
 use Rattle.server.specs.Report.{reportOf}
-use Rattle.server.specs.Serve.{state, typed, serve}
+use Rattle.server.specs.Serve.{state, serve}
 use Rattle.server.specs.Parts.{openedOf, needsTable, storeTyped}
 use Rattle.server.specs.UnsupportedCluster.{unsupportedCluster}
 
@@ -46,13 +46,6 @@ ReportOnce =
     → (r ≡ q) × (x ≡ y)
 
 -- src/serve.rt
-abbrev pub ServeFrameOnce : Type 0
-ServeFrameOnce =
-    (store : List ℕ) (table : ReportingTable) (request : ZclHeader) (body : List ℕ) (unicast : Bool) (reply : List ℕ) (r q : Served) (x y s u : List ℕ)
-    → seen (r .answer) x (state s (tableOf (r .table))) ≡ typed 8 room store (tableOf table) unicast request body (length reply) (frameTypeOf (request .«frame_control» .0))
-    → seen (q .answer) y (state u (tableOf (q .table))) ≡ typed 8 room store (tableOf table) unicast request body (length reply) (frameTypeOf (request .«frame_control» .0))
-    → (r .answer ≡ q .answer) × ((x ≡ y) × ((s ≡ u) × Alike (r .table) (q .table)))
-
 abbrev pub HandleRequestOnce : Type 0
 HandleRequestOnce =
     (store : List ℕ) (table : ReportingTable) (cluster : ClusterId) (unicast : Bool) (request reply : List ℕ) (r q : Served) (x y s u : List ℕ)

@@ -63,7 +63,7 @@ fn global_command(
 }
 
 // A frame that passed the checks, by its type: only a global command may need the table.
-pub fn serve_frame(
+fn serve_frame(
     store: &mut [u8],
     table: ReportingTable,
     request: ZclHeader,
