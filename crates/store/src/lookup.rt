@@ -1,6 +1,8 @@
 // The attributes that a store's contents list, and the one of a name. Each function answers for any bytes; past their end they
 // read as 0.
 ghost use mathlib.Core.Path.{_≡_};
+ghost use Prim.Native.Nat.{_+_, _*_, _≤_};
+ghost use lib.ListN.{length};
 ghost use Rattle.store.specs.Contents.{clusterOf, countOf, attributeAt, reportable, nameOf, findOf};
 ghost use Rattle.store.specs.Inside.{foundAt};
 use super::layout::part;
@@ -90,12 +92,38 @@ pub fn is_reportable(a: Attribute) -> bool
     a.access / 2 % 2 == 1
 }
 
-// The number of the first attribute of a name, or how many there are where none has it.
-fn place_of(s: &[u8], name: Name) -> u16
-    ensures { λ r. ⌜ findOf 8 (now (s .entry)) (name .0) ≡ foundAt 8 (now (s .entry)) r ⌝ }
+// The name of attribute i, read without a test. Not public: its two bytes must be there.
+fn name_in(s: &[u8], i: usize) -> u32
+    requires { ⌜ 6 + i * 8 ≤ length (now s) ⌝ }
+    ensures { λ r. ⌜ r ≡ attributeAt 8 (now (s .entry)) i .name .0 ⌝ }
 {
-    let n = count_of(s);
-    let wanted = name.0;
+    let p = 4 + i * 8;
+    s[p] as u32 + 256 * (s[p + 1] as u32)
+}
+
+// The number of the first of n attributes of a name, or n where none has it. Not public: all n entries must be there, so that no
+// byte is asked whether it is.
+fn place_in(s: &[u8], n: u16, wanted: u32) -> u16
+    requires { ⌜ 4 + n * 8 ≤ length (now s) ⌝ }
+    requires { ⌜ n ≡ countOf (now s) ⌝ }
+    ensures { λ r. ⌜ findOf 8 (now (s .entry)) wanted ≡ foundAt 8 (now (s .entry)) r ⌝ }
+{
+    let end = n as usize;
+    let mut i: usize = 0;
+    while i < end {
+        if name_in(s, i) == wanted {
+            return i as u16;
+        }
+        i += 1;
+    }
+    n
+}
+
+// The same of contents that are cut.
+fn place_cut(s: &[u8], n: u16, wanted: u32) -> u16
+    requires { ⌜ n ≡ countOf (now s) ⌝ }
+    ensures { λ r. ⌜ findOf 8 (now (s .entry)) wanted ≡ foundAt 8 (now (s .entry)) r ⌝ }
+{
     let mut i: u16 = 0;
     while i < n {
         let here = name_at(s, i);
@@ -105,6 +133,17 @@ fn place_of(s: &[u8], name: Name) -> u16
         i += 1;
     }
     n
+}
+
+// The number of the first attribute of a name, or how many there are where none has it.
+fn place_of(s: &[u8], name: Name) -> u16
+    ensures { λ r. ⌜ findOf 8 (now (s .entry)) (name .0) ≡ foundAt 8 (now (s .entry)) r ⌝ }
+{
+    let n = count_of(s);
+    if s.len() < 4 + (n as usize) * 8 {
+        return place_cut(s, n, name.0);
+    }
+    place_in(s, n, name.0)
 }
 
 // The attribute of a name. It is read here, where it is wanted: the scan hands back a number, and no attribute goes through memory.

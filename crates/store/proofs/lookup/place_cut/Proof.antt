@@ -4,17 +4,14 @@ use mathlib.Core.Path.{_≡_, refl}
 use native.Mathlib.Omega.{arith}
 use borrow.Author.Needs.{needs}
 use Rattle.store.proofs.Scan.{scan, here, further, nowhere}
-use Rattle.store.proofs.lookup.place_of.Statement.{statement}
-use Rattle.store.proofs.lookup.place_of.Tie as tie
+use Rattle.store.proofs.lookup.place_cut.Statement.{statement}
+use Rattle.store.proofs.lookup.place_cut.Tie as tie
 
 abbrev Inv-loop : tie.InvT-loop
 Inv-loop s n wanted i₀ i = (i ≤ n) × (scan 8 s n i wanted ≡ scan 8 s n 0 wanted)
 
 abbrev μ-loop : tie.MeasureT-loop
 μ-loop s n wanted i₀ i = n - i
-
-count-of-requires : tie.Need-count-of-requires Inv-loop μ-loop
-count-of-requires c κs = search needs
 
 loop-holds : tie.Need-loop-holds Inv-loop μ-loop
 loop-holds c = (omega arith, refl)
@@ -25,7 +22,7 @@ name-at-requires c κs = search needs
 returns : tie.Need-returns Inv-loop μ-loop
 returns c =
     let b = c .before .before .before .before in
-    here 8 _ _ _ _ (b .loop .inv .1) _ (b .before .count-of .ensures) (c .before .before .before .loop-test .taken) (c .before .before .name-at .ensures) (c .if1 .taken)
+    here 8 _ _ _ _ (b .loop .inv .1) _ (b .before .before .pre) (c .before .before .before .loop-test .taken) (c .before .before .name-at .ensures) (c .if1 .taken)
 
 add-i : tie.Need-add-i Inv-loop μ-loop
 add-i c = omega arith
@@ -38,15 +35,14 @@ loop-again c =
     (omega arith, further 8 _ _ _ _ (c .before .before .before .before .loop .inv .1) _ (c .before .before .before .loop-test .taken) (c .before .before .name-at .ensures) (c .if1 .left))
 
 returns-2 : tie.Need-returns-2 Inv-loop μ-loop
-returns-2 c = nowhere 8 _ _ _ _ (c .before .loop .inv .1) (c .before .before .count-of .ensures) (c .loop-test .left)
+returns-2 c = nowhere 8 _ _ _ _ (c .before .loop .inv .1) (c .before .before .before .pre) (c .loop-test .left)
 
-pub place-of-spec : {M : Type 1} → statement M
-place-of-spec =
+pub place-cut-spec : {M : Type 1} → statement M
+place-cut-spec =
     tie.close
     (tie.spec
     Inv-loop
     μ-loop
-    count-of-requires
     loop-holds
     name-at-requires
     returns
