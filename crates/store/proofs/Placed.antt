@@ -12,7 +12,7 @@ use Rattle.store.specs.declared.lookup.Attribute.{Attribute}
 use Rattle.store.specs.Contents.{attributesOf}
 use Rattle.store.specs.Layout.{each, ascending, accessOk, roomOk, lengthOk, followOn, endFrom, unusedOk, bodiesAt, isStore}
 use Rattle.store.proofs.Contents.{length-attributes, attributes-at, In}
-use Rattle.store.proofs.Layouts.{Store, store-is}
+use Rattle.store.proofs.Layouts.{Store, store-is, end-after}
 
 -- ---- over a list of attributes; d stands where there is none
 
@@ -58,11 +58,6 @@ module _ (d : Attribute) where
   follow-from from [] h i b = absurd (omega arith)
   follow-from from (a ∷ more) h zero b = omega (arith, follow-split from a more h .0)
   follow-from from (a ∷ more) h (suc i) b = omega (arith, follow-from (from + a .room) more (follow-split from a more h .1) i (omega arith))
-
-  end-after : (from : ℕ) (l : List Attribute) → from ≤ endFrom from l
-  unfolding endFrom
-  end-after from [] = omega arith
-  end-after from (a ∷ more) = omega (arith, end-after (from + a .room) more)
 
   follow-end : (from : ℕ) (l : List Attribute) → followOn from l ≡ true → (i : ℕ) → i < length l → getD l i d .offset + getD l i d .room ≤ endFrom from l
   unfolding endFrom

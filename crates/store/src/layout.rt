@@ -5,7 +5,7 @@ ghost use lib.ListN.{take, drop};
 ghost use Rattle.store.specs.Layout.{isText, textLength, roomOk, lengthOk, unusedOk, allOf, isStore};
 ghost use Rattle.store.specs.Inside.{entryOk};
 use super::lookup::Attribute;
-use super::lookup::attribute_at;
+use super::lookup::attribute_in;
 use super::lookup::count_of;
 use types::ids::Form;
 use types::number::all_zero;
@@ -84,7 +84,7 @@ fn entry_ok(s: &[u8], a: Attribute, least: usize, from: usize) -> bool
     body_ok(s, a)
 }
 
-// Whether the bytes are a store.
+// Whether the bytes are a store. Bytes that end within the contents are none, so the loop has whole entries before it.
 pub fn is_store(s: &[u8]) -> bool
     ensures { λ r. ⌜ r ≡ isStore 8 (now (s .entry)) ⌝ }
 {
@@ -95,8 +95,11 @@ pub fn is_store(s: &[u8]) -> bool
     let mut i: u16 = 0;
     let mut least: usize = 0;
     let mut from = 4 + (n as usize) * 8;
+    if s.len() < from {
+        return false;
+    }
     while i < n {
-        let a = attribute_at(s, i);
+        let a = attribute_in(s, i);
         if !entry_ok(s, a, least, from) {
             return false;
         }

@@ -64,17 +64,26 @@ fn first(s: &[u8]) -> Attribute
     }
 }
 
-// Attribute i of the contents: the first one, with the i entries before it left out. The 12 bytes that a whole entry ends are lent
-// as such: their number is then known where they are read, and no byte is asked whether it is there.
-pub fn attribute_at(s: &[u8], i: u16) -> Attribute
+// Attribute i, whose entry must be there: hence not public. The 12 bytes that the entry ends are lent as such: their number is
+// then known where they are read, and no byte is asked whether it is there.
+pub(crate) fn attribute_in(s: &[u8], i: u16) -> Attribute
+    requires { ⌜ 12 + i * 8 ≤ length (now s) ⌝ }
     ensures { λ r. ⌜ r ≡ attributeAt 8 (now (s .entry)) i ⌝ }
 {
     let p = (i as usize) * 8;
     let end = p + 12;
-    if s.len() < end {
+    first(&s[p..end])
+}
+
+// Attribute i of the contents: the first one, with the i entries before it left out.
+pub fn attribute_at(s: &[u8], i: u16) -> Attribute
+    ensures { λ r. ⌜ r ≡ attributeAt 8 (now (s .entry)) i ⌝ }
+{
+    let p = (i as usize) * 8;
+    if s.len() < p + 12 {
         return first(part(s, p, 12));
     }
-    first(&s[p..end])
+    attribute_in(s, i)
 }
 
 // The name of attribute i alone, for a scan that reads no more of the entries it passes.

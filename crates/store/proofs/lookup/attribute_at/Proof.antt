@@ -1,8 +1,6 @@
 -- The entry is read where it stands, whole or as far as it is there. Assumes nothing.
-use Prim.Native.Nat.{_*_}
 use mathlib.Core.Path.{ap, _∙_}
-use native.Mathlib.Nat.{add-sub-cancel-left}
-use lib.ListN.{take, drop}
+use native.Mathlib.Omega.{arith}
 use denote.Ref.{now}
 use Rattle.store.specs.Contents.{attributeAt}
 use Rattle.store.proofs.Contents.{first-there}
@@ -13,8 +11,8 @@ use Rattle.store.proofs.lookup.attribute_at.Tie as tie
 mul-p : tie.Need-mul-p
 mul-p c = search needs
 
-add-end : tie.Need-add-end
-add-end c = search needs
+add-if1 : tie.Need-add-if1
+add-if1 c = search needs
 
 part-requires : tie.Need-part-requires
 part-requires c κs = search needs
@@ -27,36 +25,20 @@ returns c =
     let g = c .before .before .before .before .args in
     c .first .ensures ∙ ap (λ l. attributeAt 8 l 0) (c .before .part .ensures) ∙ first-there (now (g .s)) (g .i)
 
-sub-first : tie.Need-sub-first
-sub-first c = search needs
-
-part-first-start : tie.Need-part-first-start
-part-first-start c = search needs
-
-part-first-end : tie.Need-part-first-end
-part-first-end c = search needs
-
-first-requires-2 : tie.Need-first-requires-2
-first-requires-2 c κs = search needs
+attribute-in-requires : tie.Need-attribute-in-requires
+attribute-in-requires c κs = omega arith
 
 returns-2 : tie.Need-returns-2
-returns-2 c =
-    let g = c .before .before .before .before .args in
-    c .first2 .ensures
-    ∙ ap (λ n. attributeAt 8 (take n (drop (g .i * 8) (now (g .s)))) 0) (add-sub-cancel-left (g .i * 8) 12)
-    ∙ first-there (now (g .s)) (g .i)
+returns-2 c = c .attribute-in .ensures
 
 pub attribute-at-spec : {M : Type 1} → statement M
 attribute-at-spec =
     tie.close
     (tie.spec
     mul-p
-    add-end
+    add-if1
     part-requires
     first-requires
     returns
-    sub-first
-    part-first-start
-    part-first-end
-    first-requires-2
+    attribute-in-requires
     returns-2)
