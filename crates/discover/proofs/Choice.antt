@@ -5,9 +5,8 @@ use mathlib.Core.Bool.{Bool, true, false, cond}
 use mathlib.Core.List.{List, [], _∷_}
 use Prim.Native.Nat.{ℕ, zero, suc, _+_, _-_, _*_, _/_, _≤_, _<_, min}
 use native.Mathlib.Omega.{arith}
-use native.Mathlib.Nat.{zero-min, min-zero, suc-min-suc}
 use lib.ListN.{length, take, length-take}
-use lib.Seq.{take-all, take-nil}
+use lib.Seq.{take-all}
 use lib.Dec.{eqb}
 use borrow.Author.Tests.{le-leb, lt-leb, eqb-true, eq-eqb, ne-eqb}
 use Rattle.types.specs.Number.{bytesOf}
@@ -57,12 +56,6 @@ module _ (s : List ℕ) (n start : ℕ) where
       onward-skip k = next ∙ after-skip start a (attributesFrom 8 s (n - (i + 1)) (i + 1)) k
 
 -- ---- how many
-
--- as many as there are, or fewer
-pub take-least : (l : List Attribute) (n : ℕ) → take (min (length l) n) l ≡ take n l
-take-least [] n = rw (zero-min n) (sym (take-nil n))
-take-least (x ∷ l) zero = rw (min-zero (suc (length l))) refl
-take-least (x ∷ l) (suc n) = rw (suc-min-suc (length l) n) (ap (λ (r : List Attribute). x ∷ r) (take-least l n))
 
 length-discovered : (l : List Attribute) → length (discoveredAll l) ≡ length l
 unfolding discoveredAll

@@ -1,10 +1,9 @@
--- The command: its body, its header, the complete byte, and the records. Assumes nothing.
+-- The command: its body, its header, and the list. Assumes nothing.
 use mathlib.Core.Path.{_≡_, sym, ap, _∙_, subst}
 use mathlib.Core.List.{List, [], _∷_, _++_}
 use Prim.Native.Nat.{ℕ, _+_, _-_, _/_, _≤_, _<_, min}
 use native.Mathlib.Omega.{arith}
-use lib.ListN.{length, getD, take, length-append, length-replicate, length-take}
-use lib.Seq.{append-snoc}
+use lib.ListN.{length, getD, take, length-append, length-replicate}
 use borrow.Author.Tests.{le-leb, lt-leb}
 use Rattle.types.specs.Number.{zeros, unsignedAt}
 use Rattle.frame.specs.Reply.{putting, put}
@@ -21,11 +20,8 @@ use Rattle.frame.proofs.Outcome.{seen-reply, seen-refused}
 use Rattle.store.specs.declared.lookup.Attribute.{Attribute}
 use Rattle.store.specs.Contents.{nameOf, attributesOf}
 use Rattle.discover.specs.Discover.{atOrAfter, listed, completeByte, discoverReply, discoverOf}
-use Rattle.discover.specs.Inside.{recordsOf, Fills, Lists}
-use Rattle.discover.proofs.Choice.{take-least, listed-within, complete-one, complete-zero}
-
-least-again : (n a b : ℕ) → n ≡ min a b → min n a ≡ n
-least-again n a b e = omega arith
+use Rattle.discover.specs.Inside.{recordsOf, Fills, listOf, Lists}
+use Rattle.discover.proofs.Choice.{listed-within}
 
 module _ (s : List ℕ) (request : ZclHeader) (body : List ℕ) (room : ℕ) where
   abbrev head : List ℕ
@@ -96,69 +92,34 @@ module _ (s : List ℕ) (request : ZclHeader) (body : List ℕ) (room : ℕ) whe
         pub discover-full : length d₁ ≤ from → refused (length d₁) ReplyTooLong noState ≡ discoverOf 8 s request body room
         discover-full k = refused-as d₁ room-is (omega (arith, room-is, from-is))
 
-        -- the numbers that the code has of the list
-        module _ (start count m n : ℕ) (es : start ≡ nameOf (request .«manufacturer_code» .0) (unsignedAt body 0 2)) (ec : count ≡ length (atOrAfter start (attributesOf 8 s)))
-            (em : m ≡ getD body 2 0) (en : n ≡ min count (min m ((length d₁ - from - 1) / 3))) where
-          count-is : count ≡ length all
-          count-is = ec ∙ ap (λ (k : ℕ). length (atOrAfter k (attributesOf 8 s))) es
-
-          wanted-is : n ≡ min (length all) (min (getD body 2 0) ((room - (length head + 1)) / 3))
-          wanted-is =
-              let k : length d₁ - from - 1 ≡ room - (length head + 1) = omega (arith, room-is, from-is) in
-              en
-              ∙ ap (λ (i : ℕ). min i (min m ((length d₁ - from - 1) / 3))) count-is
-              ∙ ap (λ (i : ℕ). min (length all) (min i ((length d₁ - from - 1) / 3))) em
-              ∙ ap (λ (i : ℕ). min (length all) (min (getD body 2 0) (i / 3))) k
-
+        -- the numbers that the code has of the list, and the list put behind the header
+        module _ (start m n : ℕ) (es : start ≡ nameOf (request .«manufacturer_code» .0) (unsignedAt body 0 2)) (em : m ≡ getD body 2 0) (en : n ≡ min m ((length d₁ - from - 1) / 3))
+            (k : from < length d₁) (r₂ : Put) (d₂ : List ℕ) (lists : Lists s start n d₁ from r₂ d₂) where
           taken : take n all ≡ some
           unfolding listed
-          taken = ap (λ (k : ℕ). take k all) wanted-is ∙ take-least all (min (getD body 2 0) ((room - (length head + 1)) / 3))
+          taken =
+              let j : length d₁ - from - 1 ≡ room - (length head + 1) = omega (arith, room-is, from-is) in
+              ap (λ (i : ℕ). take i all) (en ∙ ap (λ (i : ℕ). min i ((length d₁ - from - 1) / 3)) em ∙ ap (λ (i : ℕ). min (getD body 2 0) (i / 3)) j)
 
-          some-is : length some ≡ n
-          some-is =
-              ap length (sym taken) ∙ length-take n all ∙ least-again n (length all) (min (getD body 2 0) ((room - (length head + 1)) / 3)) wanted-is
+          room-left : length head + 1 ≤ room
+          room-left = omega (arith, room-is, from-is)
 
-          -- the complete byte
-          pub byte-one : n ≡ count → 1 ≡ completeByte all some
-          byte-one e = complete-one all some (some-is ∙ e ∙ count-is)
+          shown : head ++ listOf (atOrAfter start (attributesOf 8 s)) n ≡ whole
+          shown =
+              ap (λ (i : ℕ). head ++ listOf (atOrAfter i (attributesOf 8 s)) n) es ∙ ap (λ (l : List Attribute). head ++ completeByte all l ∷ recordsOf l) taken
 
-          pub byte-zero : (n ≡ count → ⊥) → 0 ≡ completeByte all some
-          byte-zero e = complete-zero all some (λ k. e (sym some-is ∙ k ∙ sym count-is))
+          fills : (r : Put) → r₂ ≡ r → Fills whole room r d₂
+          fills r e =
+              subst (λ (x : Put). Fills whole room x d₂) e
+              (subst (λ (l : List ℕ). Fills l room r₂ d₂) shown (subst (λ (i : ℕ). Fills (head ++ listOf (atOrAfter start (attributesOf 8 s)) n) i r₂ d₂) room-is (lists head (headed .shows))))
 
-          module _ (k : from < length d₁) (b : ℕ) (eb : b ≡ completeByte all some) (r₂ : Put) (d₂ : List ℕ) (p₂ : putting r₂ d₂ ≡ put d₁ from (b ∷ [])) where
-            room-left : length head + 1 ≤ room
-            room-left = omega (arith, room-is, from-is)
+          -- there was room for the list
+          pub discover-listless : r₂ ≡ Full → refused (length d₂) ReplyTooLong noState ≡ discoverOf 8 s request body room
+          discover-listless e =
+              let w : room < length whole = fills Full e in
+              absurd (omega (arith, whole-within room-left))
 
-            -- there was room for the byte
-            pub discover-byteless : r₂ ≡ Full → refused (length d₂) ReplyTooLong noState ≡ discoverOf 8 s request body room
-            discover-byteless q₂ =
-                let w = shows-full d₁ from head (b ∷ []) r₂ d₂ (headed .shows) p₂ q₂ in
-                let l : length (head ++ (b ∷ [])) ≡ length head + 1 = length-append head (b ∷ []) in
-                absurd (omega (arith, w .0, room-is, room-left))
-
-            module _ (first : ℕ) (q₂ : r₂ ≡ At first) (r₃ : Put) (d₃ : List ℕ) (lists : Lists s start n d₂ first r₃ d₃) where
-              flagged : PutAt d₁ head (b ∷ []) first d₂
-              flagged = shows-put d₁ from head (b ∷ []) r₂ first d₂ (headed .shows) p₂ q₂
-
-              shown : head ++ (b ∷ []) ++ recordsOf (take n (atOrAfter start (attributesOf 8 s))) ≡ whole
-              shown =
-                  append-snoc head b (recordsOf (take n (atOrAfter start (attributesOf 8 s))))
-                  ∙ ap (λ (i : ℕ). head ++ i ∷ recordsOf (take n (atOrAfter start (attributesOf 8 s)))) eb
-                  ∙ ap (λ (i : ℕ). head ++ completeByte all some ∷ recordsOf (take n (atOrAfter i (attributesOf 8 s)))) es
-                  ∙ ap (λ (l : List Attribute). head ++ completeByte all some ∷ recordsOf l) taken
-
-              fills : (r : Put) → r₃ ≡ r → Fills whole room r d₃
-              fills r e =
-                  subst (λ (x : Put). Fills whole room x d₃) e
-                  (subst (λ (l : List ℕ). Fills l room r₃ d₃) shown (subst (λ (i : ℕ). Fills (head ++ (b ∷ []) ++ recordsOf (take n (atOrAfter start (attributesOf 8 s)))) i r₃ d₃) (flagged .same ∙ room-is) (lists (head ++ (b ∷ [])) (flagged .shows))))
-
-              -- there was room for the records
-              pub discover-recordless : r₃ ≡ Full → refused (length d₃) ReplyTooLong noState ≡ discoverOf 8 s request body room
-              discover-recordless e =
-                  let w : room < length whole = fills Full e in
-                  absurd (omega (arith, whole-within room-left))
-
-              -- all is put
-              pub discover-listed : (o : ℕ) → r₃ ≡ At o → length d₃ ≡ length d₂ → seen (Reply o) d₃ noState ≡ discoverOf 8 s request body room
-              discover-listed o e l =
-                  seen-reply room d₃ o whole noState (fills (At o) e) (l ∙ flagged .same ∙ room-is) ∙ fits-in room-left ∙ by-body
+          -- all is put
+          pub discover-listed : (o : ℕ) → r₂ ≡ At o → length d₂ ≡ length d₁ → seen (Reply o) d₂ noState ≡ discoverOf 8 s request body room
+          discover-listed o e l =
+              seen-reply room d₂ o whole noState (fills (At o) e) (l ∙ room-is) ∙ fits-in room-left ∙ by-body

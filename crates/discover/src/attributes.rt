@@ -4,9 +4,8 @@ ghost use Prim.Native.Nat.{_/_, min};
 ghost use lib.ListN.{length};
 ghost use Rattle.frame.specs.Answer.{seen, noState};
 ghost use Rattle.frame.specs.Reply.{putting, put};
-ghost use Rattle.store.specs.Contents.{attributesOf};
-ghost use Rattle.discover.specs.Discover.{encode, atOrAfter, discovered, discoverOf};
-ghost use Rattle.discover.specs.Inside.{Lists};
+ghost use Rattle.discover.specs.Discover.{encode, discovered, discoverOf};
+ghost use Rattle.discover.specs.Inside.{Ends, Lists};
 use frame::answer::Answer;
 use frame::answer::Refusal;
 use frame::answer::refuse;
@@ -29,22 +28,12 @@ use types::number::u16_at;
 // The size of a record of the reply: id and type.
 const RECORD: usize = 3;
 
-// How many attributes stand at or after a name.
-fn count_from(store: &[u8], start: Name) -> usize
-    ensures { λ r. ⌜ r ≡ length (atOrAfter (start .0) (attributesOf 8 (now (store .entry)))) ⌝ }
-{
-    let n = count_of(store);
-    let mut count: usize = 0;
-    let mut i: u16 = 0;
-    while i < n {
-        let a = attribute_at(store, i);
-        let name = a.name;
-        if start.0 <= name.0 {
-            count += 1;
-        }
-        i += 1;
-    }
-    count
+// What a scan has put: the records of all attributes at or after a name, or of as many as were wanted where there are more; or they
+// did not fit.
+enum Listing {
+    All(usize),
+    Part(usize),
+    NoRoom,
 }
 
 fn least(a: usize, b: usize) -> usize
@@ -53,11 +42,11 @@ fn least(a: usize, b: usize) -> usize
     if a < b { a } else { b }
 }
 
-// How many of `count` records are listed: up to the maximum, or as many as the room holds.
-fn listed(count: usize, maximum: u8, room: usize) -> usize
-    ensures { λ r. ⌜ r ≡ min count (min maximum (room / 3)) ⌝ }
+// How many records are listed at most: the maximum, or as many as the room holds.
+fn listed(maximum: u8, room: usize) -> usize
+    ensures { λ r. ⌜ r ≡ min maximum (room / 3) ⌝ }
 {
-    least(count, least(maximum as usize, room / RECORD))
+    least(maximum as usize, room / RECORD)
 }
 
 // Puts id and type of an attribute.
@@ -70,27 +59,48 @@ fn put_record(reply: &mut [u8], out: usize, a: Attribute) -> Put
     put_run(reply, out, &three)
 }
 
-// Puts the records of so many attributes at or after a name.
-fn put_records(store: &[u8], start: Name, wanted: usize, reply: &mut [u8], from: usize) -> Put
-    ensures { λ r. ⌜ Lists (now (store .entry)) (start .0) wanted (now (reply .entry)) from r (now (reply .exit)) ⌝ }
+// Puts the records of so many attributes at or after a name. One more ends the scan: there is no second one that counts them.
+fn put_records(store: &[u8], start: Name, wanted: usize, reply: &mut [u8], from: usize) -> Listing
+    ensures { λ r. ⌜ Ends (now (store .entry)) (start .0) wanted (now (reply .entry)) from r (now (reply .exit)) ⌝ }
 {
     let n = count_of(store);
     let mut left = wanted;
     let mut out = from;
     let mut i: u16 = 0;
-    while i < n && 0 < left {
+    while i < n {
         let a = attribute_at(store, i);
         let name = a.name;
         if start.0 <= name.0 {
+            if left == 0 {
+                return Listing::Part(out);
+            }
             let Put::At(o) = put_record(reply, out, a) else {
-                return Put::Full;
+                return Listing::NoRoom;
             };
             out = o;
             left -= 1;
         }
         i += 1;
     }
-    Put::At(out)
+    Listing::All(out)
+}
+
+// Puts the complete byte and the records behind it. The byte is 1 until the scan has met an attribute that is left out.
+fn put_list(store: &[u8], start: Name, wanted: usize, reply: &mut [u8], from: usize) -> Put
+    ensures { λ r. ⌜ Lists (now (store .entry)) (start .0) wanted (now (reply .entry)) from r (now (reply .exit)) ⌝ }
+{
+    let Put::At(first) = put_byte(reply, from, 1) else {
+        return Put::Full;
+    };
+    let listing = put_records(store, start, wanted, reply, first);
+    match listing {
+        Listing::All(out) => Put::At(out),
+        Listing::Part(out) => {
+            reply[from] = 0;
+            Put::At(out)
+        }
+        Listing::NoRoom => Put::Full,
+    }
 }
 
 // Discover Attributes. The store may be any bytes; whoever serves a frame has checked it.
@@ -118,13 +128,8 @@ pub fn discover_attributes(
     if reply.len() <= from {
         return refuse(reply, Refusal::ReplyTooLong);
     }
-    let all = count_from(store, start);
-    let some = listed(all, byte_at(body, 2), reply.len() - from - 1);
-    let complete = if some == all { 1 } else { 0 };
-    let Put::At(first) = put_byte(reply, from, complete) else {
-        return refuse(reply, Refusal::ReplyTooLong);
-    };
-    let Put::At(out) = put_records(store, start, some, reply, first) else {
+    let wanted = listed(byte_at(body, 2), reply.len() - from - 1);
+    let Put::At(out) = put_list(store, start, wanted, reply, from) else {
         return refuse(reply, Refusal::ReplyTooLong);
     };
     Answer::Reply(out)
