@@ -144,24 +144,29 @@ fn place_cut(s: &[u8], n: u16, wanted: u32) -> u16
     n
 }
 
-// The number of the first attribute of a name, or how many there are where none has it.
-fn place_of(s: &[u8], name: Name) -> u16
-    ensures { λ r. ⌜ findOf 8 (now (s .entry)) (name .0) ≡ foundAt 8 (now (s .entry)) r ⌝ }
+// The attribute of a name in contents that are cut.
+fn find_cut(s: &[u8], n: u16, wanted: u32) -> Found
+    requires { ⌜ n ≡ countOf (now s) ⌝ }
+    ensures { λ r. ⌜ r ≡ findOf 8 (now (s .entry)) wanted ⌝ }
 {
-    let n = count_of(s);
-    if s.len() < 4 + (n as usize) * 8 {
-        return place_cut(s, n, name.0);
+    let i = place_cut(s, n, wanted);
+    if n <= i {
+        return Found::Nothing;
     }
-    place_in(s, n, name.0)
+    Found::At(attribute_at(s, i))
 }
 
 // The attribute of a name. It is read here, where it is wanted: the scan hands back a number, and no attribute goes through memory.
 pub fn find(s: &[u8], name: Name) -> Found
     ensures { λ r. ⌜ r ≡ findOf 8 (now (s .entry)) (name .0) ⌝ }
 {
-    let i = place_of(s, name);
-    if count_of(s) <= i {
+    let n = count_of(s);
+    if s.len() < 4 + (n as usize) * 8 {
+        return find_cut(s, n, name.0);
+    }
+    let i = place_in(s, n, name.0);
+    if n <= i {
         return Found::Nothing;
     }
-    Found::At(attribute_at(s, i))
+    Found::At(attribute_in(s, i))
 }
