@@ -53,7 +53,7 @@ returns-2 c =
     λ before w. list-all _ before _ w _ _ (c .before .before .before .before .before .before .before .before .before .before .before .before .put-byte .ensures) _ _ _ (c .before .before .before .before .before .before .before .before .first .given .1) _ _ (c .before .before .before .before .before .put-records .ensures) _ (c .before .listing .given .1)
 
 same-length-3 : tie.Need-same-length-3
-same-length-3 c = length-set {A = ℕ} (c .before .before .before .before .before .put-records .last .1 .1 .1 .0) (c .before .before .before .before .before .before .before .before .before .before .before .before .before .before .before .before .args .from) 0 ∙ c .before .before .before .before .before .put-records .kept .1 .1 .1 .0 ∙ c .before .before .before .before .before .before .before .before .before .before .before .before .put-byte .kept .0
+same-length-3 c = length-set {A = ℕ} (c .before .before .before .before .before .put-records .last .1 .1 .1 .0) (c .before .before .before .before .before .before .before .before .before .before .before .before .before .before .before .before .args .from) _ ∙ c .before .before .before .before .before .put-records .kept .1 .1 .1 .0 ∙ c .before .before .before .before .before .before .before .before .before .before .before .before .put-byte .kept .0
 
 returns-3 : tie.Need-returns-3
 returns-3 c =
