@@ -23,7 +23,7 @@ unfolding residue
 residue-below (pos n) = mod-lt n (pow-pos 64)
 residue-below (negsuc n) = omega arith
 
-told-below : (b : Bool) (n m : ℕ) → n < m → told b n < m
+pub told-below : (b : Bool) (n m : ℕ) → n < m → told b n < m
 told-below true n m h = h
 told-below false n m h = omega arith
 

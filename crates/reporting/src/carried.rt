@@ -5,19 +5,24 @@ ghost use mathlib.Core.Bool.{true, false};
 ghost use Prim.Native.Nat.{_+_, _^_, _≤_};
 ghost use lib.ListN.{length, drop};
 ghost use lib.Seq.{sets};
-ghost use Rattle.types.specs.Number.{allZero, unsignedAt, residue};
+ghost use Rattle.types.specs.Number.{allZero, residue};
 ghost use Rattle.reporting.specs.Carried.{widths, laid, numbersIn, rowsIn, told, numbersOf, entryOf, inForm, allInForm};
 ghost use Rattle.reporting.specs.Carried.{isTable, reading, seen, readT, written, writeT};
 use super::entry::Entry;
 use super::entry::Key;
 use super::entry::ReportingConfig;
+use super::numbers::put_u16_in;
+use super::numbers::put_u32_in;
+use super::numbers::put_u64_in;
+use super::numbers::u16_in;
+use super::numbers::u32_in;
+use super::numbers::u64_in;
 use super::table::ReportingTable;
 use frame::reply::clear;
 use types::ids::AttributeId;
 use types::ids::ClusterId;
 use types::number::all_zero;
 use types::number::bits_i64;
-use types::number::put_le;
 
 pub(crate) const LIMIT: usize = 16;
 
@@ -110,36 +115,6 @@ pub fn is_table(bytes: &[u8]) -> bool
     slots_in_form(bytes, count)
 }
 
-// The two-byte number at `at`. This and the next two are not public: all bytes must be there, so that nothing is tested.
-pub(crate) fn u16_in(bytes: &[u8], at: usize) -> u16
-    requires { ⌜ at + 2 ≤ length (now bytes) ⌝ }
-    ensures { λ r. ⌜ r ≡ unsignedAt (now (bytes .entry)) at 2 ⌝ }
-{
-    let low = bytes[at] as u16;
-    let high = bytes[at + 1] as u16;
-    low + 256 * high
-}
-
-// The four-byte number at `at`.
-fn u32_in(bytes: &[u8], at: usize) -> u32
-    requires { ⌜ at + 4 ≤ length (now bytes) ⌝ }
-    ensures { λ r. ⌜ r ≡ unsignedAt (now (bytes .entry)) at 4 ⌝ }
-{
-    let low = u16_in(bytes, at) as u32;
-    let high = u16_in(bytes, at + 2) as u32;
-    low + 65536 * high
-}
-
-// The eight-byte number at `at`.
-fn u64_in(bytes: &[u8], at: usize) -> u64
-    requires { ⌜ at + 8 ≤ length (now bytes) ⌝ }
-    ensures { λ r. ⌜ r ≡ unsignedAt (now (bytes .entry)) at 8 ⌝ }
-{
-    let low = u32_in(bytes, at) as u64;
-    let high = u32_in(bytes, at + 4) as u64;
-    low + 4294967296 * high
-}
-
 // The entry of the slot at `at`.
 pub(crate) fn read_slot(bytes: &[u8], at: usize) -> Entry
     requires { ⌜ at + 29 ≤ length (now bytes) ⌝ }
@@ -179,14 +154,14 @@ pub(crate) fn write_slot(bytes: &mut [u8], at: usize, e: Entry)
     let attribute = key.attribute;
     let config = e.config;
     let last_value = e.last_value;
-    put_le(bytes, at, 2, cluster.0 as u64);
-    put_le(bytes, at + 2, 2, attribute.0 as u64);
-    put_le(bytes, at + 4, 2, config.min_interval as u64);
-    put_le(bytes, at + 6, 2, config.max_interval as u64);
-    put_le(bytes, at + 8, 8, config.reportable_change);
-    put_le(bytes, at + 16, 1, told_if(e.marked, 1));
-    put_le(bytes, at + 17, 4, told_if(e.marked, e.last_time as u64));
-    put_le(bytes, at + 21, 8, told_if(e.marked, bits_u64(last_value)));
+    put_u16_in(bytes, at, cluster.0);
+    put_u16_in(bytes, at + 2, attribute.0);
+    put_u16_in(bytes, at + 4, config.min_interval);
+    put_u16_in(bytes, at + 6, config.max_interval);
+    put_u64_in(bytes, at + 8, config.reportable_change);
+    bytes[at + 16] = told_if(e.marked, 1) as u8;
+    put_u32_in(bytes, at + 17, told_if(e.marked, e.last_time as u64) as u32);
+    put_u64_in(bytes, at + 21, told_if(e.marked, bits_u64(last_value)));
 }
 
 // A table without entries: its count, which is all that the code here asks of it.

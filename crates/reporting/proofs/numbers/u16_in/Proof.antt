@@ -4,8 +4,8 @@ use native.Mathlib.Omega.{arith}
 use Prim.Native.Nat.{_+_}
 use denote.Ref.{now}
 use Rattle.types.proofs.Numbers.{two-bytes}
-use Rattle.reporting.proofs.carried.u16_in.Statement.{statement}
-use Rattle.reporting.proofs.carried.u16_in.Tie as tie
+use Rattle.reporting.proofs.numbers.u16_in.Statement.{statement}
+use Rattle.reporting.proofs.numbers.u16_in.Tie as tie
 
 shared-slice-read-low : tie.Need-shared-slice-read-low
 shared-slice-read-low c = search needs

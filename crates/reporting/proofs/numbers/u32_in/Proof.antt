@@ -4,8 +4,8 @@ use mathlib.Core.Path.{_∙_}
 use Prim.Native.Nat.{_+_, _*_}
 use denote.Ref.{now}
 use Rattle.reporting.proofs.Carriage.{unsigned-join}
-use Rattle.reporting.proofs.carried.u32_in.Statement.{statement}
-use Rattle.reporting.proofs.carried.u32_in.Tie as tie
+use Rattle.reporting.proofs.numbers.u32_in.Statement.{statement}
+use Rattle.reporting.proofs.numbers.u32_in.Tie as tie
 
 u16-in-requires : tie.Need-u16-in-requires
 u16-in-requires c κs = search needs
