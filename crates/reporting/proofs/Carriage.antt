@@ -41,7 +41,7 @@ unsigned-join s at (suc a) b =
     rw (p, w) (omega (arith, m, unsigned-step s at a, unsigned-step s at (a + b), unsigned-join s (suc at) a b))
 
 -- two parts of a number written one behind the other, the low one first
-pub put-join : (l : List ℕ) (at a b n : ℕ) → sets (sets l at (bytesOf a n)) (at + a) (bytesOf b (n / 2 ^ (8 * a))) ≡ sets l at (bytesOf (a + b) n)
+put-join : (l : List ℕ) (at a b n : ℕ) → sets (sets l at (bytesOf a n)) (at + a) (bytesOf b (n / 2 ^ (8 * a))) ≡ sets l at (bytesOf (a + b) n)
 unfolding bytesOf
 put-join l at zero b n =
     let p : at + 0 ≡ at = omega arith in

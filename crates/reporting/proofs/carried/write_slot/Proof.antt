@@ -8,7 +8,7 @@ use Rattle.types.specs.Number.{bytesOf, residue}
 use Rattle.types.proofs.Machine.{came-back}
 use mathlib.Core.List.{List, [], _∷_}
 use lib.ListN.{length, set, length-set}
-use lib.Seq.{sets, length-sets}
+use lib.Seq.{sets}
 use denote.Ref.{now}
 use Rattle.reporting.specs.Carried.{widths, laid, told, numbersOf}
 use Rattle.reporting.proofs.CarriageEntry.{told-below}
