@@ -1,7 +1,7 @@
 -- The complete byte and the records behind it: the byte is put as 1, and set to 0 where an attribute is left out. Assumes nothing.
 use mathlib.Core.Path.{_≡_, sym, ap, _∙_, subst}
 use mathlib.Core.List.{List, [], _∷_, _++_, append-assoc}
-use Prim.Native.Nat.{ℕ, _+_, _-_, _≤_, _<_, min}
+use Prim.Native.Nat.{ℕ, _+_, _-_, _<_, min}
 use native.Mathlib.Omega.{arith}
 use lib.ListN.{length, take, set, length-append, length-set, length-take}
 use lib.Seq.{append-snoc, set-at}
@@ -13,7 +13,6 @@ use Rattle.frame.proofs.Buffer.{PutAt, shows-put, shows-full}
 use Rattle.store.specs.declared.lookup.Attribute.{Attribute}
 use Rattle.discover.specs.declared.attributes.Listing.{Listing}
 use Rattle.discover.specs.declared.attributes.Listing.the-variants.{All, Part, NoRoom}
-use Rattle.discover.specs.Discover.{completeByte}
 use Rattle.discover.specs.Inside.{recordsOf, Scanned, Puts, listOf}
 use Rattle.discover.proofs.Choice.{complete-one, complete-zero}
 

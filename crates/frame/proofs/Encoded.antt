@@ -9,7 +9,7 @@ use borrow.Author.Tests.{le-leb, lt-leb, leb-true}
 use Rattle.frame.specs.Reply.{putting, put, Shows}
 use Rattle.frame.specs.declared.reply.Put.{Put}
 use Rattle.frame.specs.declared.reply.Put.the-variants.{At, Full}
-use Rattle.frame.specs.Encoded.{encodeAll, fits, Longer, Stays, Ways}
+use Rattle.frame.specs.Encoded.{encodeAll, fits, Ways}
 use Rattle.frame.proofs.Buffer.{shows-put, shows-full}
 
 module _ {R : Type 0} (encode : R → List ℕ) where

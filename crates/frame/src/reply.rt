@@ -1,7 +1,7 @@
 // The reply buffer: cleared, then filled from its start, so that it is always the reply so far and zeros to the end.
 ghost use mathlib.Core.Path.{_≡_};
-ghost use Prim.Native.Nat.{ℕ, _+_, _≤_};
-ghost use mathlib.Core.List.{List, [], _∷_, _++_};
+ghost use Prim.Native.Nat.{_+_, _≤_};
+ghost use mathlib.Core.List.{[], _∷_, _++_};
 ghost use lib.ListN.{length};
 ghost use Rattle.types.specs.Number.{zeros, bytesOf};
 ghost use Rattle.frame.specs.Reply.{over, putting, put};

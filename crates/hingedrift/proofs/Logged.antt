@@ -9,11 +9,9 @@ use lib.Dec.{eqb}
 use Rattle.frame.specs.declared.answer.Refusal.the-variants.{NotAStore, NotATable}
 use Rattle.frame.specs.Answer.{Outcome, refusalNumber, refused}
 use Rattle.store.specs.Layout.{isStore}
-use Rattle.reporting.specs.declared.entry.Key.{Key}
-use Rattle.reporting.specs.declared.entry.ReportingConfig.{ReportingConfig}
 use Rattle.reporting.specs.declared.entry.Entry.{Entry}
 use Rattle.reporting.specs.Entries.{acceptsL}
-use Rattle.reporting.specs.Table.{room, Table, holding}
+use Rattle.reporting.specs.Table.{room, holding}
 use Rattle.reporting.specs.Carried.{sized, isTable, tableIn, tableBytes}
 use Rattle.reporting.specs.Lent.{bytesAfter}
 use Rattle.reporting.specs.Events.{Event, configured, cleared, asked, marked}
@@ -22,14 +20,14 @@ use Rattle.reporting.specs.Demand3.{Supposed, Promised, asksOf}
 use Rattle.reporting.proofs.CarriageTable.{table-is, table-back}
 use Rattle.reporting.proofs.Histories as direct-call
 use Rattle.reporting.proofs.Kept.{Kept}
-use Rattle.server.specs.Serve.{State, within, serve}
-use Rattle.server.specs.History.{Request, requested, requestEvents, Use, direct, used, useEvents, uses, served}
+use Rattle.server.specs.Serve.{within, serve}
+use Rattle.server.specs.History.{requested, requestEvents, Use, direct, used, useEvents, uses, served}
 use Rattle.server.specs.History as History
 use Rattle.server.proofs.Fitting.{AllFit, fit-either, request-fits}
 use Rattle.server.proofs.Frames.{demand-3-of-frames}
 use Rattle.server.proofs.Histories.{request-is}
 use Rattle.server.proofs.Logged.{serve-tight}
-use Rattle.hingedrift.specs.Tables.{bit, Left, left, onTable, noResult, newLeft, configureLeft, clearLeft, markLeft, askLeft, Configuration}
+use Rattle.hingedrift.specs.Tables.{bit, Left, left, onTable, noResult, newLeft, configureLeft, clearLeft, markLeft, askLeft}
 use Rattle.hingedrift.specs.Serving.{Lent, lent, carried, isUnicast, handleLeft}
 use Rattle.hingedrift.specs.Log.{Handled, Made, configure, clear, mark, ask, configuration, handle, keyAt, configAs, Contract, Typed, next, last, Log, requestOf, eventsOf, allEventsOf, Demand3OfBytes}
 use Rattle.hingedrift.proofs.Kept.{run-keeps}

@@ -6,7 +6,7 @@ use mathlib.Core.List.{List}
 use lib.Dec.{eqb}
 use lib.IntN.{ℤ}
 use Rattle.frame.specs.declared.answer.Refusal.the-variants.{NotAStore, NotATable}
-use Rattle.frame.specs.Answer.{Outcome, noState, refused}
+use Rattle.frame.specs.Answer.{Outcome, refused}
 use Rattle.store.specs.Contents.{nameOf}
 use Rattle.store.specs.Layout.{isStore}
 use Rattle.store.specs.Value.{Telling, telling, numberOf}

@@ -24,7 +24,7 @@ use Rattle.readers.specs.declared.body.Body.{Body}
 use Rattle.readers.specs.declared.layout.Layout.{Layout}
 use Rattle.readers.specs.Layout.{lengthOf}
 use Rattle.readers.specs.Reading.{Read, read, unreadable, andThen, isGlobal, bodyBy, bodyOf, spansFrom}
-use Rattle.readers.specs.Replies.{spansOf, failuresFrom, failuresOf, Response, responseAt, defaultResponseOf}
+use Rattle.readers.specs.Replies.{spansOf, failuresFrom, failuresOf, responseAt, defaultResponseOf}
 use Rattle.readers.specs.Inside.{bodyIs}
 
 -- the other types are not global

@@ -1,7 +1,7 @@
 -- Replies that are nothing but records, both ways, over the record. Assumes nothing.
 use mathlib.Core.Path.{_≡_, refl, sym, ap, _∙_}
 use mathlib.Core.List.{List, _++_}
-use Prim.Native.Nat.{ℕ, _+_, _-_}
+use Prim.Native.Nat.{ℕ, _+_}
 use lib.ListN.{drop}
 use Rattle.types.specs.Number.{AllBytes}
 use Rattle.frame.specs.Walk.{All}

@@ -16,11 +16,11 @@ use Rattle.frame.specs.declared.answer.Answer.the-variants.{Reply}
 use Rattle.frame.specs.Status.{statusCode}
 use Rattle.frame.specs.Header.{frameTypeOf, headerOf}
 use Rattle.frame.specs.CommandIdentifier.{commandOf}
-use Rattle.frame.specs.Answer.{Outcome, noState, seen}
+use Rattle.frame.specs.Answer.{noState, seen}
 use Rattle.frame.specs.Walk.{Way, through, broken, stopped, reached, All}
 use Rattle.frame.specs.Encoded.{fits}
 use Rattle.frame.specs.Shortened.{shortenedFrom}
-use Rattle.frame.specs.Failures.{Sofar, pass}
+use Rattle.frame.specs.Failures.{pass}
 use Rattle.store.specs.declared.lookup.Attribute.{Attribute}
 use Rattle.store.specs.Contents.{nameOf, attributesOf}
 use Rattle.reporting.specs.declared.entry.Entry.{Entry}
@@ -35,7 +35,7 @@ use Rattle.configure.specs.Configuration as Configuration
 use Rattle.discover.specs.Discover.{atOrAfter, listed, completeByte, discoveredAll}
 use Rattle.server.specs.Serve.{State, serve}
 use Rattle.server.specs.UnsupportedCluster.{unsupportedCluster}
-use Rattle.server.specs.Report.{ReportRecord, Reported, all, reportFrom, reportOf}
+use Rattle.server.specs.Report.{ReportRecord, all, reportFrom, reportOf}
 use Rattle.readers.specs.Reading.{Read, read}
 use Rattle.readers.specs.Replies.{Discovery, discovery, Response, readReplyOf, writeReplyOf, configureReplyOf, configurationReplyOf, reportFrameOf, discoverReplyOf, defaultResponseOf}
 

@@ -1,6 +1,6 @@
 // The reply to Discover Attributes (0d; ZCL 2.5.14).
 ghost use mathlib.Core.Path.{_≡_};
-ghost use Rattle.readers.specs.Reading.{counted, kth};
+ghost use Rattle.readers.specs.Reading.{kth};
 ghost use Rattle.readers.specs.Replies.{discoveredFrom, discoveryAt, discoverReplyOf};
 ghost use Rattle.readers.specs.Inside.{Sweeps, discoveryIs, discoverRecordIs, sized, attributesIn};
 use super::body::Body;

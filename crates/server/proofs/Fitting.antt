@@ -1,17 +1,16 @@
 -- What a request made of bytes configures is within the widths of a table's bytes. Assumes nothing.
-use mathlib.Core.Path.{_≡_, refl, subst}
+use mathlib.Core.Path.{refl, subst}
 use mathlib.Core.Bool.{Bool, true, false, cond, _&&_}
 use mathlib.Core.List.{List, [], _∷_, _++_}
 use Prim.Native.Nat.{ℕ, min, _+_, _-_, _*_, _^_, _≤_, _<_}
 use native.Mathlib.Omega.{arith}
 use lib.ListN.{length, getD, drop}
 use lib.Dec.{leb, eqb}
-use lib.IntN.{natAbs}
 use lib.Pow.{pow-mono}
 use lib.Signed.{mag}
 use Rattle.types.specs.declared.ids.Size.{Size}
 use Rattle.types.specs.declared.ids.Size.the-variants as SizeV
-use Rattle.types.specs.Number.{AllBytes, unsignedAt, signedAt}
+use Rattle.types.specs.Number.{AllBytes, unsignedAt}
 use Rattle.types.specs.Ids.{sizeOf, isAnalog, isSigned, isFloat}
 use Rattle.types.specs.Value.{changeBy, changeAt}
 use Rattle.types.proofs.Numbers.{bytes-drop, unsigned-below}

@@ -13,8 +13,8 @@ use Rattle.reporting.specs.declared.entry.Entry.{Entry}
 use Rattle.reporting.specs.declared.table.ReportingTable.{ReportingTable}
 use Rattle.reporting.specs.declared.table.Changed.{Changed}
 use Rattle.reporting.specs.Entries.{acceptsL, configureL}
-use Rattle.reporting.specs.Table.{room, Table, sound, tableOf, holding, changeTold, reportTold, Outcome as Left, outcome, doneT, fullT, configureT, clearT, markT, askT}
-use Rattle.reporting.specs.Events.{Event, configured, cleared, asked, marked, after}
+use Rattle.reporting.specs.Table.{room, Table, sound, tableOf, holding, changeTold, Outcome as Left, outcome, doneT, fullT, configureT, clearT, markT, askT}
+use Rattle.reporting.specs.Events.{Event, configured, cleared, marked, after}
 use Rattle.reporting.specs.Events as Event
 use Rattle.reporting.specs.Demand3.{Supposed, Promised, asksOf}
 use Rattle.reporting.specs.Log.{ifAccepted, ifAnswered}
@@ -22,7 +22,7 @@ use Rattle.reporting.specs.Log as Method
 use Rattle.reporting.proofs.Histories.{configure-refused}
 use Rattle.configure.specs.Configure.{configureOf}
 use Rattle.server.specs.Serve.{State, commanded, serve}
-use Rattle.server.specs.History.{Request, entriesOf, requested, requestEvents, Use, direct, used, useEvents, uses, served}
+use Rattle.server.specs.History.{entriesOf, requested, requestEvents, Use, direct, used, useEvents, uses, served}
 use Rattle.server.specs.History as History
 use Rattle.server.specs.Log.{Made, request, method, Contract, next, last, Log, eventsOf, allEventsOf, Demand3OfServer}
 use Rattle.server.proofs.Cases.{commanded-case, serve-case}

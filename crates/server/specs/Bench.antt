@@ -10,7 +10,7 @@ use Rattle.frame.specs.Answer.{Outcome, replied}
 use Rattle.store.specs.declared.value.Numbered.the-variants.{Is}
 use Rattle.store.specs.Value.{numberOf}
 use Rattle.reporting.specs.declared.entry.Key.{Key}
-use Rattle.reporting.specs.Table.{Table, holding, Outcome as TableOutcome, ReportTold, markT, askT}
+use Rattle.reporting.specs.Table.{Table, holding, markT, askT}
 use Rattle.server.specs.Serve.{State, state, serve}
 
 -- ---- store T

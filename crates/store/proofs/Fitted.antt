@@ -4,7 +4,7 @@ use mathlib.Core.Path.{_≡_, refl, ap, sym, _∙_}
 use mathlib.Core.List.{List, [], _∷_, _++_}
 use native.Mathlib.Omega.{arith}
 use native.Mathlib.Numerals.{add-one}
-use lib.ListN.{length, getD, take, drop, set}
+use lib.ListN.{getD, take, drop, set}
 use lib.Seq.{sets, getD-drop, drop-drop}
 use native.Mathlib.Nat.{add-zero, sub-zero}
 use Rattle.types.specs.Number.{zeros}

@@ -1,7 +1,7 @@
 // One write: the four checks, and the value stored where they pass.
 ghost use mathlib.Core.Path.{_≡_};
 ghost use Rattle.store.specs.Contents.{findOf};
-ghost use Rattle.store.specs.Write.{tooLong, isWritable, checkOf, wrote, writeOf};
+ghost use Rattle.store.specs.Write.{tooLong, checkOf, wrote, writeOf};
 use super::layout::is_text;
 use super::lookup::Attribute;
 use super::lookup::Found;

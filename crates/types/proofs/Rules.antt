@@ -1,12 +1,12 @@
 -- Rules of the type table, each over all 256 codes at once by computing. Assumes nothing.
-use Prim.Native.Nat.{ℕ, _≤_, _<_, _+_}
+use Prim.Native.Nat.{ℕ, _<_}
 use mathlib.Core.Bool.{Bool, true, false, not, _&&_, _||_}
 use native.Mathlib.Omega.{arith}
 use lib.Dec.{T, leb}
 use Rattle.types.specs.Ids.{sizeOf, isAnalog, isReportable, isSigned, isFloat}
 use Rattle.types.specs.declared.ids.Size.{Size}
 use Rattle.types.specs.declared.ids.Size.the-variants.{Bytes, Varies}
-use Rattle.types.proofs.Finite.{run, by-run}
+use Rattle.types.proofs.Finite.{by-run}
 
 -- a is so only where b is
 abbrev pub only : Bool → Bool → Bool

@@ -1,14 +1,14 @@
 -- A cut value is cut only because the slice ends: some bytes behind it settle where it ends, or that it has no extent. Assumes nothing.
-use Prim.Native.Nat.{ℕ, zero, suc, _+_, _-_, _*_, _≤_, _<_}
+use Prim.Native.Nat.{ℕ, zero, suc, _+_, _≤_, _<_}
 use mathlib.Core.Path.{_≡_, refl, ap, sym, _∙_, subst}
-use mathlib.Core.List.{List, [], _∷_, _++_, append-assoc}
+use mathlib.Core.List.{List, [], _++_, append-assoc}
 use native.Mathlib.Omega.{arith}
 use native.Mathlib.Nat.{zero-add}
 use lib.ListN.{length, getD, replicate, length-append, length-replicate, List·getD-append}
 use Rattle.types.specs.Ids.{formOf}
 use Rattle.types.specs.declared.ids.Form.{Form}
 use Rattle.types.specs.declared.ids.Form.the-variants.{Fixed, Text, LongText, Series, Structure, Unknown}
-use Rattle.types.specs.Extent.{upto, times, andThen, byForm, valueAt, series, structure, member, countBy, count, text, extentOf}
+use Rattle.types.specs.Extent.{upto, times, andThen, byForm, valueAt, series, structure, member, count, text, extentOf}
 use Rattle.types.specs.declared.extent.Extent.{Extent}
 use Rattle.types.specs.declared.extent.Extent.the-variants.{End, Cut, Without}
 use Rattle.types.specs.Settled.{NotCut, ExtentSettled}

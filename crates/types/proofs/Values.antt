@@ -1,5 +1,5 @@
 -- Laws of the number of a value and of a change: one for each way out. Assumes nothing.
-use Prim.Native.Nat.{ℕ, zero, suc, _+_, _-_, _*_, _^_, _≤_, _<_, min}
+use Prim.Native.Nat.{ℕ, _*_, _^_, _≤_, _<_, min}
 use mathlib.Core.Path.{_≡_, refl, ap, sym, _∙_}
 use mathlib.Core.Bool.{Bool, true, false, cond}
 use mathlib.Core.List.{List}
@@ -11,10 +11,8 @@ use borrow.Author.Tests.{le-leb, lt-leb, leb-true, leb-false}
 use Rattle.types.specs.Number.{AllBytes, unsignedAt, signedAt, signedOf}
 use Rattle.types.proofs.Numbers.{unsigned-below, signed-low}
 use Rattle.types.specs.Ids.{sizeOf, isSigned, isFloat}
-use Rattle.types.specs.Value.{numberAt, numberBy, plainAt, changeAt, changeBy}
-use Rattle.types.specs.declared.ids.Size.{Size}
+use Rattle.types.specs.Value.{numberAt, plainAt, changeAt}
 use Rattle.types.specs.declared.ids.Size.the-variants.{Bytes, Varies}
-use Rattle.types.specs.declared.value.Number.{Number}
 use Rattle.types.specs.declared.value.Number.the-variants.{Value, None}
 
 -- up to 7 bytes, the bits of 8 bytes are the number itself

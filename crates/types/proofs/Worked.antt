@@ -2,7 +2,7 @@
 use Prim.Native.Nat.{ℕ}
 use mathlib.Core.Path.{_≡_, refl}
 use mathlib.Core.List.{List, [], _∷_, _++_}
-use lib.IntN.{ℤ, pos, negsuc, negℤ, natAbs}
+use lib.IntN.{pos, negℤ, natAbs}
 use Rattle.types.specs.Number.{le, unsignedAt, signedAt, signedOf}
 use Rattle.types.specs.Ids.{sizeOf, formOf, isSigned}
 use Rattle.types.specs.Value.{numberAt}

@@ -1,10 +1,10 @@
 // Numbers of up to 8 bytes, the low byte first. Each function answers for every slice, place and width.
 ghost use mathlib.Core.Path.{_≡_};
-ghost use Prim.Native.Nat.{ℕ, _+_, _-_, _*_, _<_, _≤_, _^_, min};
+ghost use Prim.Native.Nat.{_+_, _-_, _*_, _<_, _^_, min};
 ghost use lib.IntN.{natAbs};
-ghost use lib.ListN.{length, getD};
+ghost use lib.ListN.{getD};
 ghost use lib.Seq.{sets};
-ghost use Rattle.types.specs.Number.{allZero, le, bytesOf, unsignedAt, signedAt, signedOf};
+ghost use Rattle.types.specs.Number.{allZero, bytesOf, unsignedAt, signedAt, signedOf};
 
 fn least(a: usize, b: usize) -> usize
     ensures { λ r. ⌜ r ≡ min a b ⌝ }

@@ -1,6 +1,5 @@
 -- A byte and n more, or they are cut. Assumes nothing.
 use Rattle.readers.proofs.Measured.{up-to-in, up-to-out}
-use borrow.Author.Needs.{needs}
 use Rattle.readers.proofs.layout.up_to.Statement.{statement}
 use Rattle.readers.proofs.layout.up_to.Tie as tie
 

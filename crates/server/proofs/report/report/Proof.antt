@@ -1,6 +1,5 @@
 -- No store, no room for the header, an empty list, or the ids of the list. Assumes nothing.
 use mathlib.Core.Path.{sym, _∙_}
-use denote.Ref.{now}
 use borrow.Author.Tests.{not-true, not-false}
 use Rattle.server.proofs.Whole.{report-of-none, report-headless, report-empty, report-all}
 use borrow.Author.Needs.{needs}

@@ -4,7 +4,6 @@ use mathlib.Core.List.{List}
 use Prim.Native.Nat.{ℕ, _-_, _≤_}
 use native.Mathlib.Omega.{arith}
 use lib.ListN.{length}
-use denote.Ref.{now}
 use Rattle.frame.specs.Reply.{Shows}
 use Rattle.server.proofs.Going.{Going, going-first, going-more, going-ends, going-done}
 use borrow.Author.Needs.{needs}

@@ -6,7 +6,6 @@ use denote.Ref.{now}
 use borrow.Author.Tests.{not-true, not-false}
 use Rattle.frame.specs.Reply.{putting, put}
 use Rattle.store.specs.Contents.{nameOf, findOf}
-use Rattle.store.specs.Value.{valueOf}
 use Rattle.server.specs.Report.{encode, reportRecord, recordOf}
 use Rattle.server.proofs.Turns.{turn-nothing, turn-unreportable, turn-more, turn-full}
 use borrow.Author.Needs.{needs}

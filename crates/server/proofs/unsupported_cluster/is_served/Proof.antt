@@ -3,7 +3,6 @@ use mathlib.Core.Path.{_≡_, refl}
 use Prim.Native.Nat.{_-_, _≤_}
 use native.Mathlib.Omega.{arith}
 use lib.ListN.{length, drop}
-use denote.Ref.{now}
 use borrow.Author.Needs.{needs}
 use Rattle.server.specs.UnsupportedCluster.{among}
 use Rattle.server.proofs.Listed.{served-here, served-further, served-nowhere}

@@ -2,7 +2,6 @@
 use Prim.Native.Nat.{_-_, _≤_}
 use mathlib.Core.Path.{_≡_, refl}
 use native.Mathlib.Omega.{arith}
-use borrow.Author.Needs.{needs}
 use Rattle.store.proofs.Scan.{scan, here, further, nowhere}
 use Rattle.store.proofs.lookup.place_in.Statement.{statement}
 use Rattle.store.proofs.lookup.place_in.Tie as tie

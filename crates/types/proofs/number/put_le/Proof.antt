@@ -2,7 +2,7 @@
 use borrow.Author.Needs.{needs}
 use Rattle.types.proofs.number.put_le.Statement.{statement}
 use Rattle.types.proofs.number.put_le.Tie as tie
-use Prim.Native.Nat.{_-_, _%_}
+use Prim.Native.Nat.{_%_}
 use mathlib.Core.Path.{_≡_, refl, sym, _∙_}
 use lib.ListN.{length, length-set}
 use lib.Seq.{sets}

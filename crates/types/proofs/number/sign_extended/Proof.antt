@@ -3,7 +3,6 @@ use borrow.Author.Needs.{needs}
 use Rattle.types.proofs.number.sign_extended.Statement.{statement}
 use Rattle.types.proofs.number.sign_extended.Tie as tie
 use native.Mathlib.Omega.{arith}
-use Prim.Native.Nat.{_-_}
 use mathlib.Core.Path.{_∙_}
 use Rattle.types.proofs.Machine.{came-back, half-fits, extend-low, extend-high, extend-none, extend-all}
 

@@ -3,7 +3,6 @@ use borrow.Author.Needs.{needs}
 use Rattle.types.proofs.number.signed_at.Statement.{statement}
 use Rattle.types.proofs.number.signed_at.Tie as tie
 use mathlib.Core.Path.{ap, _∙_}
-use Prim.Native.Nat.{_-_}
 use Rattle.types.specs.Number.{signedAt, signedOf}
 use Rattle.types.proofs.Machine.{came-back}
 use Rattle.types.proofs.Numbers.{unsigned-below}
