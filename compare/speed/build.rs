@@ -1,6 +1,6 @@
-//! Links the proved archive into the program, where there is one and the
-//! program is for x86-64; `cfg(archive)` says so. `HINGEDRIFT_LIB` names its
-//! folder; where it is not set, it is the repository's target/lib or
+//! Names the proved archive to the program, where there is one, and links it in
+//! where the program is for x86-64; `cfg(archive)` says so. `HINGEDRIFT_LIB`
+//! names its folder; where it is not set, it is the repository's target/lib or
 //! target/staticlib.
 
 use std::path::{Path, PathBuf};
@@ -16,10 +16,12 @@ fn main() {
     println!("cargo::rustc-env=COMPILED_BY={}", compiler());
 
     let fits = variable("CARGO_CFG_TARGET_ARCH").as_deref() == Some("x86_64");
-    if let Some(archive) = archive().filter(|_| fits) {
-        println!("cargo::rustc-cfg=archive");
+    if let Some(archive) = archive() {
         println!("cargo::rustc-env=ARCHIVE={}", archive.display());
-        println!("cargo::rustc-link-arg-bins={}", archive.display());
+        if fits {
+            println!("cargo::rustc-cfg=archive");
+            println!("cargo::rustc-link-arg-bins={}", archive.display());
+        }
     }
 }
 

@@ -1,6 +1,6 @@
 //! The command line, which compare/speed/run gives.
 
-pub const USAGE: &str = "usage: speed --rows, or speed --calls ROW old|new N, or speed --page FILE [--pairs N] [--facts FILE]";
+pub const USAGE: &str = "usage: speed --rows, or speed --frames, or speed --calls ROW old|new N, or speed --page FILE [--pairs N] [--facts FILE], or speed --counted FILE --facts FILE";
 
 /// So many pairs of blocks are timed unless another number is given.
 const PAIRS: usize = 201;
@@ -15,6 +15,8 @@ pub enum Which {
 pub enum Arguments {
     /// Prints the rows' words.
     Rows,
+    /// Prints the rows with their calls.
+    Frames,
     /// Makes calls of a row on one side, and nothing else.
     Calls {
         row: String,
@@ -27,6 +29,8 @@ pub enum Arguments {
         pairs: usize,
         facts: Option<String>,
     },
+    /// Times nothing: the page has what was counted elsewhere.
+    Counted { page: String, facts: String },
 }
 
 impl Arguments {
@@ -34,12 +38,17 @@ impl Arguments {
         let words: Vec<&str> = words.iter().map(String::as_str).collect();
         match words[..] {
             ["--rows"] => Ok(Self::Rows),
+            ["--frames"] => Ok(Self::Frames),
             ["--calls", row, side, many] => Ok(Self::Calls {
                 row: row.to_owned(),
                 which: which(side)?,
                 many: number(many)?,
             }),
             ["--page", page, ref options @ ..] => timing(page, options),
+            ["--counted", page, "--facts", facts] => Ok(Self::Counted {
+                page: page.to_owned(),
+                facts: facts.to_owned(),
+            }),
             _ => Err(USAGE.to_owned()),
         }
     }
@@ -95,6 +104,7 @@ mod tests {
     #[test]
     fn what_is_understood() {
         assert_eq!(parsed("--rows"), Ok(Arguments::Rows));
+        assert_eq!(parsed("--frames"), Ok(Arguments::Frames));
         assert_eq!(parsed("--page p.md"), Ok(timing(PAIRS, None)));
         let both = parsed("--page p.md --facts f --pairs 3");
         assert_eq!(both, Ok(timing(3, Some("f"))));
@@ -104,6 +114,11 @@ mod tests {
             many: 300,
         };
         assert_eq!(parsed("--calls 4/read-1 new 300"), Ok(calls));
+        let counted = Arguments::Counted {
+            page: "p.md".to_owned(),
+            facts: "f".to_owned(),
+        };
+        assert_eq!(parsed("--counted p.md --facts f"), Ok(counted));
     }
 
     #[test]
@@ -117,6 +132,9 @@ mod tests {
             "--page p.md --fast",
             "--calls 4/read-1 both 300",
             "--calls 4/read-1 old",
+            "--frames 4/read-1",
+            "--counted p.md",
+            "--counted p.md --pairs 3",
         ] {
             let trouble = parsed(line).expect_err(line);
             assert!(trouble.contains(USAGE), "{trouble}");

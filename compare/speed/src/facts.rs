@@ -50,9 +50,9 @@ impl Facts {
     }
 
     /// Of the row of this word, on the old side and on the new one.
-    pub fn counts(&self, row: &str) -> Option<[u64; 2]> {
+    pub fn counts(&self, row: &str) -> [Option<u64>; 2] {
         let of = |side: &str| self.counts.get(&(row.to_owned(), side.to_owned())).copied();
-        Some([of("old")?, of("new")?])
+        ["old", "new"].map(of)
     }
 }
 
@@ -66,8 +66,9 @@ mod tests {
         let facts = Facts::parsed(file).expect("it is understood");
         assert_eq!(facts.kit.as_deref(), Some("a kit 5"));
         assert_eq!((facts.text, facts.uncounted()), (Some(77), None));
-        assert_eq!(facts.counts("4/read-1"), Some([10, 25]));
-        assert_eq!(facts.counts("64/read-1"), None, "one side alone");
+        assert_eq!(facts.counts("4/read-1"), [Some(10), Some(25)]);
+        assert_eq!(facts.counts("64/read-1"), [Some(3), None]);
+        assert_eq!(facts.counts("64/read-10"), [None; 2]);
         assert_eq!(Facts::default().uncounted(), Some("nobody did"));
     }
 

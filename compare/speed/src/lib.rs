@@ -17,6 +17,7 @@ mod spread;
 #[cfg(test)]
 mod stand_in;
 mod stores;
+mod text;
 mod timing;
 
 pub use agree::agree;
@@ -25,8 +26,9 @@ pub use calls::{Ask, Calls, ROOM, Report, Request};
 pub use facts::Facts;
 pub use measured::Measured;
 pub use old::Old;
-pub use page::{Built, page, table};
+pub use page::{Built, UNTIMED, page, table};
 pub use row::{Over, Row};
 pub use rows::{named, rows};
 pub use side::{Said, Side};
+pub use text::text;
 pub use timing::timed;

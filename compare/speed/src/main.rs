@@ -2,25 +2,29 @@
 //! into this program) on the same frames, in turn, row by row. It prints a
 //! table of it and writes a page. compare/speed/run starts it.
 //!
+//! On a machine for which the archive is not, it times nothing: count.c, under
+//! an emulator, makes the calls that it prints, and it shows what was counted.
+//!
 //! It exits with 0, with 1 where the two answer a frame differently, and with 2
 //! where nothing could be run.
 
 #[cfg(archive)]
 mod archive;
 #[cfg(archive)]
-mod new;
+mod both;
 #[cfg(archive)]
+mod new;
 mod run;
 
 use std::process::ExitCode;
 
-#[cfg(archive)]
-fn main() -> ExitCode {
-    use run::Trouble;
+use run::Trouble;
 
+fn main() -> ExitCode {
     let words: Vec<String> = std::env::args().skip(1).collect();
     match run::run(&words) {
         Ok(()) => ExitCode::SUCCESS,
+        #[cfg(archive)]
         Err(Trouble::Differs(what)) => {
             eprintln!("speed: old and new differ: {what}");
             ExitCode::from(1)
@@ -30,15 +34,4 @@ fn main() -> ExitCode {
             ExitCode::from(2)
         }
     }
-}
-
-#[cfg(not(archive))]
-fn main() -> ExitCode {
-    let why = if cfg!(target_arch = "x86_64") {
-        "there was no archive when this program was built: `make lib` makes it"
-    } else {
-        "the archive is for x86-64, and this machine is not"
-    };
-    eprintln!("speed: {why}");
-    ExitCode::from(2)
 }

@@ -8,13 +8,18 @@ use crate::timing::Timed;
 pub struct Measured {
     pub over: Over,
     name: &'static str,
+    times: Option<Times>,
+    /// Instructions a call, old and new.
+    counts: [Option<u64>; 2],
+}
+
+#[derive(Debug, Clone)]
+struct Times {
     /// Nanoseconds a call.
     old: f64,
     new: f64,
     /// New by old, over the pairs.
     ratio: Spread,
-    /// Instructions a call, old and new.
-    counts: Option<[u64; 2]>,
 }
 
 impl Measured {
@@ -28,39 +33,56 @@ impl Measured {
         "new / old",
     ];
 
-    pub fn of(row: &Row, timed: &Timed, counts: Option<[u64; 2]>) -> Self {
-        let pairs = timed.old.iter().zip(&timed.new);
-        let ratios: Vec<f64> = pairs.map(|(old, new)| new / old).collect();
+    pub fn of(row: &Row, timed: Option<&Timed>, counts: [Option<u64>; 2]) -> Self {
         Self {
             over: row.over,
             name: row.name,
-            old: Spread::of(&timed.old).middle,
-            new: Spread::of(&timed.new).middle,
-            ratio: Spread::of(&ratios),
+            times: timed.map(Times::of),
             counts,
         }
     }
 
     pub fn cells(&self) -> [String; 7] {
-        let Spread { low, middle, high } = self.ratio;
-        let [old, new, ratio] = match self.counts {
-            Some([old, new]) => [
-                old.to_string(),
-                new.to_string(),
-                format!("{:.2}", new as f64 / old as f64),
-            ],
-            None => ["not counted"; 3].map(str::to_owned),
-        };
+        let not_timed = || ["not timed"; 3].map(str::to_owned);
+        let [old, new, ratio] = self.times.as_ref().map_or_else(not_timed, Times::cells);
+        let [old_count, new_count] = self.counts;
+        let both = old_count.zip(new_count);
+        let count_ratio = both.map(|(old, new)| format!("{:.2}", new as f64 / old as f64));
         [
             self.name.to_owned(),
-            nanoseconds(self.old),
-            nanoseconds(self.new),
-            format!("{middle:.2} ({low:.2} to {high:.2})"),
             old,
             new,
             ratio,
+            counted(old_count),
+            counted(new_count),
+            counted(count_ratio),
         ]
     }
+}
+
+impl Times {
+    fn of(timed: &Timed) -> Self {
+        let pairs = timed.old.iter().zip(&timed.new);
+        let ratios: Vec<f64> = pairs.map(|(old, new)| new / old).collect();
+        Self {
+            old: Spread::of(&timed.old).middle,
+            new: Spread::of(&timed.new).middle,
+            ratio: Spread::of(&ratios),
+        }
+    }
+
+    fn cells(&self) -> [String; 3] {
+        let Spread { low, middle, high } = self.ratio;
+        [
+            nanoseconds(self.old),
+            nanoseconds(self.new),
+            format!("{middle:.2} ({low:.2} to {high:.2})"),
+        ]
+    }
+}
+
+fn counted(number: Option<impl ToString>) -> String {
+    number.map_or("not counted".to_owned(), |number| number.to_string())
 }
 
 fn nanoseconds(time: f64) -> String {
@@ -83,7 +105,7 @@ mod tests {
             old: vec![50.0, 200.0, 100.0],
             new: vec![100.0, 600.0, 100.0],
         };
-        let measured = Measured::of(&row, &timed, Some([400, 500]));
+        let measured = Measured::of(&row, Some(&timed), [Some(400), Some(500)]);
         let expected = [
             "read 10",
             "100",
@@ -94,7 +116,16 @@ mod tests {
             "1.25",
         ];
         assert_eq!(measured.cells(), expected);
-        let measured = Measured::of(&row, &timed, None);
+        let measured = Measured::of(&row, Some(&timed), [None; 2]);
         assert_eq!(measured.cells()[4..], ["not counted"; 3]);
+    }
+
+    #[test]
+    fn one_side_may_be_counted_alone() {
+        let row = named("4/read-10").expect("it is one");
+        let measured = Measured::of(&row, None, [None, Some(500)]);
+        assert_eq!(measured.cells()[1..4], ["not timed"; 3]);
+        let counts = ["not counted", "500", "not counted"];
+        assert_eq!(measured.cells()[4..], counts);
     }
 }

@@ -12,8 +12,12 @@ pub struct Built {
     pub compiler: &'static str,
     /// The archive's length.
     pub archive: u64,
-    pub pairs: usize,
+    /// None where nothing was timed: an emulator counted the new one.
+    pub pairs: Option<usize>,
 }
+
+/// Why there are no times then, and no instructions of the old one.
+pub const UNTIMED: &str = "The archive is for x86-64, and this machine is not: an emulator ran the new server alone and counted its instructions. Its times would say nothing, so nothing was timed; the old server is compiled for this machine, whose instructions are others.";
 
 /// In plain text, by what the calls go over.
 pub fn table(measured: &[Measured]) -> String {
@@ -33,7 +37,7 @@ fn cells(measured: &[Measured], over: Over) -> impl Iterator<Item = [String; 7]>
 fn text_line(cells: &[String; 7]) -> String {
     let [name, old, new, ratio, old_count, new_count, count_ratio] = cells;
     format!(
-        "  {name:22}{old:>9}{new:>9}  {ratio:>24}{old_count:>19}{new_count:>19}{count_ratio:>13}\n"
+        "  {name:22}{old:>9} {new:>9} {ratio:>24}{old_count:>19}{new_count:>19}{count_ratio:>13}\n"
     )
 }
 
@@ -51,6 +55,26 @@ pub fn page(measured: &[Measured], facts: &Facts, built: &Built) -> String {
 }
 
 fn what_was_run(facts: &Facts, built: &Built) -> String {
+    match built.pairs {
+        Some(pairs) => both_timed(facts, built, pairs),
+        None => new_counted(facts, built),
+    }
+}
+
+fn new_counted(facts: &Facts, built: &Built) -> String {
+    format!(
+        "{UNTIMED}
+
+- {new}
+- Instructions a call are those of many calls less those of few, by their number. The caller is a C program, whose few instructions a call are among them.
+- Old and new were not compared on these frames; `make compare` compares them on others.
+
+",
+        new = the_new_one(facts, built),
+    )
+}
+
+fn the_new_one(facts: &Facts, built: &Built) -> String {
     let kit = facts.kit.as_deref().unwrap_or("which it does not name");
     let code = match facts.text {
         Some(text) => {
@@ -58,26 +82,30 @@ fn what_was_run(facts: &Facts, built: &Built) -> String {
         }
         None => "how many are code was not looked at".to_owned(),
     };
+    let archive = built.archive;
+    format!(
+        "New: `hd_handle_request`, `hd_report`, `hd_ask` and `hd_mark` of the proved archive libhingedrift.a, as a box calls them. Made by the kit, {kit}. The archive has {archive} bytes; {code}."
+    )
+}
+
+fn both_timed(facts: &Facts, built: &Built, pairs: usize) -> String {
     let counts = match facts.uncounted() {
         Some(why) => format!("Instructions were not counted: {why}."),
         None => "Instructions a call were counted by valgrind's callgrind: of many calls less those of few, by their number.".to_owned(),
     };
-    let Built {
-        compiler,
-        archive,
-        pairs,
-    } = built;
     format!(
         "The old server and the new one, timed by one program on the same frames.
 
 - Old: zigbee-rs' `ClusterServer::handle_request`, `AttributeReportBuilder` and `ReportingTable<16>`, over document 01's store, as the comparison runs them. Compiled by {compiler} at full optimization: no overflow checks, link-time optimization, one unit. A call allocates nothing. Its lock and its list are stand-ins over the standard library's.
-- New: `hd_handle_request`, `hd_report`, `hd_ask` and `hd_mark` of the proved archive libhingedrift.a, as a box calls them. Made by the kit, {kit}. The archive has {archive} bytes; {code}.
+- {new}
 - Processor: {processor}. One thread.
 - Both are given the same frames from the same memory, in blocks of the same number of calls, old and new in turn, the two of a pair about 0.4 milliseconds together; {pairs} pairs a row. A time is the median over the blocks; a ratio is the median over the pairs, with their quartiles.
 - Before a row is timed both make each of its calls, and replies, stores and tables are compared: they are the same.
 - {counts}
 
 ",
+        compiler = built.compiler,
+        new = the_new_one(facts, built),
         processor = processor(),
     )
 }
@@ -129,7 +157,7 @@ mod tests {
         };
         let rows = rows();
         rows.iter()
-            .map(|row| Measured::of(row, &timed, None))
+            .map(|row| Measured::of(row, Some(&timed), [None; 2]))
             .collect()
     }
 
@@ -137,7 +165,7 @@ mod tests {
         Built {
             compiler: "rustc 1",
             archive: 4711,
-            pairs: 3,
+            pairs: Some(3),
         }
     }
 
@@ -166,6 +194,26 @@ mod tests {
             "not counted: no valgrind here.",
         ] {
             assert!(page.contains(words), "{words}");
+        }
+    }
+
+    #[test]
+    fn what_was_not_timed_is_not_told() {
+        let rows = rows();
+        let measured = rows
+            .iter()
+            .map(|row| Measured::of(row, None, [None, Some(77)]));
+        let measured: Vec<Measured> = measured.collect();
+        let built = Built {
+            pairs: None,
+            ..built()
+        };
+        let page = page(&measured, &Facts::default(), &built);
+        let cells = " | not timed | not timed | not timed | not counted | 77 | not counted |\n";
+        assert_eq!(page.matches(cells).count(), 18);
+        assert!(page.contains(UNTIMED) && page.contains("4711 bytes"));
+        for words in ["pairs", "valgrind", "rustc", "are the same"] {
+            assert!(!page.contains(words), "{words}");
         }
     }
 

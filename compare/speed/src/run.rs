@@ -4,16 +4,17 @@ use std::fs;
 use std::io::ErrorKind;
 use std::path::Path;
 
-use speed::{
-    Arguments, Built, Facts, Measured, Old, ROOM, Row, Side, Which, agree, named, page, rows,
-    table, timed,
-};
+use speed::{Arguments, Built, Facts, Measured, UNTIMED, page, rows, table, text};
 
-use crate::new::New;
+#[cfg(archive)]
+use crate::both;
+
+const NO_ARCHIVE: &str = "there was no archive when this program was built: `make lib` makes it";
 
 /// Why it did not come to its end.
 pub enum Trouble {
     /// The two sides differ.
+    #[cfg(archive)]
     Differs(String),
     NotRun(String),
 }
@@ -26,55 +27,59 @@ pub fn run(words: &[String]) -> Result<(), Trouble> {
             }
             Ok(())
         }
-        Arguments::Calls { row, which, many } => {
-            let row = named(&row).ok_or_else(|| Trouble::NotRun(format!("no row `{row}`")))?;
-            match which {
-                Which::Old => calls::<Old>(&row, many),
-                Which::New => calls::<New>(&row, many),
-            }
+        Arguments::Frames => {
+            print!("{}", text(&rows()));
             Ok(())
         }
-        Arguments::Timing { page, pairs, facts } => timing(&page, pairs, facts.as_deref()),
+        Arguments::Counted { page, facts } => counted(&page, &facts).map_err(Trouble::NotRun),
+        #[cfg(archive)]
+        Arguments::Calls { row, which, many } => both::calls(&row, which, many),
+        #[cfg(archive)]
+        Arguments::Timing { page, pairs, facts } => both::timing(&page, pairs, facts.as_deref()),
+        #[cfg(not(archive))]
+        Arguments::Calls { .. } | Arguments::Timing { .. } => Err(without_archive()),
     }
 }
 
-fn calls<S: Side>(row: &Row, many: usize) {
-    let mut side = S::new(&row.store, &row.table);
-    row.calls.many(many, &mut side, &mut [0; ROOM]);
+#[cfg(not(archive))]
+fn without_archive() -> Trouble {
+    let why = if cfg!(target_arch = "x86_64") {
+        NO_ARCHIVE
+    } else {
+        "the archive is for x86-64, and this machine is not"
+    };
+    Trouble::NotRun(why.to_owned())
 }
 
-fn timing(to: &str, pairs: usize, facts: Option<&str>) -> Result<(), Trouble> {
-    remove(to).map_err(Trouble::NotRun)?;
-    let facts = facts.map_or(Ok(Facts::default()), read);
-    let facts = facts.map_err(Trouble::NotRun)?;
+/// Every row is to have a count of the new side.
+fn counted(to: &str, facts: &str) -> Result<(), String> {
+    remove(to)?;
+    let facts = read(facts)?;
     let mut measured = Vec::new();
     for row in rows() {
-        let mut old = Old::new(&row.store, &row.table);
-        let mut new = New::new(&row.store, &row.table);
-        agree(&row, &mut old, &mut new).map_err(Trouble::Differs)?;
-        let timed = timed(&row, &mut old, &mut new, pairs);
-        measured.push(Measured::of(&row, &timed, facts.counts(&row.word())));
+        let counts = facts.counts(&row.word());
+        counts[1].ok_or_else(|| format!("{}: not counted", row.word()))?;
+        measured.push(Measured::of(&row, None, counts));
     }
-    print!("{}", table(&measured));
-    let built = built(pairs).map_err(Trouble::NotRun)?;
-    write(to, &page(&measured, &facts, &built)).map_err(Trouble::NotRun)
+    print!("{}\n{UNTIMED}\n", table(&measured));
+    write(to, &page(&measured, &facts, &built(None)?))
 }
 
 /// A run that does not come to its end leaves no page of an earlier one.
-fn remove(page: &str) -> Result<(), String> {
+pub fn remove(page: &str) -> Result<(), String> {
     match fs::remove_file(page) {
         Err(trouble) if trouble.kind() != ErrorKind::NotFound => Err(format!("{page}: {trouble}")),
         _ => Ok(()),
     }
 }
 
-fn read(path: &str) -> Result<Facts, String> {
+pub fn read(path: &str) -> Result<Facts, String> {
     let file = fs::read_to_string(path).map_err(|trouble| format!("{path}: {trouble}"))?;
     Facts::parsed(&file)
 }
 
-fn built(pairs: usize) -> Result<Built, String> {
-    let path = env!("ARCHIVE");
+pub fn built(pairs: Option<usize>) -> Result<Built, String> {
+    let path = option_env!("ARCHIVE").ok_or(NO_ARCHIVE)?;
     let archive = fs::metadata(path).map_err(|trouble| format!("{path}: {trouble}"))?;
     Ok(Built {
         compiler: env!("COMPILED_BY"),
@@ -83,7 +88,7 @@ fn built(pairs: usize) -> Result<Built, String> {
     })
 }
 
-fn write(path: &str, text: &str) -> Result<(), String> {
+pub fn write(path: &str, text: &str) -> Result<(), String> {
     let folder = Path::new(path).parent().unwrap_or(Path::new(""));
     fs::create_dir_all(folder)
         .and_then(|()| fs::write(path, text))
