@@ -24,7 +24,8 @@ test:
 compare:
 	compare/run compare/sample.txt
 
-# How long a call takes, the old server's and ours; writes results/speed.md.
+# How long a call takes, the old server's and ours, and in how many instructions; elsewhere than on x86-64 only our instructions are counted. Writes
+# results/speed.md.
 .PHONY: speed
 speed:
 	compare/speed/run
