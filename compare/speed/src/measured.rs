@@ -42,6 +42,10 @@ impl Measured {
         }
     }
 
+    pub fn is_timed(&self) -> bool {
+        self.times.is_some()
+    }
+
     pub fn cells(&self) -> [String; 7] {
         let not_timed = || ["not timed"; 3].map(str::to_owned);
         let [old, new, ratio] = self.times.as_ref().map_or_else(not_timed, Times::cells);
