@@ -1,5 +1,5 @@
 -- A configuration: from what the table's methods ensure to the events of its deed, and from the deed to the definition. Assumes nothing.
-use mathlib.Core.Path.{_≡_, refl, sym, ap, _∙_, subst}
+use mathlib.Core.Path.{_≡_, refl, sym, ap, _∙_}
 use mathlib.Core.Bool.{Bool, true, false, cond, false≢true}
 use mathlib.Core.List.{List, [], _∷_, _++_, append-nil}
 use Prim.Native.Nat.{ℕ}
@@ -96,12 +96,6 @@ module _ (k : Key) (bs after : List ℕ) where
         is = q ∙ ap (λ (y : ChangeTold). statusW sets (y .accepted)) x;
         left = kept ∙ ap (seen true) (configure-refused room k g (run room es l) a ∙ sym (run-append room es [] l));
       }
-
--- which deed it was, and what it left
-pub settled-by : {T : Type 0} (Of : T → List Entry → Type 0) (Was : List Entry → Type 0) {deed d : Deed} {status e : Status} {u v : T}
-    → deed ≡ d → u ≡ v → status ≡ e → Settles d Was (Of v) e → Settles deed Was (Of u) status
-settled-by {T} Of Was {deed} {d} {status} {e} {u} {v} p q r h =
-    subst (λ (x : Deed). Settles x Was (Of u) status) (sym p) (subst (λ (x : T). Settles d Was (Of x) status) (sym q) (subst (λ (x : Status). Settles d Was (Of v) x) (sym r) h))
 
 -- ---- the deed that a configuration wishes
 

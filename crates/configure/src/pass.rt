@@ -4,7 +4,7 @@ ghost use Rattle.frame.specs.Status.{statusCode};
 ghost use Rattle.frame.specs.Reply.{putting};
 ghost use Rattle.frame.specs.Failures.{noting};
 ghost use Rattle.configure.specs.Configure.{failure, encode};
-ghost use Rattle.configure.specs.Inside.{Holds, Turns, Runs};
+ghost use Rattle.configure.specs.Inside.{Holds, Settles, Turns, Runs};
 use super::record::Next;
 use super::record::next_record;
 use super::settle::Deed;
@@ -79,6 +79,38 @@ pub(crate) fn note(
     list_failure(reply, out, status, &four)
 }
 
+// What a deed came to, and the table.
+struct Settled {
+    pub table: ReportingTable,
+    pub status: Status,
+}
+
+// A deed done in a table.
+fn done(table: ReportingTable, deed: Deed) -> Settled
+    ensures { λ r. ⌜ Settles deed (Holds table) (Holds (r .table)) (r .status) ⌝ }
+{
+    match deed {
+        Deed::Fails(why) => Settled { table, status: why },
+        Deed::Clears(key) => {
+            let cleared = table.clear(key);
+            let after = cleared.table;
+            Settled {
+                table: after,
+                status: Status::Success,
+            }
+        }
+        Deed::Sets(key, config) => {
+            let changed = table.configure(key, config);
+            let answer = changed.answer;
+            let after = changed.table;
+            Settled {
+                table: after,
+                status: status_of(answer),
+            }
+        }
+    }
+}
+
 // Every record of the body, its failures listed from `start` on, until one cannot be read or does not fit.
 pub(crate) fn configure_records(
     store: &[u8],
@@ -107,20 +139,9 @@ pub(crate) fn configure_records(
                 table: kept,
             };
         };
-        let status = match deed {
-            Deed::Fails(why) => why,
-            Deed::Clears(key) => {
-                let cleared = kept.clear(key);
-                kept = cleared.table;
-                Status::Success
-            }
-            Deed::Sets(key, config) => {
-                let changed = kept.configure(key, config);
-                let answer = changed.answer;
-                kept = changed.table;
-                status_of(answer)
-            }
-        };
+        let settled = done(kept, deed);
+        let status = settled.status;
+        kept = settled.table;
         let Put::At(next) = note(reply, out, status, direction, id) else {
             return Passed {
                 done: Pass::Full,

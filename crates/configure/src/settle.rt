@@ -1,5 +1,4 @@
-// One configuration: what is to be done with the table, judged without it. The table is a value of 648 bytes, and each function that hands it
-// on copies it.
+// One configuration: what is to be done with the table, judged without it, whether the table is a value or lent as bytes.
 ghost use mathlib.Core.Path.{_≡_};
 ghost use Rattle.store.specs.Contents.{nameOf, findOf};
 ghost use Rattle.reporting.specs.Table.{room, changeTold};

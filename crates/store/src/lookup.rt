@@ -1,4 +1,4 @@
-// The attributes that a store's contents list, and the one of a name. Each function answers for any bytes; past their end they
+// The attributes that a store's contents list, and the one of a name. Each public function answers for any bytes; past their end they
 // read as 0.
 ghost use mathlib.Core.Path.{_≡_};
 ghost use Prim.Native.Nat.{_+_, _*_, _≤_};

@@ -1,15 +1,13 @@
 -- What is left of the walk is the whole, in whatever table it began. Assumes nothing.
 use borrow.Author.Needs.{needs}
-use mathlib.Core.Path.{_≡_, refl, subst, _∙_}
-use mathlib.Core.Logic.{⊎-elim}
+use mathlib.Core.Path.{_≡_, subst, _∙_}
 use Prim.Native.Nat.{_-_}
 use native.Mathlib.Omega.{arith}
 use lib.ListN.{length}
 use denote.Ref.{now}
 use Rattle.configure.specs.declared.pass.Turn.{Turn}
-use Rattle.configure.specs.Inside.{Holds, Settles, Took, Turns}
+use Rattle.configure.specs.Inside.{Holds, Took, Turns}
 use Rattle.configure.proofs.Items.{ahead}
-use Rattle.configure.proofs.Settings.{clear-settles, set-settles, settled-by}
 use Rattle.configure.proofs.Turns.{Goes, goes-first, goes-done, goes-cut, goes-more, goes-stop}
 use Rattle.configure.proofs.pass.configure_records.Statement.{statement}
 use Rattle.configure.proofs.pass.configure_records.Tie as tie
@@ -27,14 +25,6 @@ did c r e = subst (Turns (now (c .before .before .before .before .before .before
 -- the record that was read: its end, direction, id and deed
 took : (c : tie.After-turn Inv-loop μ-loop) → Took (now (c .before .before .before .before .before .before .before .before .args .store)) (c .before .before .before .before .before .before .before .before .args .request) (now (c .before .before .before .before .before .before .before .before .args .body)) (c .before .before .before .before .loop .at) (c .turn .given .0 .0) (c .turn .given .0 .1 .0) (c .turn .given .0 .1 .1 .0 .0) (c .turn .given .0 .1 .1 .1 .0)
 took c = did (c .before .before) _ (c .turn .given .1)
-
--- where the arms meet: its deed is done
-settled : (c : tie.At-match2-came Inv-loop μ-loop) → Settles (c .before .before .turn .given .0 .1 .1 .1 .0) (Holds (c .before .before .before .before .before .before .loop .kept)) (Holds (c .match2 .kept)) (c .match2 .status)
-settled c =
-    let t = c .before .before .before .before .before .before .loop .kept in
-    ⊎-elim (λ w. settled-by Holds (Holds t) (w .1 .given .1) (w .3) (w .4) (λ l es h. record { is = refl; left = h }))
-    (⊎-elim (λ w. settled-by Holds (Holds t) (w .1 .given .1) (w .5) (w .6) (clear-settles (w .1 .given .0 .0) t (w .3 .result) (w .3 .ensures)))
-    (λ w. settled-by Holds (Holds t) (w .1 .given .1) (w .6) (w .7) (set-settles (w .1 .given .0 .0) t (w .3 .result) (w .1 .given .0 .1 .0) (w .5 .result) (w .5 .ensures) (w .3 .ensures)))) (c .match2 .came)
 
 loop-holds : tie.Need-loop-holds Inv-loop μ-loop
 loop-holds c =
@@ -56,23 +46,8 @@ same-length c = c .before .before .before .before .loop .inv .reply-length
 returns : tie.Need-returns Inv-loop μ-loop
 returns c = goes-cut (c .before .before .before .before .loop .inv) (c .before .before .before .loop-test .taken) (c .before .before .before .before .loop .reply) (did (c .before .before) Turn.Cut (c .enum-told .given .1))
 
-enum-known-deed : tie.Need-enum-known-deed Inv-loop μ-loop
-enum-known-deed c = search needs
-
-enum-known-deed-2 : tie.Need-enum-known-deed-2 Inv-loop μ-loop
-enum-known-deed-2 c = search needs
-
-clear-requires : tie.Need-clear-requires Inv-loop μ-loop
-clear-requires c κs = search needs
-
-enum-known-deed-3 : tie.Need-enum-known-deed-3 Inv-loop μ-loop
-enum-known-deed-3 c = search needs
-
-configure-requires : tie.Need-configure-requires Inv-loop μ-loop
-configure-requires c κs = search needs
-
-status-of-requires : tie.Need-status-of-requires Inv-loop μ-loop
-status-of-requires c κs = search needs
+done-requires : tie.Need-done-requires Inv-loop μ-loop
+done-requires c κs = search needs
 
 note-requires : tie.Need-note-requires Inv-loop μ-loop
 note-requires c κs = search needs
@@ -84,26 +59,26 @@ enum-told-2 : tie.Need-enum-told-2 Inv-loop μ-loop
 enum-told-2 c = search needs
 
 same-length-2 : tie.Need-same-length-2 Inv-loop μ-loop
-same-length-2 c = c .before .before .before .before .note .kept .0 ∙ c .before .before .before .before .before .before .before .before .before .before .before .before .loop .inv .reply-length
+same-length-2 c = c .before .before .before .before .note .kept .0 ∙ c .before .before .before .before .before .before .before .before .before .before .before .before .before .loop .inv .reply-length
 
 returns-2 : tie.Need-returns-2 Inv-loop μ-loop
 returns-2 c =
-    let x = c .before .before .before .before .before .before .before .before .turn .given .0 in
-    let y = c .before .before .before .before .before .before .match2 in
+    let x = c .before .before .before .before .before .before .before .before .before .turn .given .0 in
+    let y = c .before .before .before .before .before .before .before .done in
     let n = c .before .before .before .before .note in
-    goes-stop (c .before .before .before .before .before .before .before .before .before .before .before .before .loop .inv) (c .before .before .before .before .before .before .before .before .before .before .before .loop-test .taken) (x .0) (x .1 .0) (x .1 .1 .0 .0) (x .1 .1 .1 .0) (took (c .before .before .before .before .before .before .before .before)) (y .status) (Holds (y .kept)) (settled (c .before .before .before .before .before .before)) (n .result) (n .last .0) (n .ensures) (c .enum-told2 .given .1)
+    goes-stop (c .before .before .before .before .before .before .before .before .before .before .before .before .before .loop .inv) (c .before .before .before .before .before .before .before .before .before .before .before .before .loop-test .taken) (x .0) (x .1 .0) (x .1 .1 .0 .0) (x .1 .1 .1 .0) (took (c .before .before .before .before .before .before .before .before .before)) (y .result .status) (Holds (y .result .table)) (y .ensures) (n .result) (n .last .0) (n .ensures) (c .enum-told2 .given .1)
 
 loop-less : tie.Need-loop-less Inv-loop μ-loop
 loop-less c =
-    let k = took (c .before .before .before .before .before .before .before .before .before) in
-    omega (arith, ahead (now (c .before .before .before .before .before .before .before .before .before .before .before .before .before .before .before .before .before .args .body)) (c .before .before .before .before .before .before .before .before .before .before .before .before .before .loop .at) (k .taken) (c .before .before .before .before .before .before .before .before .before .turn .given .0 .0) (k .is), c .before .before .before .before .before .before .before .before .before .before .before .before .loop-test .taken)
+    let k = took (c .before .before .before .before .before .before .before .before .before .before) in
+    omega (arith, ahead (now (c .before .before .before .before .before .before .before .before .before .before .before .before .before .before .before .before .before .before .args .body)) (c .before .before .before .before .before .before .before .before .before .before .before .before .before .before .loop .at) (k .taken) (c .before .before .before .before .before .before .before .before .before .before .turn .given .0 .0) (k .is), c .before .before .before .before .before .before .before .before .before .before .before .before .before .loop-test .taken)
 
 loop-again : tie.Need-loop-again Inv-loop μ-loop
 loop-again c =
-    let x = c .before .before .before .before .before .before .before .before .before .turn .given .0 in
-    let y = c .before .before .before .before .before .before .before .match2 in
+    let x = c .before .before .before .before .before .before .before .before .before .before .turn .given .0 in
+    let y = c .before .before .before .before .before .before .before .before .done in
     let n = c .before .before .before .before .before .note in
-    goes-more (c .before .before .before .before .before .before .before .before .before .before .before .before .before .loop .inv) (c .before .before .before .before .before .before .before .before .before .before .before .before .loop-test .taken) (x .0) (x .1 .0) (x .1 .1 .0 .0) (x .1 .1 .1 .0) (took (c .before .before .before .before .before .before .before .before .before)) (y .status) (Holds (y .kept)) (settled (c .before .before .before .before .before .before .before)) (n .result) (n .last .0) (n .ensures) (c .before .next .given .0 .0) (c .before .next .given .1) (n .kept .0)
+    goes-more (c .before .before .before .before .before .before .before .before .before .before .before .before .before .before .loop .inv) (c .before .before .before .before .before .before .before .before .before .before .before .before .before .loop-test .taken) (x .0) (x .1 .0) (x .1 .1 .0 .0) (x .1 .1 .1 .0) (took (c .before .before .before .before .before .before .before .before .before .before)) (y .result .status) (Holds (y .result .table)) (y .ensures) (n .result) (n .last .0) (n .ensures) (c .before .next .given .0 .0) (c .before .next .given .1) (n .kept .0)
 
 same-length-3 : tie.Need-same-length-3 Inv-loop μ-loop
 same-length-3 c = c .before .loop .inv .reply-length
@@ -123,12 +98,7 @@ configure-records-spec =
     enum-told
     same-length
     returns
-    enum-known-deed
-    enum-known-deed-2
-    clear-requires
-    enum-known-deed-3
-    configure-requires
-    status-of-requires
+    done-requires
     note-requires
     enum-known-next
     enum-told-2
