@@ -3,8 +3,8 @@ use mathlib.Core.Path.{_≡_, sym, _∙_}
 use mathlib.Core.List.{List}
 use Prim.Native.Nat.{ℕ}
 use lib.ListN.{length}
-use Rattle.frame.specs.Answer.{Outcome, noState, seen}
-use Rattle.frame.proofs.Outcome.{only-one}
+use Rattle.frame.specs.Answer.{Outcome, seen}
+use Rattle.frame.proofs.Outcome.{only-one, only-answer}
 use Rattle.reporting.specs.Table.{room, Table, tableOf, holding, Alike}
 use Rattle.reporting.specs.Carried.{tableIn}
 use Rattle.reporting.proofs.Unique.{alike}
@@ -27,16 +27,12 @@ change-width-once «type_id» r q e f = e ∙ sym f
 -- src/configuration.rt
 
 pub read-reporting-configuration-once : ReadReportingConfigurationOnce
-read-reporting-configuration-once store table request body reply r q x y e f =
-    let w = only-one (configurationOf 8 store (tableOf table) request body (length reply)) r q x y noState noState e f in
-    (w .0, w .1 .0)
+read-reporting-configuration-once store table request body reply r q x y e f = only-answer (configurationOf 8 store (tableOf table) request body (length reply)) r q x y e f
 
 -- src/configuration_lent.rt
 
 pub read-reporting-configuration-lent-once : ReadReportingConfigurationLentOnce
-read-reporting-configuration-lent-once store table request body reply r q x y e f =
-    let w = only-one (configurationOf 8 store (holding (tableIn table)) request body (length reply)) r q x y noState noState e f in
-    (w .0, w .1 .0)
+read-reporting-configuration-lent-once store table request body reply r q x y e f = only-answer (configurationOf 8 store (holding (tableIn table)) request body (length reply)) r q x y e f
 
 -- src/configure.rt
 

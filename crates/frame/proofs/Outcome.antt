@@ -41,6 +41,10 @@ module _ {S : Type 0} where
   pub seen-refused : (room : ℕ) (d : List ℕ) (why : Refusal) (s : S) → d ≡ zeros room → seen (Refused why) d s ≡ refused room why s
   seen-refused room d why s z = ap (λ (l : List ℕ). seen (Refused why) l s) z
 
+-- the same of a call that changes no state
+pub only-answer : (o : Outcome (Unit {0})) (a b : Answer) (d e : List ℕ) → seen a d noState ≡ o → seen b e noState ≡ o → (a ≡ b) × (d ≡ e)
+only-answer o a b d e p q = let w = only-one o a b d e noState noState p q in (w .0, w .1 .0)
+
 -- what a call without a state left, with a state beside it
 abbrev pub beside : {S : Type 0} → S → Outcome (Unit {0}) → Outcome S
 beside s o = record { number = o .number; size = o .size; reply = o .reply; state = s }

@@ -1,20 +1,10 @@
 -- No second answer fits a contract: one theorem for each public function, of two results and exit buffers that meet it at the same
 -- entry values. Assumes nothing.
-use Prim.Native.Nat.{ℕ}
-use mathlib.Core.Path.{_≡_, sym, _∙_}
-use mathlib.Core.List.{List}
-use Rattle.frame.specs.Answer.{noState, seen}
-use Rattle.frame.specs.declared.answer.Answer.{Answer}
+use mathlib.Core.Path.{sym, _∙_}
 use Rattle.frame.specs.Unique.{RefusalNumberOnce, AnswerNumberOnce, ReplyLenOnce, RefuseOnce, FromBitsOnce, RawOnce, ListFailureOnce, ConcludeOnce}
 use Rattle.frame.specs.Unique.{FrameTypeOnce, IsManufacturerSpecificOnce, ReadHeaderOnce, WriteResponseHeaderOnce, BeginReplyOnce, ClearOnce, PutRunOnce, PutBothOnce}
 use Rattle.frame.specs.Unique.{PutByteOnce, PutU16Once, ToU8Once}
-use Rattle.frame.proofs.Outcome.{seen-same, putting-same}
-
--- the laws of what a contract sees
-
--- an answer and its buffer, of a call that changes no state
-pub answered-same : (a b : Answer) (d e : List ℕ) → seen a d noState ≡ seen b e noState → (a ≡ b) × (d ≡ e)
-answered-same a b d e p = let w = seen-same a b d e noState noState p in (w .0, w .1 .0)
+use Rattle.frame.proofs.Outcome.{only-answer, putting-same}
 
 -- src/answer.rt
 pub refusal-number-once : RefusalNumberOnce
@@ -27,7 +17,7 @@ pub reply-len-once : ReplyLenOnce
 reply-len-once self r q e f = e ∙ sym f
 
 pub refuse-once : RefuseOnce
-refuse-once reply why r q x y e f = answered-same r q x y (e ∙ sym f)
+refuse-once reply why r q x y e f = only-answer _ r q x y e f
 
 -- src/command_identifier.rt
 pub from-bits-once : FromBitsOnce
@@ -41,7 +31,7 @@ pub list-failure-once : ListFailureOnce
 list-failure-once reply out status failure r q x y e f = putting-same r q x y (e ∙ sym f)
 
 pub conclude-once : ConcludeOnce
-conclude-once reply start done r q x y e f = answered-same r q x y (e ∙ sym f)
+conclude-once reply start done r q x y e f = only-answer _ r q x y e f
 
 -- src/header.rt
 pub frame-type-once : FrameTypeOnce

@@ -4,10 +4,9 @@ use mathlib.Core.Path.{_≡_, sym, ap, _∙_}
 use mathlib.Core.List.{List}
 use Prim.Native.Nat.{ℕ}
 use lib.ListN.{length}
-use Rattle.frame.specs.declared.answer.Answer.{Answer}
 use Rattle.frame.specs.Header.{frameTypeOf}
-use Rattle.frame.specs.Answer.{Outcome, noState, seen}
-use Rattle.frame.proofs.Outcome.{only-one}
+use Rattle.frame.specs.Answer.{Outcome, seen}
+use Rattle.frame.proofs.Outcome.{only-one, only-answer}
 use Rattle.reporting.specs.Table.{room, Alike, tableOf}
 use Rattle.reporting.proofs.Unique.{alike}
 use Rattle.server.specs.declared.serve.Served.{Served}
@@ -26,10 +25,6 @@ one-served o a b d e s u p q =
     let w = only-one o (a .answer) (b .answer) d e (state s (tableOf (a .table))) (state u (tableOf (b .table))) p q in
     (w .0, (w .1 .0, (ap (λ (x : State). x .store) (w .1 .1), alike (a .table) (b .table) (ap (λ (x : State). x .table) (w .1 .1)))))
 
--- a Default Response, the responder's answer and a report leave no more than an answer and a buffer
-pub one-answered : (o : Outcome (Unit {0})) (a b : Answer) (d e : List ℕ) → seen a d noState ≡ o → seen b e noState ≡ o → (a ≡ b) × (d ≡ e)
-one-answered o a b d e p q = let w = only-one o a b d e noState noState p q in (w .0, w .1 .0)
-
 -- src/checks.rt
 
 pub open-request-once : OpenRequestOnce
@@ -38,12 +33,12 @@ open-request-once store known cluster request r q e f = e ∙ sym f
 -- src/default_response.rt
 
 pub default-response-once : DefaultResponseOnce
-default-response-once request unicast status reply r q x y e f = one-answered (defaultResponse request unicast status (length reply)) r q x y e f
+default-response-once request unicast status reply r q x y e f = only-answer (defaultResponse request unicast status (length reply)) r q x y e f
 
 -- src/report.rt
 
 pub report-once : ReportOnce
-report-once store sequence ids frame r q x y e f = one-answered (reportOf 8 store sequence ids (length frame)) r q x y e f
+report-once store sequence ids frame r q x y e f = only-answer (reportOf 8 store sequence ids (length frame)) r q x y e f
 
 -- src/serve.rt
 
@@ -53,7 +48,7 @@ handle-request-once store table cluster unicast request reply r q x y s u e f = 
 -- src/unsupported_cluster.rt
 
 pub unsupported-cluster-once : UnsupportedClusterOnce
-unsupported-cluster-once served cluster unicast request reply r q x y e f = one-answered (unsupportedCluster served (cluster .0) unicast request (length reply)) r q x y e f
+unsupported-cluster-once served cluster unicast request reply r q x y e f = only-answer (unsupportedCluster served (cluster .0) unicast request (length reply)) r q x y e f
 
 -- src/without_table.rt
 
