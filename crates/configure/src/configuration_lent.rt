@@ -76,7 +76,8 @@ fn configuration_records_lent(
     Answer::Reply(out)
 }
 
-// Read Reporting Configuration. No entry point: the bytes must be a table, which whoever serves a frame has asked once.
+// Read Reporting Configuration. Public for crate `hingedrift` alone, no entry point: the bytes must be a table, which `hd_handle_request` has
+// asked once.
 pub fn read_reporting_configuration_lent(
     store: &[u8],
     table: &[u8],

@@ -78,7 +78,8 @@ fn configure_records_lent(
     Pass::Through(out)
 }
 
-// Configure Reporting. No entry point: the bytes must be a table, which whoever serves a frame has asked once.
+// Configure Reporting. Public for crate `hingedrift` alone, no entry point: the bytes must be a table, which `hd_handle_request` has asked
+// once.
 pub fn configure_reporting_lent(
     store: &[u8],
     table: &mut [u8],

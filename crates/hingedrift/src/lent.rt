@@ -22,7 +22,8 @@ use server::without_table::needs_table;
 use server::without_table::serve_store;
 use types::ids::ClusterId;
 
-// A frame that passed the checks.
+// A frame that passed the checks. Of the two commands that need the table, the one that is not Configure Reporting is Read Reporting
+// Configuration.
 fn frame_lent(
     store: &mut [u8],
     table: &mut [u8],

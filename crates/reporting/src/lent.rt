@@ -1,6 +1,6 @@
 // The reporting table's operations on the bytes that carry it. They are checked whole; then the slots in question are read where they
 // lie, and only what changes is written. What each says is what the method by value says of the table that the bytes are. The functions
-// `.._in` do not check: whoever serves a frame has asked `is_table` once.
+// `.._in` do not check: they are public for crate `configure` alone, whose caller has asked `is_table` once for a whole request.
 ghost use mathlib.Core.Path.{_≡_};
 ghost use mathlib.Core.Bool.{true};
 ghost use Prim.Native.Nat.{_+_, _≤_};
@@ -73,7 +73,7 @@ pub fn ask_lent(bytes: &[u8], key: Key, now: u32, value: i64) -> Report
     Report::NotDue
 }
 
-// The key's configuration. No entry point. The bytes must be a table: whoever serves a frame has asked `is_table` once.
+// The key's configuration. Public for crate `configure` alone, no entry point: the bytes must be a table.
 pub fn configuration_in(bytes: &[u8], key: Key) -> Setting
     requires { ⌜ isTable room (now bytes) ≡ true ⌝ }
     ensures { λ r. ⌜ settingTold r ≡ configurationT key (holding (tableIn (now (bytes .entry)))) ⌝ }
@@ -117,8 +117,8 @@ pub fn mark_lent(bytes: &mut [u8], key: Key, now: u32, value: i64) -> bool
     true
 }
 
-// Sets the key's configuration, and forgets its last report. A new key takes the slot behind the last one. No entry point. The bytes
-// must be a table: whoever serves a frame has asked `is_table` once.
+// Sets the key's configuration, and forgets its last report. A new key takes the slot behind the last one. Public for crate
+// `configure` alone, no entry point: the bytes must be a table.
 pub fn configure_in(bytes: &mut [u8], key: Key, config: ReportingConfig) -> Change
     requires { ⌜ isTable room (now bytes) ≡ true ⌝ }
     ensures { λ r. ⌜ keptAs r (now (bytes .exit)) ≡ configureIn key config (tableIn (now (bytes .entry))) ⌝ }
@@ -153,8 +153,8 @@ fn blank_slot(bytes: &mut [u8], at: usize)
     clear(&mut bytes[at..at + SLOT]);
 }
 
-// Takes the key's entry out: the last slot moves into its place, and zeros into the last. No entry point. The bytes must be a table:
-// whoever serves a frame has asked `is_table` once.
+// Takes the key's entry out: the last slot moves into its place, and zeros into the last. Public for crate `configure` alone, no
+// entry point: the bytes must be a table.
 pub fn clear_in(bytes: &mut [u8], key: Key)
     requires { ⌜ isTable room (now bytes) ≡ true ⌝ }
     ensures { λ _. ⌜ readT room (now (bytes .exit)) ≡ seen true (clearL key (tableIn (now (bytes .entry)))) ⌝ }
