@@ -11,6 +11,9 @@ use super::reply::put_run;
 use types::ids::CommandId;
 use types::number::u16_at;
 
+// The control byte of a reply: a global command from server to client that wants no Default Response.
+pub const RESPONSE_FRAME_CONTROL: u8 = 0x18;
+
 pub struct FrameControl(pub u8);
 
 pub struct ManufacturerCode(pub u16);
@@ -94,7 +97,11 @@ pub fn write_response_header(
 ) -> Put
     ensures { λ r. ⌜ putting r (now (reply .exit)) ≡ put (now (reply .entry)) 0 (replyHead request command) ⌝ }
 {
-    let head = [0x18, request.sequence_number, command.raw()];
+    let head = [
+        RESPONSE_FRAME_CONTROL,
+        request.sequence_number,
+        command.raw(),
+    ];
     put_run(reply, 0, &head)
 }
 

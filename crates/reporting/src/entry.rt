@@ -7,6 +7,12 @@ use super::distance::distance;
 use types::ids::AttributeId;
 use types::ids::ClusterId;
 
+// As a maximum interval it ends the reporting of an attribute (2.5.7.1.6).
+pub const MAX_INTERVAL_DISABLED: u16 = 0xffff;
+
+// As a minimum interval, with a maximum of 0, it asks for the default configuration (2.5.7.1.6). This device has none, and keeps no entry.
+pub const MIN_INTERVAL_DEFAULT: u16 = 0xffff;
+
 // What an entry is found by. A cluster and an attribute cannot be exchanged.
 pub struct Key {
     pub cluster: ClusterId,
@@ -108,7 +114,7 @@ impl Entry {
         ensures { λ r. ⌜ r ≡ dueE self now value ⌝ }
     {
         let config = self.config;
-        if config.max_interval == 0xffff {
+        if config.max_interval == MAX_INTERVAL_DISABLED {
             return false;
         }
         if self.marked {

@@ -8,6 +8,7 @@ use super::lookup::Attribute;
 use super::lookup::attribute_in;
 use super::lookup::count_of;
 use types::ids::Form;
+use types::ids::TypeId;
 use types::number::all_zero;
 use types::number::byte_at;
 
@@ -31,7 +32,7 @@ pub fn is_text(a: Attribute) -> bool
 {
     let code = a.type_id.0;
     match code {
-        0x41..=0x42 => true,
+        TypeId::OCTET_STRING | TypeId::CHARACTER_STRING => true,
         _ => false,
     }
 }

@@ -37,115 +37,116 @@ fn among(first: u8, last: u8, code: u8) -> bool
 }
 
 impl TypeId {
-    pub const NO_DATA: TypeId = TypeId(0x00);
+    // The codes. They are numbers, since a pattern takes a constant only where it is one: the type is TypeId(TypeId::NO_DATA).
+    pub const NO_DATA: u8 = 0x00;
 
-    pub const DATA8: TypeId = TypeId(0x08);
+    pub const DATA8: u8 = 0x08;
 
-    pub const DATA16: TypeId = TypeId(0x09);
+    pub const DATA16: u8 = 0x09;
 
-    pub const DATA24: TypeId = TypeId(0x0a);
+    pub const DATA24: u8 = 0x0a;
 
-    pub const DATA32: TypeId = TypeId(0x0b);
+    pub const DATA32: u8 = 0x0b;
 
-    pub const DATA40: TypeId = TypeId(0x0c);
+    pub const DATA40: u8 = 0x0c;
 
-    pub const DATA48: TypeId = TypeId(0x0d);
+    pub const DATA48: u8 = 0x0d;
 
-    pub const DATA56: TypeId = TypeId(0x0e);
+    pub const DATA56: u8 = 0x0e;
 
-    pub const DATA64: TypeId = TypeId(0x0f);
+    pub const DATA64: u8 = 0x0f;
 
-    pub const BOOLEAN: TypeId = TypeId(0x10);
+    pub const BOOLEAN: u8 = 0x10;
 
-    pub const BITMAP8: TypeId = TypeId(0x18);
+    pub const BITMAP8: u8 = 0x18;
 
-    pub const BITMAP16: TypeId = TypeId(0x19);
+    pub const BITMAP16: u8 = 0x19;
 
-    pub const BITMAP24: TypeId = TypeId(0x1a);
+    pub const BITMAP24: u8 = 0x1a;
 
-    pub const BITMAP32: TypeId = TypeId(0x1b);
+    pub const BITMAP32: u8 = 0x1b;
 
-    pub const BITMAP40: TypeId = TypeId(0x1c);
+    pub const BITMAP40: u8 = 0x1c;
 
-    pub const BITMAP48: TypeId = TypeId(0x1d);
+    pub const BITMAP48: u8 = 0x1d;
 
-    pub const BITMAP56: TypeId = TypeId(0x1e);
+    pub const BITMAP56: u8 = 0x1e;
 
-    pub const BITMAP64: TypeId = TypeId(0x1f);
+    pub const BITMAP64: u8 = 0x1f;
 
-    pub const UINT8: TypeId = TypeId(0x20);
+    pub const UINT8: u8 = 0x20;
 
-    pub const UINT16: TypeId = TypeId(0x21);
+    pub const UINT16: u8 = 0x21;
 
-    pub const UINT24: TypeId = TypeId(0x22);
+    pub const UINT24: u8 = 0x22;
 
-    pub const UINT32: TypeId = TypeId(0x23);
+    pub const UINT32: u8 = 0x23;
 
-    pub const UINT40: TypeId = TypeId(0x24);
+    pub const UINT40: u8 = 0x24;
 
-    pub const UINT48: TypeId = TypeId(0x25);
+    pub const UINT48: u8 = 0x25;
 
-    pub const UINT56: TypeId = TypeId(0x26);
+    pub const UINT56: u8 = 0x26;
 
-    pub const UINT64: TypeId = TypeId(0x27);
+    pub const UINT64: u8 = 0x27;
 
-    pub const INT8: TypeId = TypeId(0x28);
+    pub const INT8: u8 = 0x28;
 
-    pub const INT16: TypeId = TypeId(0x29);
+    pub const INT16: u8 = 0x29;
 
-    pub const INT24: TypeId = TypeId(0x2a);
+    pub const INT24: u8 = 0x2a;
 
-    pub const INT32: TypeId = TypeId(0x2b);
+    pub const INT32: u8 = 0x2b;
 
-    pub const INT40: TypeId = TypeId(0x2c);
+    pub const INT40: u8 = 0x2c;
 
-    pub const INT48: TypeId = TypeId(0x2d);
+    pub const INT48: u8 = 0x2d;
 
-    pub const INT56: TypeId = TypeId(0x2e);
+    pub const INT56: u8 = 0x2e;
 
-    pub const INT64: TypeId = TypeId(0x2f);
+    pub const INT64: u8 = 0x2f;
 
-    pub const ENUM8: TypeId = TypeId(0x30);
+    pub const ENUM8: u8 = 0x30;
 
-    pub const ENUM16: TypeId = TypeId(0x31);
+    pub const ENUM16: u8 = 0x31;
 
-    pub const SEMI_PRECISION: TypeId = TypeId(0x38);
+    pub const SEMI_PRECISION: u8 = 0x38;
 
-    pub const SINGLE_PRECISION: TypeId = TypeId(0x39);
+    pub const SINGLE_PRECISION: u8 = 0x39;
 
-    pub const DOUBLE_PRECISION: TypeId = TypeId(0x3a);
+    pub const DOUBLE_PRECISION: u8 = 0x3a;
 
-    pub const OCTET_STRING: TypeId = TypeId(0x41);
+    pub const OCTET_STRING: u8 = 0x41;
 
-    pub const CHARACTER_STRING: TypeId = TypeId(0x42);
+    pub const CHARACTER_STRING: u8 = 0x42;
 
-    pub const LONG_OCTET_STRING: TypeId = TypeId(0x43);
+    pub const LONG_OCTET_STRING: u8 = 0x43;
 
-    pub const LONG_CHARACTER_STRING: TypeId = TypeId(0x44);
+    pub const LONG_CHARACTER_STRING: u8 = 0x44;
 
-    pub const ARRAY: TypeId = TypeId(0x48);
+    pub const ARRAY: u8 = 0x48;
 
-    pub const STRUCTURE: TypeId = TypeId(0x4c);
+    pub const STRUCTURE: u8 = 0x4c;
 
-    pub const SET: TypeId = TypeId(0x50);
+    pub const SET: u8 = 0x50;
 
-    pub const BAG: TypeId = TypeId(0x51);
+    pub const BAG: u8 = 0x51;
 
-    pub const TIME_OF_DAY: TypeId = TypeId(0xe0);
+    pub const TIME_OF_DAY: u8 = 0xe0;
 
-    pub const DATE: TypeId = TypeId(0xe1);
+    pub const DATE: u8 = 0xe1;
 
-    pub const UTC_TIME: TypeId = TypeId(0xe2);
+    pub const UTC_TIME: u8 = 0xe2;
 
-    pub const CLUSTER_ID: TypeId = TypeId(0xe8);
+    pub const CLUSTER_ID: u8 = 0xe8;
 
-    pub const ATTRIBUTE_ID: TypeId = TypeId(0xe9);
+    pub const ATTRIBUTE_ID: u8 = 0xe9;
 
-    pub const BACNET_OID: TypeId = TypeId(0xea);
+    pub const BACNET_OID: u8 = 0xea;
 
-    pub const IEEE_ADDRESS: TypeId = TypeId(0xf0);
+    pub const IEEE_ADDRESS: u8 = 0xf0;
 
-    pub const SECURITY_KEY: TypeId = TypeId(0xf1);
+    pub const SECURITY_KEY: u8 = 0xf1;
 
     // The size of every value, or Varies where values differ in size or the type is unknown. Bitmaps, integers and enumerations, and
     // data and boolean, have one byte at a multiple of 8 and a byte more with each code. Counting those leaves so few codes to name that
@@ -155,18 +156,22 @@ impl TypeId {
         ensures { λ r. ⌜ r ≡ sizeOf (self .0) ⌝ }
     {
         let code = self.0;
-        if among(0x18, 0x31, code) {
+        if among(TypeId::BITMAP8, TypeId::ENUM16, code) {
             return Size::Bytes((code % 8) as usize + 1);
         }
-        if among(0x08, 0x10, code) {
+        if among(TypeId::DATA8, TypeId::BOOLEAN, code) {
             return Size::Bytes((code % 8) as usize + 1);
         }
         match code {
-            0x00 => Size::Bytes(0),
-            0x38 | 0xe8 | 0xe9 => Size::Bytes(2),
-            0x39 | 0xe0 | 0xe1 | 0xe2 | 0xea => Size::Bytes(4),
-            0x3a | 0xf0 => Size::Bytes(8),
-            0xf1 => Size::Bytes(16),
+            TypeId::NO_DATA => Size::Bytes(0),
+            TypeId::SEMI_PRECISION | TypeId::CLUSTER_ID | TypeId::ATTRIBUTE_ID => Size::Bytes(2),
+            TypeId::SINGLE_PRECISION
+            | TypeId::TIME_OF_DAY
+            | TypeId::DATE
+            | TypeId::UTC_TIME
+            | TypeId::BACNET_OID => Size::Bytes(4),
+            TypeId::DOUBLE_PRECISION | TypeId::IEEE_ADDRESS => Size::Bytes(8),
+            TypeId::SECURITY_KEY => Size::Bytes(16),
             _ => Size::Varies,
         }
     }
@@ -180,10 +185,10 @@ impl TypeId {
         }
         let code = self.0;
         match code {
-            0x41 | 0x42 => Form::Text,
-            0x43 | 0x44 => Form::LongText,
-            0x48 | 0x50 | 0x51 => Form::Series,
-            0x4c => Form::Structure,
+            TypeId::OCTET_STRING | TypeId::CHARACTER_STRING => Form::Text,
+            TypeId::LONG_OCTET_STRING | TypeId::LONG_CHARACTER_STRING => Form::LongText,
+            TypeId::ARRAY | TypeId::SET | TypeId::BAG => Form::Series,
+            TypeId::STRUCTURE => Form::Structure,
             _ => Form::Unknown,
         }
     }
@@ -194,7 +199,9 @@ impl TypeId {
     {
         let code = self.0;
         match code {
-            0x20..=0x2f | 0x38..=0x3a | 0xe0..=0xe2 => true,
+            TypeId::UINT8..=TypeId::INT64
+            | TypeId::SEMI_PRECISION..=TypeId::DOUBLE_PRECISION
+            | TypeId::TIME_OF_DAY..=TypeId::UTC_TIME => true,
             _ => false,
         }
     }
@@ -205,7 +212,7 @@ impl TypeId {
     {
         let code = self.0;
         match code {
-            0x48 | 0x4c | 0x50 | 0x51 => false,
+            TypeId::ARRAY | TypeId::STRUCTURE | TypeId::SET | TypeId::BAG => false,
             _ => true,
         }
     }
@@ -214,13 +221,13 @@ impl TypeId {
     pub fn is_signed(self) -> bool
         ensures { λ r. ⌜ r ≡ isSigned (self .0) ⌝ }
     {
-        among(0x28, 0x2f, self.0)
+        among(TypeId::INT8, TypeId::INT64, self.0)
     }
 
     // Semi, single and double precision.
     pub fn is_float(self) -> bool
         ensures { λ r. ⌜ r ≡ isFloat (self .0) ⌝ }
     {
-        among(0x38, 0x3a, self.0)
+        among(TypeId::SEMI_PRECISION, TypeId::DOUBLE_PRECISION, self.0)
     }
 }
