@@ -3,12 +3,12 @@
 //! are a table all the same, does with it what the Rust does.
 
 use cases::Random;
+use cases::histories::kinds::{self, Kinds};
+use cases::histories::{Answer, History};
 use ours::Held;
 use reading::table::{SIZE, SLOT, entries};
 
-use crate::call::Answer;
-use crate::histories::History;
-use crate::kinds::{self, Kinds};
+use crate::call::{leaving, on};
 use crate::table::Table;
 
 /// Calls on some damaged copies of `table`.
@@ -60,8 +60,8 @@ fn every_call(bytes: &[u8], random: &mut Random, kinds: &mut Kinds) -> Result<Ve
     let each = calls.iter().map(|call| match &read {
         Ok(held) => Ok(Table::of(bytes, held.clone()).give(call)?.held),
         Err(_) => Ok(Held {
-            call: call.on(bytes),
-            answer: Answer::NO_TABLE.leaving(bytes),
+            call: on(call, bytes),
+            answer: leaving(Answer::NO_TABLE, bytes),
         }),
     });
     [Ok(table_new(bytes))].into_iter().chain(each).collect()
@@ -70,9 +70,9 @@ fn every_call(bytes: &[u8], random: &mut Random, kinds: &mut Kinds) -> Result<Ve
 /// A new table can be made in any bytes of its length, and in no others.
 pub fn table_new(bytes: &[u8]) -> Held {
     let answer = if bytes.len() == SIZE {
-        Answer::DONE.leaving(&[0; SIZE])
+        leaving(Answer::DONE, &[0; SIZE])
     } else {
-        Answer::NO_TABLE.leaving(bytes)
+        leaving(Answer::NO_TABLE, bytes)
     };
     Held {
         call: ours::Call::table_new(bytes),

@@ -8,19 +8,15 @@
 
 mod call;
 mod damaged;
-mod histories;
-mod kinds;
-mod rust;
 mod table;
 
 use std::fmt::Write;
 use std::process::ExitCode;
 use std::time::Instant;
 
-use call::Call;
+use cases::histories::kinds::{self, Kinds};
+use cases::histories::{Call, History};
 use cases::{Random, shorter};
-use histories::History;
-use kinds::Kinds;
 use ours::Driver;
 use reading::table::SIZE;
 use table::{Table, list};
@@ -45,7 +41,7 @@ fn run() -> Result<(), String> {
     let start = Instant::now();
     let driver = &mut Driver::start()?;
     let random = &mut Random::new(0x6869_6e67_6564_7269);
-    let kinds = &mut Kinds::new();
+    let kinds = &mut Kinds::default();
     let (mut calls, mut histories) = (0, 0);
     let mut kept = Vec::new();
     driver.agree(&[damaged::table_new(&[0x5a; SIZE])])?;
@@ -58,12 +54,12 @@ fn run() -> Result<(), String> {
     }
     let seconds = start.elapsed().as_secs_f64();
     println!("calls: {calls} in {histories} histories agree, {seconds:.1} s");
-    print!("{}", kinds.list());
+    print!("{}", kinds.list(&kinds::ALL));
     println!(
         "{:9}  calls of ours, with those on damaged tables",
         driver.made()
     );
-    let missing = kinds.missing();
+    let missing = kinds.missing(&kinds::ALL);
     if !missing.is_empty() {
         return Err(format!("never reached: {}", missing.join("; ")));
     }

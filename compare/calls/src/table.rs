@@ -3,14 +3,14 @@
 use std::fmt::Write;
 use std::mem::replace;
 
+use cases::histories::{Answer, Call, settings, shown};
 use ours::Held;
 use reading::table::{Entry, ask, to_bytes};
 
-use crate::call::{Answer, Call, settings, shown};
-use crate::rust::Rust;
+use crate::call::{leaving, on};
 
 pub struct Table {
-    rust: Rust,
+    rust: oracle::Table,
     entries: Vec<Entry>,
     /// What ours is lent. What it leaves is held to be the bytes of the Rust's
     /// table, so they are its own.
@@ -27,7 +27,7 @@ pub struct Given {
 impl Table {
     pub fn new() -> Self {
         Self {
-            rust: Rust::new(),
+            rust: oracle::Table::default(),
             entries: Vec::new(),
             bytes: to_bytes(&[]),
         }
@@ -36,7 +36,7 @@ impl Table {
     /// From a table's bytes.
     pub fn of(bytes: &[u8], entries: Vec<Entry>) -> Self {
         Self {
-            rust: Rust::of(&entries),
+            rust: oracle::Table::of(&entries),
             entries,
             bytes: bytes.to_vec(),
         }
@@ -66,8 +66,8 @@ impl Table {
         let before = replace(&mut self.entries, self.rust.entries());
         let lent = replace(&mut self.bytes, to_bytes(&self.entries));
         let held = Held {
-            call: call.on(&lent),
-            answer: answer.leaving(&self.bytes),
+            call: on(call, &lent),
+            answer: leaving(answer, &self.bytes),
         };
         Ok(Given {
             before,

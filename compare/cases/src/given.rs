@@ -3,7 +3,7 @@
 
 mod list;
 pub mod stores;
-mod tables;
+pub mod tables;
 
 use reading::commands::serve_lent;
 use reading::store::{attributes, cluster_of};

@@ -5,6 +5,7 @@ mod case;
 mod conditions;
 pub mod given;
 mod hex;
+pub mod histories;
 pub mod kinds;
 mod random;
 mod records;

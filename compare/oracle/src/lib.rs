@@ -3,6 +3,7 @@
 //! store, so `reading`'s is taken, and its extents where a value is stored;
 //! nothing else of it.
 
+mod calls;
 mod lists;
 mod others;
 mod server;
@@ -14,6 +15,7 @@ use reading::table::Entry;
 use zigbee_cluster_library::server::ClusterServer;
 use zigbee_core::zdo::ClusterRequest;
 
+pub use calls::Table;
 use lists::Lists;
 pub use others::{report, unsupported_cluster};
 pub use server::Server;

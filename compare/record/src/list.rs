@@ -4,7 +4,9 @@ use cases::{Condition, hex};
 use reading::Extent;
 
 use crate::lines::Inputs;
-use crate::{collections, frames, headers, numbers, rust, stores, strings, types};
+use crate::{
+    collections, frames, headers, histories, numbers, requests, rust, stores, strings, types,
+};
 
 /// The list, or why there is none.
 pub fn whole() -> Result<String, String> {
@@ -20,6 +22,8 @@ pub fn whole() -> Result<String, String> {
     }
     lines.extend(stores::lines());
     lines.extend(frames::lines()?.0);
+    lines.extend(histories::lines()?.0);
+    lines.extend(requests::lines()?.0);
 
     let count = u32::try_from(lines.len()).expect("the list is short");
     lines.push(format!("n {}", hex(&count.to_le_bytes())));
@@ -62,7 +66,7 @@ mod tests {
     fn shape() {
         let list = whole().expect("no difference but the listed ones");
         assert_eq!(list, whole().expect("again"), "two runs, one list");
-        assert!(list.is_ascii() && list.len() < 1_000_000);
+        assert!(list.is_ascii() && list.len() < 1_600_000);
 
         let mut lines: Vec<&str> = list
             .strip_suffix('\n')
@@ -77,6 +81,7 @@ mod tests {
 
         let floors = [
             ('t', 256, 3),
+            ('i', 1, 3),
             ('h', 1_400, 3),
             ('e', 1_200, 3),
             ('d', 300, 4),
@@ -85,6 +90,8 @@ mod tests {
             ('w', 300, 3),
             ('c', 1_500, 3),
             ('x', 100, 4),
+            ('m', 150, 3),
+            ('q', 300, 3),
         ];
         let mut rest = lines.len();
         for (letter, floor, fields) in floors {

@@ -4,6 +4,8 @@
 //!
 //! A case a line, fields parted by one space, bytes in lowercase hex:
 //! - `t code size-analog-reportable`: the type table. Size ff where not fixed.
+//! - `i count codes`: the types that have a name, by their codes, in the order
+//!   of the Rust's enum.
 //! - `h frame answer`: the header reader. Nothing where it refuses; else frame
 //!   type, 01 or 00 for a manufacturer code or none, that code, sequence,
 //!   command, the body's offset.
@@ -29,6 +31,20 @@
 //! - `x input answers answers`: a frame with a listed difference, input and
 //!   answers as in `c`, document 01's first, then the Rust's, whose number is 6
 //!   where it has no reply.
+//! - `m calls answers`: calls on a reporting table, from an empty one on. A call
+//!   is its operation (configure 00, clear 01, mark 02, ask 03, configuration
+//!   04, len 05), the cluster and the attribute in two bytes each, and twelve
+//!   bytes: minimum, maximum and change, or a time and a value, or zeros. An
+//!   answer is 00 and a byte: 01 where it was accepted or done, is due or was
+//!   found, or how many entries there are; behind a configuration its minimum,
+//!   maximum and change. Behind the answers comes the table, its count and its
+//!   slots (docs/TABLE.md).
+//! - `q input answer`: one frame of commands 06 and 08 over a store and a table.
+//!   The input is the room in one byte, the table's count and slots, the store's
+//!   length in two bytes, the store, the request frame. The answer is 01, the
+//!   number, the reply's length in one byte, the reply, and 00 where the table is
+//!   as it was, or 01 and the table's count and slots. The number is document
+//!   01's, as in `c`; reply and table are the Rust's as well.
 //! - `n count`: how many lines stand before this one, the last.
 //!
 //! The frames of `c` and `x` are global ones of commands 00, 02, 03, 05 and 0c
@@ -37,18 +53,21 @@
 //! more with a longer one.
 //!
 //! A difference that is not listed ends the program, with nothing written, and
-//! so does an answer that document 01 allows to these commands and that no
-//! frame reaches, or a listed difference that no frame shows.
+//! so does an answer that document 01 allows to these commands, to 06 and 08 or
+//! to a call on a table and that no line reaches, or a listed difference that no
+//! frame shows.
 //!
-//! `record counts` writes instead how often each answer came in `c` and `x`
-//! lines, `record smallest` the smallest frames that show each difference.
+//! `record counts` writes instead how often each answer came in `c`, `x`, `m` and
+//! `q` lines, `record smallest` the smallest frames that show each difference.
 
 mod collections;
 mod frames;
 mod headers;
+mod histories;
 mod lines;
 mod list;
 mod numbers;
+mod requests;
 mod rust;
 mod stores;
 mod strings;
@@ -57,11 +76,20 @@ mod types;
 use std::io::{Write, stdout};
 use std::process::ExitCode;
 
+use cases::histories::kinds::CALLS;
+
+fn counts() -> Result<String, String> {
+    let list = frames::lines()?.1.list();
+    let calls = histories::lines()?.1.list(&CALLS);
+    let requests = requests::lines()?.1.list(&requests::COMMANDS);
+    Ok(list + &calls + &requests)
+}
+
 fn main() -> ExitCode {
     let asked = std::env::args().nth(1);
     let text = match asked.as_deref() {
         None => list::whole(),
-        Some("counts") => frames::lines().map(|(_, counts)| counts.list()),
+        Some("counts") => counts(),
         Some("smallest") => frames::smallest::list(),
         Some(other) => Err(format!("{other}: not one of counts, smallest")),
     };

@@ -10,6 +10,68 @@ use zigbee_cluster_library::frame::header::frame_control::FrameType;
 use zigbee_cluster_library::types::data_types::ZclDataType;
 use zigbee_cluster_library::types::ids::TypeId;
 
+/// All but `Unknown`.
+const NAMED: [TypeId; 55] = {
+    use TypeId::*;
+    [
+        NoData,
+        Data8,
+        Data16,
+        Data24,
+        Data32,
+        Data40,
+        Data48,
+        Data56,
+        Data64,
+        Boolean,
+        Bitmap8,
+        Bitmap16,
+        Bitmap24,
+        Bitmap32,
+        Bitmap40,
+        Bitmap48,
+        Bitmap56,
+        Bitmap64,
+        Uint8,
+        Uint16,
+        Uint24,
+        Uint32,
+        Uint40,
+        Uint48,
+        Uint56,
+        Uint64,
+        Int8,
+        Int16,
+        Int24,
+        Int32,
+        Int40,
+        Int48,
+        Int56,
+        Int64,
+        Enum8,
+        Enum16,
+        SemiPrecision,
+        SinglePrecision,
+        DoublePrecision,
+        OctetString,
+        CharacterString,
+        LongOctetString,
+        LongCharacterString,
+        Array,
+        Structure,
+        Set,
+        Bag,
+        TimeOfDay,
+        Date,
+        UtcTime,
+        ClusterId,
+        AttributeId,
+        BacnetOid,
+        IeeeAddress,
+        SecurityKey,
+    ]
+};
+
 pub type Answer = Result<Vec<u8>, String>;
 
 /// Row `code` of the type table.
@@ -22,6 +84,11 @@ pub fn row(code: u8) -> Answer {
             id.is_reportable_type().into(),
         ]
     })
+}
+
+/// The codes of the types that have a name, in the order of the Rust's enum.
+pub fn named() -> Vec<u8> {
+    NAMED.map(TypeId::as_u8).to_vec()
 }
 
 /// The header of `frame`, empty where it is refused.

@@ -1,11 +1,22 @@
-//! The type table, all codes in order.
+//! The type table, all codes in order, and the types that have a name.
 
 use cases::hex;
+use reading::Kind;
 
 use crate::rust;
 
 pub fn lines() -> Result<Vec<String>, String> {
-    (0..=0xff).map(line).collect()
+    (0..=0xff).map(line).chain([named()]).collect()
+}
+
+/// The types with a name are those that document 01 knows.
+fn named() -> Result<String, String> {
+    let theirs = rust::named();
+    let ours = (0..=0xff).filter(|&code| reading::kind(code) != Kind::Unknown);
+    if ours.ne(theirs.iter().copied()) {
+        return Err(format!("named types: the Rust has {}", hex(&theirs)));
+    }
+    Ok(format!("i {:02x} {}", theirs.len(), hex(&theirs)))
 }
 
 fn line(code: u8) -> Result<String, String> {

@@ -1,6 +1,6 @@
 -- Laws of what ours says to an input (`specs/Ours.antt`): a law for each way out of a function. Assumes nothing.
 use mathlib.Core.Path.{_≡_, refl, sym, ap, _∙_}
-use mathlib.Core.Bool.{true, false, true≢false, false≢true}
+use mathlib.Core.Bool.{Bool, true, false, true≢false, false≢true}
 use mathlib.Core.Logic.{inl, inr}
 use mathlib.Core.Option.{some}
 use mathlib.Core.List.{List, [], _∷_, _++_, append-nil}
@@ -41,6 +41,7 @@ use Rattle.store.specs.Value.{Telling, telling, numberOf}
 use Rattle.store.specs.Write.{Wrote, wrote, writeOf}
 use Rattle.store.specs.declared.value.Numbered.the-variants as Numbered
 use Rattle.replay.specs.Bytes.{same}
+use Rattle.replay.specs.Names.{named, ofNames}
 use Rattle.replay.specs.Ours.{agreement, bitOf, sizeByte, ofType, frameTypeByte, ofHeader, extentSays, ofExtent, numberSays, ofNumber, writeSays, ofWrite}
 use Rattle.replay.specs.declared.cases.Agreement.the-variants.{Is, NoInput}
 use Rattle.replay.specs.Inside.{matched}
@@ -57,6 +58,16 @@ pub type-says : (input held : List ℕ) (a b c : ℕ) → length input ≡ 1
     → Is (same (a ∷ b ∷ c ∷ []) held) ≡ agreement (ofType input) held
 unfolding ofType
 type-says input held a b c h p q r = rw (eq-eqb (length input) 1 h) (λ i. Is (same (p i ∷ q i ∷ r i ∷ []) held))
+
+-- ---- the types that have a name
+
+pub names-other : (input held : List ℕ) → same (55 ∷ []) input ≡ false → NoInput ≡ agreement (ofNames input) held
+unfolding ofNames
+names-other input held h = rw h
+
+pub names-says : (input held : List ℕ) → same (55 ∷ []) input ≡ true → (codes : List ℕ) → codes ≡ named → (b : Bool) → b ≡ same codes held → Is b ≡ agreement (ofNames input) held
+unfolding ofNames
+names-says input held h codes e b p = rw h (ap Is (p ∙ ap (λ (l : List ℕ). same l held) e))
 
 -- ---- a header
 

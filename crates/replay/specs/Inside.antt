@@ -10,9 +10,12 @@ use Rattle.frame.specs.declared.reply.Put.{Put}
 use Rattle.frame.specs.declared.reply.Put.the-variants.{At, Full}
 use Rattle.replay.specs.Bytes.{same}
 use Rattle.replay.specs.Commands.{next}
+use Rattle.reporting.specs.Table.{Table, tableOf}
+use Rattle.replay.specs.Methods.{Called}
 use Rattle.replay.specs.declared.commands.Place.{Place}
 use Rattle.replay.specs.declared.commands.Turn.{Turn}
 use Rattle.replay.specs.declared.commands.Turn.the-variants.{On, Off}
+use Rattle.replay.specs.declared.methods.Given.{Given}
 
 -- ---- bytes that are compared
 
@@ -71,6 +74,19 @@ Turns held p bytes this Off = Stops held p bytes
 -- one answer, whatever was told before it
 abbrev pub Turned : List ℕ → Place → List ℕ → Turn → Type 0
 Turned held p this r = (last : List ℕ) → Lies held p last → Turns held p (next last this) this r
+
+-- ---- a call on a table
+
+-- where its answer ends, if it stands where it is looked for, and the table that it leaves
+pub record Found : Type 0 where
+  pub at : Put
+  pub table : Table
+
+abbrev pub given : Given → Found
+given g = record { at = g .at; table = tableOf (g .table) }
+
+abbrev pub found : List ℕ → ℕ → Called → Found
+found held at c = record { at = matched held at (c .says); table = c .table }
 
 -- ---- counts
 

@@ -10,7 +10,10 @@ use Rattle.types.specs.Number.{le}
 use Rattle.replay.specs.Bytes.{same}
 use Rattle.replay.specs.Line.{split, space, hex, field}
 use Rattle.replay.specs.Ours.{agreement, ofType, ofHeader, ofExtent, ofStore, ofNumber, ofWrite}
+use Rattle.replay.specs.Names.{ofNames}
+use Rattle.replay.specs.Methods.{ofHistory}
 use Rattle.replay.specs.Commands.{ofCommand}
+use Rattle.replay.specs.Requests.{ofRequest}
 use Rattle.replay.specs.declared.cases.Agreement.{Agreement}
 use Rattle.replay.specs.declared.cases.Agreement.the-variants.{Is, NoInput}
 use Rattle.replay.specs.declared.verdict.Verdict.{Verdict}
@@ -25,7 +28,10 @@ ours letter input =
     (cond (eqb letter 115) (ofStore input)  -- s
     (cond (eqb letter 118) (ofNumber input)  -- v
     (cond (eqb letter 119) (ofWrite input)  -- w
-    (cond (eqb letter 99 || eqb letter 120) (ofCommand input) none))))))  -- c, x
+    (cond (eqb letter 99 || eqb letter 120) (ofCommand input)  -- c, x
+    (cond (eqb letter 105) (ofNames input)  -- i
+    (cond (eqb letter 109) (ofHistory input)  -- m
+    (cond (eqb letter 113) (ofRequest input) none)))))))))  -- q
 
 -- go on with what could be read
 abbrev pub known : Option (List ℕ) → (List ℕ → Verdict) → Verdict

@@ -117,7 +117,7 @@ fn match_store(held: &[u8], at: usize, before: &[u8], after: &[u8]) -> Put
 }
 
 // Where the answer of a call ends, if it was recorded at `at`.
-fn match_answer(
+pub(crate) fn match_answer(
     held: &[u8],
     at: usize,
     answer: Answer,

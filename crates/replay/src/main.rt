@@ -1,6 +1,6 @@
 // Replays a recorded list of another program's answers, read from standard input, and says how many are ours too.
-// A kind of line has a place in cases.rt, stores.rt or commands.rt (what ours says), verdict.rt (its letter) and here (its
-// row).
+// A kind of line has a place in names.rt, cases.rt, stores.rt, commands.rt, methods.rt or requests.rt (what ours says),
+// verdict.rt (its letter) and here (its row).
 ghost use mathlib.Core.Path.{_≡_};
 ghost use lib.ListN.{length};
 
@@ -9,6 +9,9 @@ mod cases;
 mod commands;
 mod hex;
 mod line;
+mod methods;
+mod names;
+mod requests;
 mod stores;
 mod tally;
 mod verdict;
@@ -38,6 +41,7 @@ fn row(name: &[u8], t: Tally, letter: u8, rest: &[u8]) {
 
 fn report(t: Tally, whole: bool) {
     row(b"types: ", t, b't', b" agree\n");
+    row(b"names of types: ", t, b'i', b" agree\n");
     row(b"headers: ", t, b'h', b" agree\n");
     row(b"extents: ", t, b'e', b" agree\n");
     row(b"listed differences: ", t, b'd', b" as document 01 says\n");
@@ -51,6 +55,8 @@ fn report(t: Tally, whole: bool) {
         b'x',
         b" as document 01 says\n",
     );
+    row(b"histories of a table: ", t, b'm', b" agree\n");
+    row(b"requests with a table: ", t, b'q', b" agree\n");
     if t.first != 0 {
         text(b"first that does not agree: line ");
         number(t.first);
@@ -65,11 +71,11 @@ fn report(t: Tally, whole: bool) {
     }
 }
 
-// Room for the list. The `ensures` keeps the proof of main away from a million zeros.
-fn space() -> [u8; 1048576]
-    ensures { λ r. ⌜ 1048576 ≡ length r ⌝ }
+// Room for the list. The `ensures` keeps the proof of main away from two million zeros.
+fn space() -> [u8; 2097152]
+    ensures { λ r. ⌜ 2097152 ≡ length r ⌝ }
 {
-    [0; 1048576]
+    [0; 2097152]
 }
 
 fn main() {
@@ -77,5 +83,5 @@ fn main() {
     let n = io::read_full(STDIN_FILENO, &mut list);
     let t = tally::replay(&list[..n]);
     // Where the list fills the buffer, some of it may be left unread.
-    report(t, t.whole && n < 1048576);
+    report(t, t.whole && n < 2097152);
 }

@@ -16,6 +16,9 @@ use super::commands::of_command;
 use super::hex::decode;
 use super::line::find;
 use super::line::word;
+use super::methods::of_history;
+use super::names::of_names;
+use super::requests::of_request;
 use super::stores::of_number;
 use super::stores::of_store;
 use super::stores::of_write;
@@ -44,6 +47,9 @@ fn held_to_ours(letter: u8, input: &[u8], held: &[u8]) -> Agreement
         b'v' => of_number(input, held),
         b'w' => of_write(input, held),
         b'c' | b'x' => of_command(input, held),
+        b'i' => of_names(input, held),
+        b'm' => of_history(input, held),
+        b'q' => of_request(input, held),
         _ => Agreement::NoInput,
     }
 }

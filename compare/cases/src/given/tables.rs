@@ -12,15 +12,24 @@ const INTERVALS: [u16; 6] = [0, 1, 10, 60, 65534, 65535];
 /// A table's bytes, sound or damaged.
 pub fn any(random: &mut Random, cluster: u16, attributes: &[Attribute]) -> Vec<u8> {
     let many = random.of(&[0, 0, 1, 2, 5, 12, 15, 16, 16]);
-    let entries: Vec<Entry> = (0..many)
-        .map(|_| entry(random, cluster, attributes))
-        .collect();
-    let table = to_bytes(&entries);
+    let table = to_bytes(&sound(random, many, cluster, attributes));
     if random.one_in(24) {
         damaged(random, table)
     } else {
         table
     }
+}
+
+/// So many entries.
+pub fn sound(
+    random: &mut Random,
+    many: usize,
+    cluster: u16,
+    attributes: &[Attribute],
+) -> Vec<Entry> {
+    (0..many)
+        .map(|_| entry(random, cluster, attributes))
+        .collect()
 }
 
 /// Its key may stand in the table already: the first counts.

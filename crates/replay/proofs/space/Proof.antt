@@ -1,4 +1,4 @@
--- `space` meets its contract, by the law of a repeat: to count a million zeros would be too long. Assumes nothing.
+-- `space` meets its contract, by the law of a repeat: to count two million zeros would be too long. Assumes nothing.
 use mathlib.Core.Path.{sym}
 use Prim.Native.Nat.{ℕ}
 use lib.ListN.{length-replicate}
@@ -6,7 +6,7 @@ use Rattle.replay.proofs.space.Statement.{statement}
 use Rattle.replay.proofs.space.Tie as tie
 
 returns : tie.Need-returns
-returns c = sym (length-replicate {0} {A = ℕ} 1048576 0)
+returns c = sym (length-replicate {0} {A = ℕ} 2097152 0)
 
 pub space-spec : {M : Type 1} → statement M
 space-spec = tie.close (tie.spec returns)

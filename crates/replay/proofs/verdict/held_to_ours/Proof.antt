@@ -36,6 +36,15 @@ of-write-requires c κs = search needs
 of-command-requires : tie.Need-of-command-requires
 of-command-requires c κs = search needs
 
+of-names-requires : tie.Need-of-names-requires
+of-names-requires c κs = search needs
+
+of-history-requires : tie.Need-of-history-requires
+of-history-requires c κs = search needs
+
+of-request-requires : tie.Need-of-request-requires
+of-request-requires c κs = search needs
+
 returns : tie.Need-returns
 unfolding ours
 returns c =
@@ -78,10 +87,25 @@ returns-8 c =
     ∙ elim (c .before .match .keys8) [ inl e ↦ ap (λ (l : ℕ). agreement (ours l (now (c .before .before .before .before .args .input))) (now (c .before .before .before .before .args .held))) (sym e) | inr e ↦ ap (λ (l : ℕ). agreement (ours l (now (c .before .before .before .before .args .input))) (now (c .before .before .before .before .args .held))) (sym e) ]
 
 returns-9 : tie.Need-returns-9
+unfolding ours
 returns-9 c =
+    c .of-names .ensures ∙ ap (λ (l : ℕ). agreement (ours l (now (c .before .before .before .before .args .input))) (now (c .before .before .before .before .args .held))) (sym (c .before .match .keys9))
+
+returns-10 : tie.Need-returns-10
+unfolding ours
+returns-10 c =
+    c .of-history .ensures ∙ ap (λ (l : ℕ). agreement (ours l (now (c .before .before .before .before .args .input))) (now (c .before .before .before .before .args .held))) (sym (c .before .match .keys10))
+
+returns-11 : tie.Need-returns-11
+unfolding ours
+returns-11 c =
+    c .of-request .ensures ∙ ap (λ (l : ℕ). agreement (ours l (now (c .before .before .before .before .args .input))) (now (c .before .before .before .before .args .held))) (sym (c .before .match .keys11))
+
+returns-12 : tie.Need-returns-12
+returns-12 c =
     let n = c .match .rest in
     ap (λ (o : Option (List ℕ)). agreement o (now (c .before .before .before .args .held)))
-    (sym (ours-none (c .before .before .before .args .letter) (now (c .before .before .before .args .input)) (n .0 .0 .0 .0 .0 .0 .0 .1) (n .0 .0 .0 .0 .0 .0 .1) (n .0 .0 .0 .0 .0 .1) (n .0 .0 .0 .0 .1) (n .0 .0 .0 .1) (n .0 .0 .1) (n .0 .1) (λ e. n .1 (inl e)) (λ e. n .1 (inr e))))
+    (sym (ours-none (c .before .before .before .args .letter) (now (c .before .before .before .args .input)) (n .0 .0 .0 .0 .0 .0 .0 .0 .0 .0 .1) (n .0 .0 .0 .0 .0 .0 .0 .0 .0 .1) (n .0 .0 .0 .0 .0 .0 .0 .0 .1) (n .0 .0 .0 .0 .0 .0 .0 .1) (n .0 .0 .0 .0 .0 .0 .1) (n .0 .0 .0 .0 .0 .1) (n .0 .0 .0 .0 .1) (λ e. n .0 .0 .0 .1 (inl e)) (λ e. n .0 .0 .0 .1 (inr e)) (n .0 .0 .1) (n .0 .1) (n .1)))
 
 pub held-to-ours-spec : {M : Type 1} → statement M
 held-to-ours-spec =
@@ -95,6 +119,9 @@ held-to-ours-spec =
     of-number-requires
     of-write-requires
     of-command-requires
+    of-names-requires
+    of-history-requires
+    of-request-requires
     returns
     returns-2
     returns-3
@@ -103,4 +130,7 @@ held-to-ours-spec =
     returns-6
     returns-7
     returns-8
-    returns-9)
+    returns-9
+    returns-10
+    returns-11
+    returns-12)

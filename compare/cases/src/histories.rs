@@ -1,9 +1,13 @@
 //! Calls at random: keys of a small set, numbers around the limits.
 
-use cases::Random;
+mod call;
+pub mod kinds;
+
 use reading::table::{Config, Entry, Key};
 
-use crate::call::Call;
+use crate::random::Random;
+
+pub use call::{Answer, Call, settings, shown};
 
 /// Some are others with their bytes, or cluster and attribute, exchanged.
 const CLUSTERS: [u16; 5] = [0xfc21, 0x0006, 0x21fc, 0x0000, 0xffff];
@@ -172,7 +176,7 @@ impl History {
     }
 }
 
-pub fn key(random: &mut Random) -> Key {
+fn key(random: &mut Random) -> Key {
     Key {
         cluster: random.of(&CLUSTERS),
         attribute: random.of(&ATTRIBUTES),

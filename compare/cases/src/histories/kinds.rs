@@ -2,7 +2,20 @@
 
 use reading::table::{Broken, Entry, Reason, ask, moved, place};
 
-use crate::call::{Answer, Call};
+use super::call::{Answer, Call};
+
+/// The calls on a table.
+pub const CALLS: [&str; 5] = ["configure", "clear", "configuration", "mark", "ask"];
+
+/// All that is done to a table's bytes.
+pub const ALL: [&str; 6] = [
+    "configure",
+    "clear",
+    "configuration",
+    "mark",
+    "ask",
+    "damaged",
+];
 
 /// All kinds; a run that does not reach each of them has failed.
 const KINDS: [&str; 34] = [
@@ -44,29 +57,34 @@ const KINDS: [&str; 34] = [
 
 pub struct Kinds([u64; KINDS.len()]);
 
-impl Kinds {
-    pub fn new() -> Self {
+impl Default for Kinds {
+    fn default() -> Self {
         Self([0; KINDS.len()])
     }
+}
 
+impl Kinds {
     pub fn count(&mut self, kind: &'static str) {
         let place = KINDS.iter().position(|&known| known == kind);
         self.0[place.expect("the kind is listed")] += 1;
     }
 
-    /// The kinds that never came.
-    pub fn missing(&self) -> Vec<&'static str> {
-        let each = KINDS.into_iter().zip(self.0);
-        each.filter_map(|(kind, count)| (count == 0).then_some(kind))
-            .collect()
+    /// The kinds of these calls that never came.
+    pub fn missing(&self, calls: &[&str]) -> Vec<&'static str> {
+        let none = |(kind, count)| (count == 0).then_some(kind);
+        self.of(calls).filter_map(none).collect()
     }
 
-    pub fn list(&self) -> String {
-        KINDS
-            .iter()
-            .zip(self.0)
-            .map(|(kind, count)| format!("{count:9}  {kind}\n"))
-            .collect()
+    /// A line for each kind of these calls.
+    pub fn list(&self, calls: &[&str]) -> String {
+        let line = |(kind, count)| format!("{count:9}  {kind}\n");
+        self.of(calls).map(line).collect()
+    }
+
+    /// A kind's first word is its call.
+    fn of(&self, calls: &[&str]) -> impl Iterator<Item = (&'static str, u64)> {
+        let each = KINDS.into_iter().zip(self.0);
+        each.filter(|(kind, _)| calls.contains(&kind.split([' ', ',', ':']).next().unwrap_or(kind)))
     }
 }
 

@@ -1,19 +1,22 @@
-//! The Rust: the held `ReportingTable<16>`, with answers in our form.
+//! Calls on the held `ReportingTable<16>`.
 
-use oracle::tables;
+use cases::histories::{Answer, Call};
 use reading::table::{Config, Entry, Key};
 use zigbee_cluster_library::reporting::{AttributeReporting, ReportingConfig, ReportingTable};
 use zigbee_cluster_library::types::ids::{AttributeId, ClusterId};
 
-use crate::call::{Answer, Call};
+use crate::tables;
 
-pub struct Rust(ReportingTable<16>);
+pub struct Table(ReportingTable<16>);
 
-impl Rust {
-    pub fn new() -> Self {
+/// A table without entries.
+impl Default for Table {
+    fn default() -> Self {
         Self(ReportingTable::new())
     }
+}
 
+impl Table {
     /// A table of these entries, however they came about.
     pub fn of(entries: &[Entry]) -> Self {
         Self(tables::of(entries))
@@ -22,8 +25,13 @@ impl Rust {
     /// The entries, in their order.
     pub fn entries(&self) -> Vec<Entry> {
         let entries = tables::entries(&self.0);
-        assert_eq!(entries.len(), self.0.len(), "all entries are shown");
+        assert_eq!(entries.len(), self.count(), "all entries are shown");
         entries
+    }
+
+    /// How many entries there are.
+    pub fn count(&self) -> usize {
+        self.0.len()
     }
 
     pub fn call(&self, call: &Call) -> Answer {
@@ -56,7 +64,7 @@ impl Rust {
         }
     }
 
-    pub fn ask(&self, key: Key, now: u32, value: i64) -> bool {
+    fn ask(&self, key: Key, now: u32, value: i64) -> bool {
         let (cluster, attribute) = ids(key);
         self.0.should_report(cluster, attribute, now, value)
     }
