@@ -1,57 +1,25 @@
--- Read Reporting Configuration as a whole: by the table, and what every reply has. Assumes nothing.
-use mathlib.Core.Path.{_≡_, refl, ap, _∙_}
+-- Read Reporting Configuration as a whole: what every reply has. Assumes nothing.
+use mathlib.Core.Path.{_≡_, refl}
 use mathlib.Core.Bool.{Bool, true, false}
 use mathlib.Core.Option.{Option, none, some}
 use mathlib.Core.List.{List, [], map}
 use Prim.Native.Nat.{ℕ, _≤_}
 use native.Mathlib.Omega.{arith}
 use lib.Dec.{eqb}
-use Rattle.types.specs.Number.{zeros}
 use Rattle.frame.specs.declared.header.ZclHeader.{ZclHeader}
-use Rattle.frame.specs.declared.answer.Refusal.{Refusal}
-use Rattle.frame.specs.declared.answer.Refusal.the-variants.{NotATable}
-use Rattle.frame.specs.declared.answer.Answer.the-variants.{Refused}
 use Rattle.frame.specs.declared.command_identifier.CommandIdentifier.the-variants.{ReadReportingConfigurationResponse}
 use Rattle.frame.specs.Header.{replyHead}
-use Rattle.frame.specs.Answer.{Outcome, noState, seen, refused}
-use Rattle.frame.specs.Shortened.{shortenedFrom, shortened}
-use Rattle.frame.proofs.Codes.{refusal-nonzero}
-use Rattle.frame.proofs.Outcome.{seen-refused}
+use Rattle.frame.specs.Shortened.{shortenedFrom}
 use Rattle.frame.proofs.Shortened.{did, Prefix, shortened-within, shortened-prefix}
 use Rattle.store.specs.declared.lookup.Found.{Found}
 use Rattle.store.specs.declared.lookup.Found.the-variants.{At, Nothing}
 use Rattle.store.specs.Contents.{nameOf, findOf, reportable}
 use Rattle.reporting.specs.declared.entry.Key.{Key}
 use Rattle.reporting.specs.declared.entry.Entry.{Entry}
-use Rattle.reporting.specs.declared.table.Length.the-variants as LengthV
 use Rattle.reporting.specs.Entries.{lookupL}
-use Rattle.reporting.specs.Table.{Table, sound, bad, LengthTold, lengthTold, lengthT}
+use Rattle.reporting.specs.Table.{Table, sound, bad}
 use Rattle.configure.specs.Request.{Asked, asked, askedFrom, keyFor}
 use Rattle.configure.specs.Configuration.{SettingRecord, setting, failure, encode, recordBy, recordFor, configurationOf}
-
--- ---- by the table
-
-module _ (s : List ℕ) (request : ZclHeader) (body : List ℕ) (room : ℕ) where
-  abbrev head : List ℕ
-  head = replyHead request ReadReportingConfigurationResponse
-
-  none-is : (T : Table) (why : Refusal) → lengthTold (LengthV.Refused why) ≡ lengthT T → refused room NotATable noState ≡ configurationOf 8 s T request body room
-  unfolding configurationOf
-  none-is (sound n l) why e = absurd (omega (arith, refusal-nonzero why, ap (λ (x : LengthTold). x .number) e))
-  none-is (bad t) why e = refl
-
-  -- it is none, and the buffer is cleared
-  pub configuration-bad : (T : Table) (why : Refusal) → lengthTold (LengthV.Refused why) ≡ lengthT T → (d : List ℕ) → d ≡ zeros room
-      → seen (Refused NotATable) d noState ≡ configurationOf 8 s T request body room
-  configuration-bad T why e d z = seen-refused room d NotATable noState z ∙ none-is T why e
-
-  -- it is one, with whatever entries
-  pub configuration-sound : (T : Table) (m : ℕ) → lengthTold (LengthV.Entries m) ≡ lengthT T → (o : Outcome (Unit {0}))
-      → ((n : ℕ) (l : List Entry) → T ≡ sound n l → o ≡ shortened encode (λ fit. recordFor 8 s l request) head (askedFrom body 0) room)
-      → o ≡ configurationOf 8 s T request body room
-  unfolding configurationOf
-  configuration-sound (sound n l) m e o h = h n l refl
-  configuration-sound (bad t) m e o h = absurd (omega (arith, ap (λ (x : LengthTold). x .number) e))
 
 -- ---- what every reply has
 

@@ -1,4 +1,4 @@
--- A configuration: from what the table's methods ensure to the events of its deed, and from the deed to the definition. Assumes nothing.
+-- A configuration: from what the table's functions ensure to the events of its deed, and from the deed to the definition. Assumes nothing.
 use mathlib.Core.Path.{_≡_, refl, sym, ap, _∙_}
 use mathlib.Core.Bool.{Bool, true, false, cond, false≢true}
 use mathlib.Core.List.{List, [], _∷_, _++_, append-nil}
@@ -17,44 +17,25 @@ use Rattle.reporting.proofs.table.Change as change
 use Rattle.reporting.specs.declared.entry.Key.{Key}
 use Rattle.reporting.specs.declared.entry.ReportingConfig.{ReportingConfig}
 use Rattle.reporting.specs.declared.entry.Entry.{Entry}
-use Rattle.reporting.specs.declared.table.ReportingTable.{ReportingTable}
 use Rattle.reporting.specs.declared.table.Change.{Change}
 use Rattle.reporting.specs.declared.table.Change.the-variants as ChangeV
-use Rattle.reporting.specs.declared.table.Changed.{Changed}
 use Rattle.reporting.specs.Entries.{acceptsL, configureL, clearL}
-use Rattle.reporting.specs.Table.{room, tableOf, holding, ChangeTold, changeTold, Outcome, outcome, doneT, fullT, configureT, clearT}
+use Rattle.reporting.specs.Table.{room, ChangeTold, changeTold}
 use Rattle.reporting.specs.Carried.{tableIn, isTable, Reading, seen, readT}
 use Rattle.reporting.specs.Lent.{ChangeKept, keptAs, configureIn}
 use Rattle.reporting.specs.Events.{Event, configured, cleared, run, Wish, clears, wrong, sets, wish, statusW, eventsW}
 use Rattle.reporting.proofs.Histories.{run-append, configure-refused}
 use Rattle.configure.specs.Configure.{checked, setting}
 use Rattle.configure.specs.declared.settle.Deed.{Deed}
-use Rattle.configure.specs.Inside.{Holds, Carries, Judges, Does, Settles}
+use Rattle.configure.specs.Inside.{Carries, Judges, Does, Settles}
 
--- ---- the methods of the table
+-- ---- a deed, and the table's bytes
 
 -- an answer other than Done accepts nothing
 pub not-done : (a : Change) → OneOf (1 ∷ 2 ∷ []) (tagOf change.the-type a) → InsufficientSpace ≡ statusW sets (changeTold a .accepted)
 not-done ChangeV.Done o = absurd (miss (1 ∷ 2 ∷ []) 0 tt o)
 not-done ChangeV.Full o = refl
 not-done (ChangeV.Refused why) o = refl
-
--- what a method did is what the deed's events leave
-module _ (k : Key) (t : ReportingTable) (r : Changed) where
-  pub clear-settles : outcome r ≡ clearT k (tableOf t) → Settles (Deed.Clears k) (Holds t) (Holds (r .table)) Success
-  clear-settles e l es h = record { is = refl; left = ap (λ (o : Outcome). o .table) (e ∙ ap (clearT k) h) ∙ ap holding (sym (run-append room es (cleared k ∷ []) l)) }
-
-  pub set-settles : (g : ReportingConfig) (status : Status) → status ≡ statusW sets (changeTold (r .answer) .accepted) → outcome r ≡ configureT room k g (tableOf t) → Settles (Deed.Sets k g) (Holds t) (Holds (r .table)) status
-  set-settles g status q e l es h = go (acceptsL room k (run room es l)) (e ∙ ap (configureT room k g) h)
-    where
-      accepted : (o : Outcome) → outcome r ≡ o → status ≡ statusW sets (o .told .accepted)
-      accepted o x = q ∙ ap (λ (y : Outcome). statusW sets (y .told .accepted)) x
-
-      go : (c : Bool) → outcome r ≡ cond c (doneT (configureL room k g (run room es l))) (fullT (run room es l)) → Does (Holds (r .table)) l (did (statusW sets c) (es ++ eventsW sets c k g)) status
-      go true x = record { is = accepted (doneT (configureL room k g (run room es l))) x; left = ap (λ (o : Outcome). o .table) x ∙ ap holding (sym (run-append room es (configured k g ∷ []) l)) }
-      go false x = record { is = accepted (fullT (run room es l)) x; left = ap (λ (o : Outcome). o .table) x ∙ ap holding (sym (run-append room es [] l)) }
-
--- ---- a table that is lent as bytes
 
 reading-is : (b : Bool) (m l : List Entry) → cond b (seen true m) (seen false []) ≡ seen true l → (b ≡ true) × (m ≡ l)
 reading-is true m l e = (refl, ap (λ (x : Reading). x .entries) e)
@@ -72,16 +53,16 @@ carries-own bs e = rw e refl
 
 -- what a function on the bytes did is what the deed's events leave
 module _ (k : Key) (bs after : List ℕ) where
-  pub clear-settles-lent : readT room after ≡ seen true (clearL k (tableIn bs)) → Settles (Deed.Clears k) (Carries bs) (Carries after) Success
-  clear-settles-lent e l es h = record {
+  pub clear-settles : readT room after ≡ seen true (clearL k (tableIn bs)) → Settles (Deed.Clears k) bs after Success
+  clear-settles e l es h = record {
     is = refl;
     left = e ∙ ap (λ (m : List Entry). seen true (clearL k m)) (carries-is bs (run room es l) h .1) ∙ ap (seen true) (sym (run-append room es (cleared k ∷ []) l));
   }
 
-  pub set-settles-lent : (g : ReportingConfig) (answer : Change) (status : Status) → status ≡ statusW sets (changeTold answer .accepted) → keptAs answer after ≡ configureIn k g (tableIn bs)
-      → Settles (Deed.Sets k g) (Carries bs) (Carries after) status
+  pub set-settles : (g : ReportingConfig) (answer : Change) (status : Status) → status ≡ statusW sets (changeTold answer .accepted) → keptAs answer after ≡ configureIn k g (tableIn bs)
+      → Settles (Deed.Sets k g) bs after status
   unfolding configureIn
-  set-settles-lent g answer status q e l es h = go (acceptsL room k (run room es l)) refl (ap (λ (x : ChangeKept). x .told) all)
+  set-settles g answer status q e l es h = go (acceptsL room k (run room es l)) refl (ap (λ (x : ChangeKept). x .told) all)
     where
       all : keptAs answer after ≡ configureIn k g (run room es l)
       all = e ∙ ap (configureIn k g) (carries-is bs (run room es l) h .1)
@@ -90,7 +71,7 @@ module _ (k : Key) (bs after : List ℕ) where
       kept = ap (λ (x : ChangeKept). x .table) all
 
       go : (c : Bool) → acceptsL room k (run room es l) ≡ c → changeTold answer ≡ changeTold (cond c ChangeV.Done ChangeV.Full)
-          → Does (Carries after) l (did (statusW sets c) (es ++ eventsW sets c k g)) status
+          → Does after l (did (statusW sets c) (es ++ eventsW sets c k g)) status
       go true a x = record { is = q ∙ ap (λ (y : ChangeTold). statusW sets (y .accepted)) x; left = kept ∙ ap (seen true) (sym (run-append room es (configured k g ∷ []) l)) }
       go false a x = record {
         is = q ∙ ap (λ (y : ChangeTold). statusW sets (y .accepted)) x;

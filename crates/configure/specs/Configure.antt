@@ -20,7 +20,6 @@ use Rattle.reporting.specs.declared.entry.Key.{Key}
 use Rattle.reporting.specs.declared.entry.ReportingConfig.{ReportingConfig}
 use Rattle.reporting.specs.declared.entry.Entry.{Entry}
 use Rattle.reporting.specs.Table.{Table, sound, bad, holding}
-use Rattle.reporting.specs.Lent.{bytesAfter}
 use Rattle.reporting.specs.Events.{Event, run, recordStatus, events, configRecord}
 use Rattle.configure.specs.Request.{keyFor, ConfigureRecord, received, reported, configures}
 
@@ -83,7 +82,3 @@ left limit l o = record { number = o .number; size = o .size; reply = o .reply; 
 unfoldable pub configureOf : ℕ → ℕ → List ℕ → Table → ZclHeader → List ℕ → ℕ → Outcome Table
 configureOf form limit s (sound n l) request body room = left limit l (configureEvents form limit s l request body room)
 configureOf form limit s (bad t) request body room = refused room NotATable (bad t)
-
--- over a table that is lent as bytes: the bytes afterwards are those of the table that the command leaves
-abbrev pub onBytes : List ℕ → Outcome Table → Outcome (List ℕ)
-onBytes bs o = record { number = o .number; size = o .size; reply = o .reply; state = bytesAfter bs (o .state) }

@@ -12,9 +12,8 @@ use Rattle.frame.specs.Walk.{Item, item, unread}
 use Rattle.frame.specs.Failures.{Did, did}
 use Rattle.frame.specs.Passes.{Passed}
 use Rattle.reporting.specs.declared.entry.Entry.{Entry}
-use Rattle.reporting.specs.declared.table.ReportingTable.{ReportingTable}
 use Rattle.reporting.specs.Entries.{acceptsL, lookupL}
-use Rattle.reporting.specs.Table.{room, tableOf, holding}
+use Rattle.reporting.specs.Table.{room}
 use Rattle.reporting.specs.Carried.{seen, readT}
 use Rattle.reporting.specs.Events.{Event, cleared, run, sets, statusW, eventsW}
 use Rattle.configure.specs.declared.record.Next.{Next}
@@ -40,10 +39,7 @@ itemOf Next.Cut = unread
 
 -- ---- a configuration and the table
 
--- a table of these entries: a value, and bytes
-abbrev pub Holds : ReportingTable → List Entry → Type 0
-Holds t l = tableOf t ≡ holding l
-
+-- bytes that are a table of these entries
 abbrev pub Carries : List ℕ → List Entry → Type 0
 Carries bs l = readT room bs ≡ seen true l
 
@@ -59,14 +55,14 @@ deedOf (Deed.Sets k g) l es =
 abbrev pub Judges : (List Entry → List Event → Did (List Event)) → Deed → Type 0
 Judges want deed = (l : List Entry) (es : List Event) → deedOf deed l es ≡ want l es
 
--- it was done: this status was given, and the table is what its events leave
-pub record Does (Is : List Entry → Type 0) (l : List Entry) (want : Did (List Event)) (status : Status) : Type 0 where
+-- it was done: this status was given, and the bytes are the table that its events leave
+pub record Does (bs : List ℕ) (l : List Entry) (want : Did (List Event)) (status : Status) : Type 0 where
   pub is : status ≡ want .status
-  pub left : Is (run room (want .state) l)
+  pub left : Carries bs (run room (want .state) l)
 
--- over what the table was and what it is: a value, or bytes
-abbrev pub Settles : Deed → (List Entry → Type 0) → (List Entry → Type 0) → Status → Type 0
-Settles deed Was Is status = (l : List Entry) (es : List Event) → Was (run room es l) → Does Is l (deedOf deed l es) status
+-- from these bytes on, and to those
+abbrev pub Settles : Deed → List ℕ → List ℕ → Status → Type 0
+Settles deed before after status = (l : List Entry) (es : List Event) → Carries before (run room es l) → Does after l (deedOf deed l es) status
 
 -- ---- the pass
 
@@ -82,13 +78,13 @@ Turns s request body at (Turn.Read end direction id deed) = Took s request body 
 Turns s request body at Turn.Cut = configureAt body at ≡ unread
 
 -- every record was done, in a table of these entries and behind whatever head the buffer showed
-pub record Ran (s : List ℕ) (request : ZclHeader) (body : List ℕ) (start : ℕ) (l : List Entry) (d : List ℕ) (done : Pass) (Is : List Entry → Type 0) (after : List ℕ) : Type 0 where
+pub record Ran (s : List ℕ) (request : ZclHeader) (body : List ℕ) (start : ℕ) (l : List Entry) (d : List ℕ) (done : Pass) (bs after : List ℕ) : Type 0 where
   pub events : List Event
-  pub left : Is (run room events l)
+  pub left : Carries bs (run room events l)
   pub passed : Passed (configuring 8 room s request l) (configures body) start [] d done events after
 
-abbrev pub Runs : List ℕ → ZclHeader → List ℕ → ℕ → (List Entry → Type 0) → List ℕ → Pass → (List Entry → Type 0) → List ℕ → Type 0
-Runs s request body start Was d done Is after = (l : List Entry) → Was l → Ran s request body start l d done Is after
+abbrev pub Runs : List ℕ → ZclHeader → List ℕ → ℕ → List ℕ → List ℕ → Pass → List ℕ → List ℕ → Type 0
+Runs s request body start bs₀ d done bs after = (l : List Entry) → Carries bs₀ l → Ran s request body start l d done bs after
 
 -- ---- 08
 

@@ -1,14 +1,14 @@
 // Read Reporting Configuration: a record of the reply for each that was asked, as long as they fit.
 ghost use mathlib.Core.Path.{_≡_};
-ghost use mathlib.Core.List.{List};
+ghost use mathlib.Core.Bool.{true};
 ghost use mathlib.Core.Option.{Option};
-ghost use Prim.Native.Nat.{ℕ};
 ghost use lib.ListN.{length};
 ghost use Rattle.frame.specs.Status.{statusCode};
 ghost use Rattle.frame.specs.Answer.{seen, noState};
 ghost use Rattle.frame.specs.Reply.{putting, put};
 ghost use Rattle.reporting.specs.declared.entry.Entry.{Entry};
-ghost use Rattle.reporting.specs.Table.{sound, tableOf, settingTold, settingO};
+ghost use Rattle.reporting.specs.Table.{room, holding, settingTold, settingO};
+ghost use Rattle.reporting.specs.Carried.{tableIn, isTable};
 ghost use Rattle.configure.specs.Request.{asked, askedAt};
 ghost use Rattle.configure.specs.Configuration.{setting, failure, encode, sentAs, settingBy, configurationOf};
 ghost use Rattle.configure.specs.Inside.{askedItem, Answered, AllAnswered};
@@ -26,8 +26,7 @@ use frame::reply::clear;
 use frame::reply::put_run;
 use frame::status::Status;
 use reporting::entry::ReportingConfig;
-use reporting::table::Length;
-use reporting::table::ReportingTable;
+use reporting::lent::configuration_in;
 use reporting::table::Setting;
 use types::ids::AttributeId;
 use types::ids::TypeId;
@@ -36,13 +35,13 @@ use types::number::le_bytes;
 use types::number::u16_at;
 
 // What is asked, and where the next one starts; or that it is cut.
-pub(crate) enum NextAsked {
+enum NextAsked {
     Asked(u8, AttributeId, usize),
     Cut,
 }
 
 // The direction and id at `at`.
-pub(crate) fn next_asked(body: &[u8], at: usize) -> NextAsked
+fn next_asked(body: &[u8], at: usize) -> NextAsked
     ensures { λ r. ⌜ askedItem r ≡ askedAt (now (body .entry)) at ⌝ }
 {
     if body.len() < 3 {
@@ -56,13 +55,7 @@ pub(crate) fn next_asked(body: &[u8], at: usize) -> NextAsked
 }
 
 // Puts status, direction and id.
-pub(crate) fn put_failure(
-    reply: &mut [u8],
-    out: usize,
-    why: Status,
-    direction: u8,
-    id: AttributeId,
-) -> Put
+fn put_failure(reply: &mut [u8], out: usize, why: Status, direction: u8, id: AttributeId) -> Put
     ensures { λ r. ⌜ putting r (now (reply .exit)) ≡ put (now (reply .entry)) out (encode (failure (statusCode why) direction (id .0))) ⌝ }
 {
     let n = id.0;
@@ -114,7 +107,7 @@ fn put_setting(
 }
 
 // Puts what the table gives: 8b where that is nothing.
-pub(crate) fn put_found(
+fn put_found(
     reply: &mut [u8],
     out: usize,
     direction: u8,
@@ -133,20 +126,21 @@ pub(crate) fn put_found(
 // One that is asked: a failure, or what the table gives.
 fn configuration_turn(
     store: &[u8],
-    table: ReportingTable,
+    table: &[u8],
     request: ZclHeader,
     direction: u8,
     id: AttributeId,
     reply: &mut [u8],
     out: usize,
 ) -> Put
-    ensures { λ r. ⌜ ((n : ℕ) (l : List Entry) → tableOf table ≡ sound n l → Answered (now (store .entry)) l request direction (id .0) (now (reply .entry)) out r (now (reply .exit))) ⌝ }
+    requires { ⌜ isTable room (now table) ≡ true ⌝ }
+    ensures { λ r. ⌜ Answered (now (store .entry)) (tableIn (now (table .entry))) request direction (id .0) (now (reply .entry)) out r (now (reply .exit)) ⌝ }
 {
     let sought = seek(store, request, direction, id);
     match sought {
         Sought::Fails(why) => put_failure(reply, out, why, direction, id),
         Sought::Entry(key, type_id) => {
-            let setting = table.configuration(key);
+            let setting = configuration_in(table, key);
             put_found(reply, out, direction, id, type_id, setting)
         }
     }
@@ -155,13 +149,14 @@ fn configuration_turn(
 // Every record of the body, behind a header that ends at `from`. The walk stops without error at the first record that does not fit.
 fn configuration_records(
     store: &[u8],
-    table: ReportingTable,
+    table: &[u8],
     request: ZclHeader,
     body: &[u8],
     reply: &mut [u8],
     from: usize,
 ) -> Answer
-    ensures { λ r. ⌜ ((n : ℕ) (l : List Entry) → tableOf table ≡ sound n l → AllAnswered (now (store .entry)) l request (now (body .entry)) (now (reply .entry)) from r (now (reply .exit))) ⌝ }
+    requires { ⌜ isTable room (now table) ≡ true ⌝ }
+    ensures { λ r. ⌜ AllAnswered (now (store .entry)) (tableIn (now (table .entry))) request (now (body .entry)) (now (reply .entry)) from r (now (reply .exit)) ⌝ }
 {
     let mut at: usize = 0;
     let mut out = from;
@@ -179,20 +174,19 @@ fn configuration_records(
     Answer::Reply(out)
 }
 
-// Read Reporting Configuration. The store may be any bytes; whoever serves a frame has checked it. A table that is none is refused.
+// Read Reporting Configuration, from the bytes that carry the table. The store may be any bytes. Public for crate `server` alone, no entry
+// point: whoever serves a frame has checked the store, and that the bytes are a table.
 pub fn read_reporting_configuration(
     store: &[u8],
-    table: ReportingTable,
+    table: &[u8],
     request: ZclHeader,
     body: &[u8],
     reply: &mut [u8],
 ) -> Answer
-    ensures { λ r. ⌜ seen r (now (reply .exit)) noState ≡ configurationOf 8 (now (store .entry)) (tableOf table) request (now (body .entry)) (length (now (reply .entry))) ⌝ }
+    requires { ⌜ isTable room (now table) ≡ true ⌝ }
+    ensures { λ r. ⌜ seen r (now (reply .exit)) noState ≡ configurationOf 8 (now (store .entry)) (holding (tableIn (now (table .entry)))) request (now (body .entry)) (length (now (reply .entry))) ⌝ }
 {
     clear(reply);
-    let Length::Entries(_) = table.len() else {
-        return Answer::Refused(Refusal::NotATable);
-    };
     let put = write_response_header(
         reply,
         request,

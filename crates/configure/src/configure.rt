@@ -1,8 +1,10 @@
 // Configure Reporting.
 ghost use mathlib.Core.Path.{_≡_};
+ghost use mathlib.Core.Bool.{true};
 ghost use lib.ListN.{length};
 ghost use Rattle.frame.specs.Answer.{seen};
-ghost use Rattle.reporting.specs.Table.{room, tableOf};
+ghost use Rattle.reporting.specs.Table.{room, holding};
+ghost use Rattle.reporting.specs.Carried.{tableIn, isTable};
 ghost use Rattle.configure.specs.Configure.{configureOf};
 use super::pass::configure_records;
 use frame::answer::Answer;
@@ -13,52 +15,28 @@ use frame::failures::conclude;
 use frame::header::ZclHeader;
 use frame::header::begin_reply;
 use frame::reply::Put;
-use reporting::table::Length;
-use reporting::table::ReportingTable;
 
-// An answer, and the table as it is afterwards.
-pub struct Configured {
-    pub table: ReportingTable,
-    pub answer: Answer,
-}
-
-// Configure Reporting. The store may be any bytes; whoever serves a frame has checked it. A table that is none is refused and comes back
-// as it was.
+// Configure Reporting, on the bytes that carry the table. The store may be any bytes. Public for crate `server` alone, no entry point: whoever
+// serves a frame has checked the store, and that the bytes are a table.
 pub fn configure_reporting(
     store: &[u8],
-    table: ReportingTable,
+    table: &mut [u8],
     request: ZclHeader,
     body: &[u8],
     reply: &mut [u8],
-) -> Configured
-    ensures { λ r. ⌜ seen (r .answer) (now (reply .exit)) (tableOf (r .table)) ≡ configureOf 8 room (now (store .entry)) (tableOf table) request (now (body .entry)) (length (now (reply .entry))) ⌝ }
+) -> Answer
+    requires { ⌜ isTable room (now table) ≡ true ⌝ }
+    ensures { λ _. ⌜ isTable room (now (table .exit)) ≡ true ⌝ }
+    ensures { λ r. ⌜ seen r (now (reply .exit)) (holding (tableIn (now (table .exit)))) ≡ configureOf 8 room (now (store .entry)) (holding (tableIn (now (table .entry)))) request (now (body .entry)) (length (now (reply .entry))) ⌝ }
 {
-    let entries = table.len();
-    let Length::Entries(_) = entries else {
-        let refused = refuse(reply, Refusal::NotATable);
-        return Configured {
-            answer: refused,
-            table,
-        };
-    };
     let begun = begin_reply(
         reply,
         request,
         CommandIdentifier::ConfigureReportingResponse,
     );
     let Put::At(start) = begun else {
-        let refused = refuse(reply, Refusal::ReplyTooLong);
-        return Configured {
-            answer: refused,
-            table,
-        };
+        return refuse(reply, Refusal::ReplyTooLong);
     };
-    let passed = configure_records(store, table, request, body, reply, start);
-    let done = passed.done;
-    let after = passed.table;
-    let answer = conclude(reply, start, done);
-    Configured {
-        answer,
-        table: after,
-    }
+    let done = configure_records(store, table, request, body, reply, start);
+    conclude(reply, start, done)
 }

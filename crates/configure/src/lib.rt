@@ -2,9 +2,7 @@
 // read_reporting_configuration of zigbee-rs' server.rs.
 pub mod change;
 pub mod configuration;
-pub mod configuration_lent;
 pub mod configure;
-pub mod configure_lent;
 mod key;
 mod pass;
 mod record;

@@ -1,10 +1,14 @@
-// One pass over the records of a request: each is done, and its failure is listed in the reply.
+// One pass over the records of a request: each is done in the table's bytes, and its failure is listed in the reply.
 ghost use mathlib.Core.Path.{_≡_};
+ghost use mathlib.Core.Bool.{true};
 ghost use Rattle.frame.specs.Status.{statusCode};
 ghost use Rattle.frame.specs.Reply.{putting};
 ghost use Rattle.frame.specs.Failures.{noting};
+ghost use Rattle.reporting.specs.Table.{room};
+ghost use Rattle.reporting.specs.Carried.{isTable};
 ghost use Rattle.configure.specs.Configure.{failure, encode};
-ghost use Rattle.configure.specs.Inside.{Holds, Settles, Turns, Runs};
+ghost use Rattle.configure.specs.Inside.{Settles, Turns, Runs};
+use super::record::DIRECTION_REPORTED;
 use super::record::Next;
 use super::record::next_record;
 use super::settle::Deed;
@@ -15,11 +19,12 @@ use frame::failures::list_failure;
 use frame::header::ZclHeader;
 use frame::reply::Put;
 use frame::status::Status;
-use reporting::table::ReportingTable;
+use reporting::lent::clear_in;
+use reporting::lent::configure_in;
 use types::ids::AttributeId;
 
 // A record, where the next one starts, and what is to be done; or none that can be read.
-pub(crate) enum Turn {
+enum Turn {
     Read {
         end: usize,
         direction: u8,
@@ -29,14 +34,8 @@ pub(crate) enum Turn {
     Cut,
 }
 
-// How a pass ended, and the table.
-pub(crate) struct Passed {
-    pub table: ReportingTable,
-    pub done: Pass,
-}
-
 // One record read and judged.
-pub(crate) fn configure_turn(store: &[u8], request: ZclHeader, body: &[u8], at: usize) -> Turn
+fn configure_turn(store: &[u8], request: ZclHeader, body: &[u8], at: usize) -> Turn
     ensures { λ r. ⌜ Turns (now (store .entry)) request (now (body .entry)) at r ⌝ }
 {
     let next = next_record(body, at);
@@ -54,7 +53,7 @@ pub(crate) fn configure_turn(store: &[u8], request: ZclHeader, body: &[u8], at: 
             end,
         } => Turn::Read {
             end,
-            direction: 0,
+            direction: DIRECTION_REPORTED,
             id,
             deed: judge(store, request, id, type_id, config),
         },
@@ -63,13 +62,7 @@ pub(crate) fn configure_turn(store: &[u8], request: ZclHeader, body: &[u8], at: 
 }
 
 // Lists a failure: status, direction, id.
-pub(crate) fn note(
-    reply: &mut [u8],
-    out: usize,
-    status: Status,
-    direction: u8,
-    id: AttributeId,
-) -> Put
+fn note(reply: &mut [u8], out: usize, status: Status, direction: u8, id: AttributeId) -> Put
     ensures { λ r. ⌜ putting r (now (reply .exit)) ≡ noting (now (reply .entry)) out status (encode (failure (statusCode status) direction (id .0))) ⌝ }
 {
     let n = id.0;
@@ -79,34 +72,20 @@ pub(crate) fn note(
     list_failure(reply, out, status, &four)
 }
 
-// What a deed came to, and the table.
-struct Settled {
-    pub table: ReportingTable,
-    pub status: Status,
-}
-
-// A deed done in a table.
-fn done(table: ReportingTable, deed: Deed) -> Settled
-    ensures { λ r. ⌜ Settles deed (Holds table) (Holds (r .table)) (r .status) ⌝ }
+// A deed done in the table, and what it came to.
+fn done(table: &mut [u8], deed: Deed) -> Status
+    requires { ⌜ isTable room (now table) ≡ true ⌝ }
+    ensures { λ r. ⌜ Settles deed (now (table .entry)) (now (table .exit)) r ⌝ }
 {
     match deed {
-        Deed::Fails(why) => Settled { table, status: why },
+        Deed::Fails(why) => why,
         Deed::Clears(key) => {
-            let cleared = table.clear(key);
-            let after = cleared.table;
-            Settled {
-                table: after,
-                status: Status::Success,
-            }
+            clear_in(table, key);
+            Status::Success
         }
         Deed::Sets(key, config) => {
-            let changed = table.configure(key, config);
-            let answer = changed.answer;
-            let after = changed.table;
-            Settled {
-                table: after,
-                status: status_of(answer),
-            }
+            let answer = configure_in(table, key, config);
+            status_of(answer)
         }
     }
 }
@@ -114,15 +93,15 @@ fn done(table: ReportingTable, deed: Deed) -> Settled
 // Every record of the body, its failures listed from `start` on, until one cannot be read or does not fit.
 pub(crate) fn configure_records(
     store: &[u8],
-    table: ReportingTable,
+    table: &mut [u8],
     request: ZclHeader,
     body: &[u8],
     reply: &mut [u8],
     start: usize,
-) -> Passed
-    ensures { λ r. ⌜ Runs (now (store .entry)) request (now (body .entry)) start (Holds table) (now (reply .entry)) (r .done) (Holds (r .table)) (now (reply .exit)) ⌝ }
+) -> Pass
+    requires { ⌜ isTable room (now table) ≡ true ⌝ }
+    ensures { λ r. ⌜ Runs (now (store .entry)) request (now (body .entry)) start (now (table .entry)) (now (reply .entry)) r (now (table .exit)) (now (reply .exit)) ⌝ }
 {
-    let mut kept = table;
     let mut at: usize = 0;
     let mut out = start;
     while at < body.len() {
@@ -134,25 +113,14 @@ pub(crate) fn configure_records(
             deed,
         } = turn
         else {
-            return Passed {
-                done: Pass::Cut,
-                table: kept,
-            };
+            return Pass::Cut;
         };
-        let settled = done(kept, deed);
-        let status = settled.status;
-        kept = settled.table;
+        let status = done(table, deed);
         let Put::At(next) = note(reply, out, status, direction, id) else {
-            return Passed {
-                done: Pass::Full,
-                table: kept,
-            };
+            return Pass::Full;
         };
         at = end;
         out = next;
     }
-    Passed {
-        done: Pass::Through(out),
-        table: kept,
-    }
+    Pass::Through(out)
 }

@@ -11,6 +11,9 @@ use types::ids::AttributeId;
 use types::ids::TypeId;
 use types::number::u16_at;
 
+// The direction of a record for what this device reports; with any other it is for what the device receives.
+pub(crate) const DIRECTION_REPORTED: u8 = 0x00;
+
 // A record of the request and where the next one starts, or none that can be read.
 pub(crate) enum Next {
     // Of what this device receives: the two bytes of timeout are passed over.
@@ -53,7 +56,7 @@ pub(crate) fn next_record(body: &[u8], at: usize) -> Next
     }
     let direction = body[at];
     let id = AttributeId(u16_at(body, at + 1));
-    if direction != 0 {
+    if direction != DIRECTION_REPORTED {
         let end = at + 5;
         return Next::Received { direction, id, end };
     }

@@ -1,6 +1,7 @@
 // What Read Reporting Configuration looks up in the table, judged without it: the table is asked in one place, however it is held.
 ghost use Rattle.configure.specs.Inside.{Seeks};
 use super::key::key_for;
+use super::record::DIRECTION_REPORTED;
 use frame::header::ZclHeader;
 use frame::status::Status;
 use reporting::entry::Key;
@@ -25,7 +26,7 @@ pub(crate) fn seek(store: &[u8], request: ZclHeader, direction: u8, id: Attribut
     let Found::At(a) = find(store, name) else {
         return Sought::Fails(Status::UnsupportedAttribute);
     };
-    if direction != 0 {
+    if direction != DIRECTION_REPORTED {
         return Sought::Fails(Status::UnreportableAttribute);
     }
     if !is_reportable(a) {

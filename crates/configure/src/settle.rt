@@ -10,6 +10,8 @@ use super::key::key_for;
 use frame::header::ZclHeader;
 use frame::status::Status;
 use reporting::entry::Key;
+use reporting::entry::MAX_INTERVAL_DISABLED;
+use reporting::entry::MIN_INTERVAL_DEFAULT;
 use reporting::entry::ReportingConfig;
 use reporting::table::Change;
 use store::lookup::Found;
@@ -32,11 +34,11 @@ fn wished(key: Key, config: ReportingConfig) -> Deed
 {
     let max = config.max_interval;
     let min = config.min_interval;
-    if max == 0xffff {
+    if max == MAX_INTERVAL_DISABLED {
         return Deed::Clears(key);
     }
     if max == 0 {
-        if min == 0xffff {
+        if min == MIN_INTERVAL_DEFAULT {
             return Deed::Clears(key);
         }
         return Deed::Sets(key, config);

@@ -21,10 +21,13 @@ use Rattle.reporting.specs.Due.{dueL}
 use Rattle.reporting.specs.Table.{room, Table, sound, bad, live, tableOf, holding, ReportTold, reportTold, askT, SettingTold, settingTold, settingO}
 use Rattle.reporting.specs.Carried.{tableIn, sized, isTable, tableBytes, Written, written, writeT}
 use Rattle.reporting.specs.Lent.{onLent, askLent, configurationLent, markLent, clearLent, ChangeLeft, leftAs, configureLent}
-use Rattle.server.specs.Parts.{isSound}
 use Rattle.hingedrift.specs.Tables.{bit, Left, left, onTable, noResult, newLeft, clearLeft, markLeft, configureLeft, askLeft, Configuration, configurationAs, noConfiguration, configurationBy, configurationLeft}
 
 -- ---- a value that is a table of these entries
+
+isSound : Table → Bool
+isSound (sound n l) = true
+isSound (bad t) = false
 
 entriesOf : Table → List Entry
 entriesOf (sound n l) = l
@@ -35,7 +38,7 @@ record Holds (t : ReportingTable) (l : List Entry) : Type 0 where
   entries : live t ≡ l
 
 holds : (t : ReportingTable) (l : List Entry) → tableOf t ≡ holding l → Holds t l
-unfolding entriesOf
+unfolding entriesOf isSound
 holds t l e = go (ltb room (t .count)) refl e
   where
     go : (b : Bool) → ltb room (t .count) ≡ b → cond b (bad t) (sound (t .count) (live t)) ≡ holding l → Holds t l

@@ -28,7 +28,8 @@ use Rattle.server.proofs.Frames.{demand-3-of-frames}
 use Rattle.server.proofs.Histories.{request-is}
 use Rattle.server.proofs.Logged.{serve-tight}
 use Rattle.hingedrift.specs.Tables.{bit, Left, left, onTable, noResult, newLeft, configureLeft, clearLeft, markLeft, askLeft}
-use Rattle.hingedrift.specs.Serving.{Lent, lent, carried, isUnicast, handleLeft}
+use Rattle.server.specs.Lent.{Lent, lent, carried, serveLent}
+use Rattle.hingedrift.specs.Serving.{isUnicast, handleLeft}
 use Rattle.hingedrift.specs.Log.{Handled, Made, configure, clear, mark, ask, configuration, handle, keyAt, configAs, Contract, Typed, next, last, Log, requestOf, eventsOf, allEventsOf, Demand3OfBytes}
 use Rattle.hingedrift.proofs.Kept.{run-keeps}
 
@@ -52,7 +53,7 @@ module _ (bs : List ℕ) (l : List Entry) (h : Held bs l) where
   on-request : (q : Handled)
       → handleLeft (q .store) bs (q .cluster) (q .unicast) (q .frame) (q .size)
       ≡ within (carried bs) (serve 8 room (q .store) (holding l) (q .cluster) (isUnicast (q .unicast)) (q .frame) (q .size))
-  unfolding handleLeft
+  unfolding serveLent
   on-request q =
       ap
       (λ (b : Bool).

@@ -30,7 +30,8 @@ use Rattle.readers.specs.Reading.{Read, read, unreadable, kth}
 use Rattle.readers.specs.Values.{Held, held, readReplyHeld, reportFrameHeld}
 use Rattle.readers.specs.Served.{Typed}
 use Rattle.readers.proofs.Through.{Valued, Failed, read-number, report-number, read-ways, report-held}
-use Rattle.hingedrift.specs.Serving.{handed, isUnicast, Lent, lent, carried, numberLeft, handleLeft}
+use Rattle.server.specs.Lent.{Lent, lent, carried, serveLent}
+use Rattle.hingedrift.specs.Serving.{handed, isUnicast, numberLeft, handleLeft}
 use Rattle.hingedrift.specs.Reading.{told, recordTold, ValueFields, valueAs, noValue, numberFields, valueFields, valueOr, ReadFields, readAs, readFields, ReportFields, reportAs, reportFields}
 use Rattle.hingedrift.specs.Numbers.{numberSaid, HdReadNumber, HdReportNumber}
 
@@ -54,7 +55,7 @@ module _ (s bs : List ℕ) (cluster unicast : ℕ) (frame : List ℕ) (room size
 
   -- the bytes were a table
   was-served : (isTable limit bs ≡ true) × (seen (Reply size) reply (served .state) ≡ served)
-  unfolding handleLeft
+  unfolding serveLent
   was-served = go (isTable limit bs) refl e
     where
       go : (b : Bool) → isTable limit bs ≡ b → handed 0 size reply after ≡ cond b (within (carried bs) served) (refused room (cond (isStore 8 s) NotATable NotAStore) (lent s bs))

@@ -7,7 +7,8 @@ use lib.ListN.{length}
 use Rattle.frame.specs.Answer.{Outcome, noState}
 use Rattle.store.specs.Value.{Telling}
 use Rattle.hingedrift.specs.Tables.{keyOf, configOf, Left, left, noResult, Configuration, configurationAs, newLeft, configureLeft, clearLeft, markLeft, askLeft, configurationLeft}
-use Rattle.hingedrift.specs.Serving.{handed, Lent, lent, unsupportedLeft, reportLeft, handleLeft}
+use Rattle.server.specs.Lent.{Lent, lent}
+use Rattle.hingedrift.specs.Serving.{handed, unsupportedLeft, reportLeft, handleLeft}
 use Rattle.hingedrift.specs.Reading.{Told, told, ValueFields, SettingFields}
 use Rattle.hingedrift.specs.Unique.{HdNumberOnce, HdHandleRequestOnce, HdUnsupportedClusterOnce, HdReportOnce, HdTableNewOnce, HdConfigureOnce}
 use Rattle.hingedrift.specs.Unique.{HdClearOnce, HdConfigurationOnce, HdAskOnce, HdMarkOnce}

@@ -18,7 +18,8 @@ use Rattle.reporting.specs.Events.{Event, configured, cleared, asked, marked}
 use Rattle.reporting.specs.Demand3.{Supposed, Promised, asksOf}
 use Rattle.server.specs.History.{Request, requestEvents}
 use Rattle.hingedrift.specs.Tables.{keyOf, configOf, left, noResult, Configuration, newLeft, configureLeft, clearLeft, markLeft, askLeft, configurationLeft}
-use Rattle.hingedrift.specs.Serving.{handed, isUnicast, lent, handleLeft}
+use Rattle.server.specs.Lent.{lent}
+use Rattle.hingedrift.specs.Serving.{handed, isUnicast, handleLeft}
 
 -- ---- calls
 

@@ -16,7 +16,8 @@ use Rattle.frame.specs.Answer.{refusalNumber, noState}
 use Rattle.frame.specs.Walk.{All}
 use Rattle.store.specs.Value.{Telling}
 use Rattle.readers.specs.Served.{Asks}
-use Rattle.hingedrift.specs.Serving.{handed, numberHanded, Lent, handleLeft, reportLeft, numberLeft}
+use Rattle.server.specs.Lent.{Lent}
+use Rattle.hingedrift.specs.Serving.{handed, numberHanded, handleLeft, reportLeft, numberLeft}
 use Rattle.hingedrift.specs.Reading.{told, valueAs, readAs, readRecorded, reportAs, reportRecorded}
 
 -- what a record says of its value's number, as hd_number would: the number, or 9

@@ -1,19 +1,14 @@
 -- The server's functions towards C: those of crates `store` and `server`, with a table as its bytes and `unicast` as a number, 0 or
 -- anything else. Assumes nothing: these are definitions.
 use Prim.Native.Nat.{ℕ}
-use mathlib.Core.Bool.{Bool, cond, not}
+use mathlib.Core.Bool.{Bool, not}
 use mathlib.Core.List.{List}
 use lib.Dec.{eqb}
 use lib.IntN.{ℤ}
-use Rattle.frame.specs.declared.answer.Refusal.the-variants.{NotAStore, NotATable}
-use Rattle.frame.specs.Answer.{Outcome, refused}
+use Rattle.frame.specs.Answer.{Outcome}
 use Rattle.store.specs.Contents.{nameOf}
-use Rattle.store.specs.Layout.{isStore}
 use Rattle.store.specs.Value.{Telling, telling, numberOf}
-use Rattle.reporting.specs.Table.{room, holding}
-use Rattle.reporting.specs.Carried.{isTable, tableIn}
-use Rattle.reporting.specs.Lent.{bytesAfter}
-use Rattle.server.specs.Serve.{State, within, serve}
+use Rattle.server.specs.Lent.{Lent, serveLent}
 use Rattle.server.specs.UnsupportedCluster.{unsupportedCluster}
 use Rattle.server.specs.Report.{reportOf}
 
@@ -39,22 +34,6 @@ unsupportedLeft served cluster unicast frame size = unsupportedCluster served cl
 abbrev pub reportLeft : List ℕ → ℕ → List ℕ → ℕ → Outcome (Unit {0})
 reportLeft s sequence ids size = reportOf 8 s sequence ids size
 
--- ---- hd_handle_request
-
--- what is lent and may change
-pub record Lent : Type 0 where
-  pub store : List ℕ
-  pub table : List ℕ
-
-abbrev pub lent : List ℕ → List ℕ → Lent
-lent s bs = record { store = s; table = bs }
-
-abbrev pub carried : List ℕ → State → Lent
-carried bs x = lent (x .store) (bytesAfter bs (x .table))
-
--- 7, then 8 for bytes that are no table, then as the table that they are is served
-unfoldable pub handleLeft : List ℕ → List ℕ → ℕ → ℕ → List ℕ → ℕ → Outcome Lent
-handleLeft s bs cluster unicast frame size =
-    cond (isTable room bs)
-    (within (carried bs) (serve 8 room s (holding (tableIn bs)) cluster (isUnicast unicast) frame size))
-    (refused size (cond (isStore 8 s) NotATable NotAStore) (lent s bs))
+-- hd_handle_request
+abbrev pub handleLeft : List ℕ → List ℕ → ℕ → ℕ → List ℕ → ℕ → Outcome Lent
+handleLeft s bs cluster unicast frame size = serveLent s bs cluster (isUnicast unicast) frame size

@@ -7,7 +7,8 @@ use lib.ListN.{length}
 use lib.IntN.{ℤ}
 use Rattle.frame.specs.Answer.{noState}
 use Rattle.hingedrift.specs.Tables.{keyOf, configOf, left, noResult, configurationAs, newLeft, configureLeft, clearLeft, markLeft, askLeft, configurationLeft}
-use Rattle.hingedrift.specs.Serving.{handed, numberHanded, lent, numberLeft, unsupportedLeft, reportLeft, handleLeft}
+use Rattle.server.specs.Lent.{lent}
+use Rattle.hingedrift.specs.Serving.{handed, numberHanded, numberLeft, unsupportedLeft, reportLeft, handleLeft}
 use Rattle.hingedrift.specs.Reading.{told, valueAs, readAs, reportAs, writeAs, configureAs, settingAs, sizedAs, discoverAs, responseAs}
 use Rattle.hingedrift.specs.Reading.{readChecked, writeChecked, configureChecked, configurationChecked, reportChecked, discoverChecked}
 use Rattle.hingedrift.specs.Reading.{readRecorded, reportRecorded, writeRecorded, configureRecorded, configurationRecorded, discoverRecorded, responseTold}

@@ -1,6 +1,5 @@
 // What the box's radio driver, which is C, calls: numbers and byte buffers, thin over the proved crates. include/hingedrift.h
 // declares it.
-mod lent;
 pub mod reading;
 pub mod serving;
 pub mod table;

@@ -2,10 +2,11 @@
 ghost use mathlib.Core.Path.{_≡_};
 ghost use lib.ListN.{length};
 ghost use Rattle.frame.specs.Answer.{noState};
-ghost use Rattle.hingedrift.specs.Serving.{handed, numberHanded, lent, numberLeft, unsupportedLeft, reportLeft, handleLeft};
-use super::lent::serve_lent;
+ghost use Rattle.server.specs.Lent.{lent};
+ghost use Rattle.hingedrift.specs.Serving.{handed, numberHanded, numberLeft, unsupportedLeft, reportLeft, handleLeft};
 use frame::header::ManufacturerCode;
 use server::report::report;
+use server::serve::handle_request_lent;
 use server::unsupported_cluster::unsupported_cluster;
 use store::lookup::name_of;
 use store::value::Numbered;
@@ -43,7 +44,14 @@ pub extern "C" fn hd_handle_request(
 ) -> u8
     ensures { λ r. ⌜ handed r (now («reply_used» .exit)) (now (reply .exit)) (lent (now (store .exit)) (now (table .exit))) ≡ handleLeft (now (store .entry)) (now (table .entry)) cluster unicast (now (request .entry)) (length (now (reply .entry))) ⌝ }
 {
-    let answer = serve_lent(store, table, ClusterId(cluster), unicast, request, reply);
+    let answer = handle_request_lent(
+        store,
+        table,
+        ClusterId(cluster),
+        unicast != 0,
+        request,
+        reply,
+    );
     *reply_used = answer.reply_len();
     answer.number()
 }

@@ -17,9 +17,10 @@ use Rattle.frame.specs.declared.reply.Put.the-variants.{At, Full}
 use Rattle.frame.proofs.Buffer.{put-fits, over-padded}
 use Rattle.store.specs.Contents.{clusterOf}
 use Rattle.reporting.specs.declared.carried.ReadTable.{ReadTable}
-use Rattle.reporting.specs.Table.{room, Table, tableOf, holding}
+use Rattle.reporting.specs.Table.{room, Table, sound, tableOf, holding}
 use Rattle.reporting.specs.Carried.{tableIn, isTable, Reading, reading, seen as seenTable, readT}
-use Rattle.reporting.proofs.CarriageTable.{table-count}
+use Rattle.reporting.specs.Lent.{quietedT}
+use Rattle.reporting.proofs.CarriageTable.{table-count, table-quiet}
 use Rattle.reporting.proofs.CarriageLoops.{known-count}
 use Rattle.reporting.proofs.Slots.{is-table}
 use Rattle.server.specs.Serve.{State, state, serve}
@@ -52,7 +53,7 @@ whole-short used d r after h e p =
 
 -- the table that a request meets where this was read
 abbrev met : ReadTable → Table
-met r = tableOf (r .table)
+met r = quietedT (tableOf (r .table))
 
 module _ (r : ReadTable) (bs : List ℕ) (e : reading r ≡ readT 16 bs) where
   by-test : reading r ≡ cond (isTable 16 bs) (seenTable true (tableIn bs)) (seenTable false [])
@@ -72,7 +73,8 @@ module _ (r : ReadTable) (bs : List ℕ) (e : reading r ≡ readT 16 bs) where
       let t : isTable 16 bs ≡ true = table-known ∙ k in
       let q : reading r ≡ seenTable true (tableIn bs) = by-test ∙ ap (λ (b : Bool). cond b (seenTable true (tableIn bs)) (seenTable false [])) t in
       let n : r .table .count ≡ length (tableIn bs) = ap (λ (x : Reading). x .count) q in
-      is-table (r .table) (tableIn bs) (record { count = n; entries = ap (λ (x : Reading). x .entries) q }) (omega (arith, n, table-count bs, known-count bs t))
+      ap quietedT (is-table (r .table) (tableIn bs) (record { count = n; entries = ap (λ (x : Reading). x .entries) q }) (omega (arith, n, table-count bs, known-count bs t)))
+      ∙ ap (sound (length (tableIn bs))) (table-quiet 16 bs t)
 
 -- ---- what is said and left
 

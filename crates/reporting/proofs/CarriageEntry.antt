@@ -1,7 +1,7 @@
 -- An entry as the numbers of its slot. Assumes nothing.
 use Prim.Native.Nat.{ℕ, _^_, _<_}
 use mathlib.Core.Path.{_≡_, refl, ap, sym, _∙_, subst}
-use mathlib.Core.Bool.{Bool, true, false, _&&_, _||_}
+use mathlib.Core.Bool.{Bool, true, false, cond, _&&_, _||_, true≢false}
 use mathlib.Core.List.{List, [], _∷_}
 use native.Mathlib.Omega.{arith}
 use native.Mathlib.Nat.{mod-lt}
@@ -15,7 +15,8 @@ use Rattle.types.specs.Number.{AllBytes, signedOf, residue}
 use Rattle.types.proofs.Numbers.{signed-low}
 use Rattle.types.proofs.Readings.{signed-in, residue-signed, signed-residue}
 use Rattle.reporting.specs.declared.entry.Entry.{Entry}
-use Rattle.reporting.specs.Carried.{widths, told, numbersIn, numbersOf, entryOf, inForm, Clean}
+use Rattle.reporting.specs.Entries.{fresh}
+use Rattle.reporting.specs.Carried.{widths, told, numbersIn, numbersOf, entryOf, inForm, Clean, quieted}
 use Rattle.reporting.proofs.Carriage.{Within, within-numbers, both}
 
 residue-below : (z : ℤ) → residue (2 ^ 64) z < 2 ^ 64
@@ -132,3 +133,36 @@ slot-clean bs h p =
       value = signed-in 8 (getD ns 7 0) (w .1 .1 .1 .1 .1 .1 .1 .0);
       quiet = still (getD ns 5 0) (getD ns 6 0) (getD ns 7 0) p;
     }
+
+-- ---- an entry as its bytes tell it
+
+-- the same numbers
+pub quieted-numbers : (e : Entry) → numbersOf (quieted e) ≡ numbersOf e
+unfolding numbersOf
+quieted-numbers e = go (e .marked) refl
+  where
+    go : (b : Bool) → e .marked ≡ b → numbersOf (cond b e (fresh (e .key) (e .config))) ≡ numbersOf e
+    go true h = refl
+    go false h = sym (rw h)
+
+-- within the widths, in one form
+pub quieted-clean : (e : Entry) → e .key .cluster .0 < 2 ^ 16 → e .key .attribute .0 < 2 ^ 16 → e .config .«min_interval» < 2 ^ 16 → e .config .«max_interval» < 2 ^ 16
+    → e .config .«reportable_change» < 2 ^ 64 → e .«last_time» < 2 ^ 32 → mag (e .«last_value») < 2 ^ 63 → Clean (quieted e)
+quieted-clean e c a m x d t v = go (e .marked) refl
+  where
+    go : (b : Bool) → e .marked ≡ b → Clean (cond b e (fresh (e .key) (e .config)))
+    go true h = record { cluster = c; attribute = a; minimum = m; maximum = x; change = d; time = t; value = v; quiet = λ q. absurd (true≢false (sym h ∙ q)) }
+    go false h = record { cluster = c; attribute = a; minimum = m; maximum = x; change = d; time = omega arith; value = omega arith; quiet = λ q. (refl, refl) }
+
+-- and nothing changes where it was so
+quieted-same : (e : Entry) → (e .marked ≡ false → (e .«last_time» ≡ 0) × (e .«last_value» ≡ pos 0)) → quieted e ≡ e
+quieted-same e h = go (e .marked) refl
+  where
+    go : (b : Bool) → e .marked ≡ b → cond b e (fresh (e .key) (e .config)) ≡ e
+    go true q = refl
+    go false q = λ i. record { key = e .key; config = e .config; marked = sym q i; «last_time» = sym (h q .0) i; «last_value» = sym (h q .1) i }
+
+-- as in a slot in form
+pub slot-quiet : (ns : List ℕ) → inForm ns ≡ true → quieted (entryOf ns) ≡ entryOf ns
+unfolding entryOf inForm
+slot-quiet ns p = quieted-same (entryOf ns) (still (getD ns 5 0) (getD ns 6 0) (getD ns 7 0) p)

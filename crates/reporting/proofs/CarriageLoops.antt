@@ -1,6 +1,6 @@
 -- What the loops over the slots hold so far, and the tests before them. Assumes nothing.
 use Prim.Native.Nat.{ℕ, zero, suc, _+_, _-_, _*_, _≤_, _<_}
-use mathlib.Core.Path.{_≡_, refl, ap, sym, _∙_}
+use mathlib.Core.Path.{_≡_, refl, ap, sym, _∙_, subst}
 use mathlib.Core.Bool.{Bool, true, false, cond, _&&_, and-true, and-false}
 use mathlib.Core.List.{List, [], _∷_, _++_, map, append-assoc, append-nil}
 use native.Mathlib.Omega.{arith}
@@ -14,9 +14,9 @@ use Rattle.frame.specs.Reply.{padded, over}
 use Rattle.frame.proofs.Buffer.{length-padded, over-padded}
 use Rattle.reporting.specs.declared.entry.Entry.{Entry}
 use Rattle.reporting.specs.declared.table.ReportingTable.{ReportingTable}
-use Rattle.reporting.specs.Carried.{widths, total, laid, numbersIn, rowsLaid, rowsIn, numbersOf, entryOf, inForm, allInForm, countIn, slotsIn, tableIn, tableSize, tableBytes, isTable, Reading, seen, readT, written, writeT}
+use Rattle.reporting.specs.Carried.{widths, total, laid, numbersIn, rowsLaid, rowsIn, numbersOf, entryOf, inForm, allInForm, countIn, slotsIn, tableIn, tableSize, tableBytes, isTable, Clean, AllClean, quieted, Reading, seen, readT, written, writeT}
 use Rattle.reporting.proofs.Carriage.{length-laid, length-rows, length-rowsIn}
-use Rattle.reporting.proofs.CarriageTable.{the-conditions}
+use Rattle.reporting.proofs.CarriageTable.{the-conditions, quieted-snoc}
 
 -- what owning an array of structs tells of its list, where `search needs` stops at arrays of numbers
 pub length-mapped : {X Y : Type 0} (f : X → Y) (l : List X) (n : ℕ) → length (map f l) ≡ n → length l ≡ n
@@ -218,6 +218,12 @@ filled-turn count es i d bs l m h n e w = (
       ∙ ap (λ (b : List ℕ). sets b (1 + 29 * i) (laid widths (numbersOf (getD es i d)))) e
       ∙ filled-more 465 count es i d (omega arith) (omega arith),
 )
+
+-- the entries so far are within the widths
+pub clean-turn : (es : List Entry) (i : ℕ) (d : Entry) → i < length es → AllClean (map quieted (take i es)) → Clean (quieted (getD es i d)) → AllClean (map quieted (take (i + 1) es))
+clean-turn es i d h a c =
+    subst (λ (l : List Entry). AllClean (map quieted l)) (sym (take-suc es i d h) ∙ ap (λ (j : ℕ). take j es) (sym (add-one i)))
+    (quieted-snoc (take i es) (getD es i d) a c)
 
 -- all slots are filled: the table's bytes
 pub filled-all : (t : ReportingTable) (i : ℕ) → length (t .entries) ≡ 16 → t .count ≤ 16 → i ≤ t .count → t .count ≤ i → filled 465 (t .count) (t .entries) i ≡ tableBytes 16 (take (t .count) (t .entries))

@@ -14,10 +14,10 @@ use Rattle.types.proofs.Numbers.{bytes-drop}
 use Rattle.frame.specs.Reply.{padded}
 use Rattle.frame.proofs.Buffer.{length-padded}
 use Rattle.reporting.specs.declared.entry.Entry.{Entry}
-use Rattle.reporting.specs.Carried.{widths, total, rowsLaid, rowsIn, numbersIn, numbersOf, entryOf, inForm, allInForm, tableSize, tableBytes, slotsIn, tableIn, countIn, sized, counted, endsInZeros, isTable, AllClean, seen, readT}
+use Rattle.reporting.specs.Carried.{widths, total, rowsLaid, rowsIn, numbersIn, numbersOf, entryOf, inForm, allInForm, tableSize, tableBytes, slotsIn, tableIn, countIn, sized, counted, endsInZeros, isTable, Clean, AllClean, quieted, seen, readT}
 use Rattle.reporting.specs.OneForm.{TableIs, TableBack, BytesBack}
 use Rattle.reporting.proofs.Carriage.{AllWithin, length-rows, length-rowsIn, bytes-rows, rows-laid, laid-rows, both, zeros-zero, zero-zeros}
-use Rattle.reporting.proofs.CarriageEntry.{entry-within, entry-in-form, entry-back, slot-back, slot-clean}
+use Rattle.reporting.proofs.CarriageEntry.{entry-within, entry-in-form, entry-back, slot-back, slot-clean, quieted-numbers, slot-quiet}
 
 -- ---- entries and their rows
 
@@ -166,3 +166,32 @@ bytes-back limit bs h t = laid-back limit bs h t
 pub read-written : (limit : ℕ) (l : List Entry) → length l ≤ limit → AllClean l → readT limit (tableBytes limit l) ≡ seen true l
 unfolding readT
 read-written limit l f h = rw (table-is limit l f h) (ap (seen true) (table-back limit l f h))
+
+-- entries as they are written, and as they are read then
+
+quieted-rows : (l : List Entry) → map numbersOf (map quieted l) ≡ map numbersOf l
+quieted-rows [] = refl
+quieted-rows (e ∷ l) = λ i. quieted-numbers e i ∷ quieted-rows l i
+
+quieted-bytes : (limit : ℕ) (l : List Entry) → tableBytes limit (map quieted l) ≡ tableBytes limit l
+unfolding tableBytes
+quieted-bytes limit l = λ i. padded (tableSize limit) (length-map l quieted i ∷ rowsLaid widths (quieted-rows l i))
+
+pub quieted-read : (limit : ℕ) (l : List Entry) → length l ≤ limit → AllClean (map quieted l) → readT limit (tableBytes limit l) ≡ seen true (map quieted l)
+quieted-read limit l f h =
+    ap (readT limit) (sym (quieted-bytes limit l)) ∙ read-written limit (map quieted l) (omega (arith, length-map l quieted)) h
+
+-- one more entry
+pub quieted-snoc : (l : List Entry) (e : Entry) → AllClean (map quieted l) → Clean (quieted e) → AllClean (map quieted (l ++ (e ∷ [])))
+quieted-snoc [] e h c = (c, tt)
+quieted-snoc (x ∷ l) e h c = (h .0, quieted-snoc l e (h .1) c)
+
+-- what bytes tell is told already
+rows-quiet : (rows : List (List ℕ)) → allInForm rows ≡ true → map quieted (map entryOf rows) ≡ map entryOf rows
+unfolding allInForm
+rows-quiet [] p = refl
+rows-quiet (ns ∷ rows) p = let q = both (inForm ns) (allInForm rows) p in λ i. slot-quiet ns (q .0) i ∷ rows-quiet rows (q .1) i
+
+pub table-quiet : (limit : ℕ) (bs : List ℕ) → isTable limit bs ≡ true → map quieted (tableIn bs) ≡ tableIn bs
+unfolding tableIn
+table-quiet limit bs t = rows-quiet (slotsIn bs) (the-conditions limit bs t .slots)

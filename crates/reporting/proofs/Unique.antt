@@ -23,12 +23,12 @@ use Rattle.reporting.specs.declared.table.Length.the-variants as LengthV
 use Rattle.reporting.specs.Table.{room, Table, sound, bad, live, tableOf, Alike, ChangeTold, changeTold, ReportTold, reportTold, SettingTold, settingTold, LengthTold, lengthTold, Outcome, outcome}
 use Rattle.reporting.specs.Table.{holding, configureT, clearT, markT, configurationT, askT, lengthT}
 use Rattle.reporting.specs.Entries.{configureL, clearL}
-use Rattle.reporting.specs.Carried.{tableIn, isTable, seen, Reading, readT, Written, written, writeT}
+use Rattle.reporting.specs.Carried.{tableIn, tableBytes, isTable, seen, Reading, readT, Written, written, writeT}
 use Rattle.reporting.specs.Lent.{askLent, configurationLent, markLent, clearLent, ChangeLeft, ChangeKept, configureIn}
 use Rattle.reporting.specs.Unique.{IsTableOnce, ReadTableOnce, WriteTableOnce, DistanceOnce, IsOnce, MovedByOnce, RipeOnce, FreshOnce, IsOfOnce, EntryMarkOnce}
 use Rattle.reporting.specs.Unique.{ConfigurationInOnce, ConfigureInOnce, ClearInOnce}
 use Rattle.reporting.specs.Unique.{DueOnce, AskLentOnce, ConfigurationLentOnce, MarkLentOnce, ClearLentOnce, ConfigureLentOnce, NewOnce, ConfigureOnce, ClearOnce, ReportingTableMarkOnce, ConfigurationOnce, AskOnce, LenOnce}
-use Rattle.reporting.proofs.CarriageTable.{the-conditions, table-count}
+use Rattle.reporting.proofs.CarriageTable.{the-conditions, table-count, bytes-back}
 use Rattle.reporting.proofs.Lending.{seen-bytes}
 
 -- ---- answers
@@ -225,6 +225,15 @@ configuration-in-once bytes key r q e f = one-setting (configurationT key (holdi
 -- two buffers in which a reader sees the same entries
 one-seen : (l : List Entry) (x y : List ℕ) → AllBytes x → AllBytes y → readT room x ≡ seen true l → readT room y ≡ seen true l → x ≡ y
 one-seen l x y a b e f = seen-bytes l x a e ∙ sym (seen-bytes l y b f)
+
+entriesIn : Table → List Entry
+entriesIn (sound n l) = l
+entriesIn (bad t) = []
+
+-- bytes that are one table are the same
+pub one-carried : (x y : List ℕ) → AllBytes x → AllBytes y → isTable room x ≡ true → isTable room y ≡ true → holding (tableIn x) ≡ holding (tableIn y) → x ≡ y
+unfolding entriesIn
+one-carried x y a b t u e = sym (bytes-back room x a t) ∙ ap (λ (l : Table). tableBytes room (entriesIn l)) e ∙ bytes-back room y b u
 
 pub configure-in-once : ConfigureInOnce
 unfolding configureIn

@@ -10,9 +10,11 @@ use lib.IntN.{pos}
 use lib.Signed.{mag}
 use Rattle.types.specs.Number.{allZero, le, bytesOf, signedOf, residue}
 use Rattle.frame.specs.Reply.{padded}
+use Rattle.frame.specs.Walk.{All}
 use Rattle.reporting.specs.declared.entry.Entry.{Entry}
 use Rattle.reporting.specs.declared.table.ReportingTable.{ReportingTable}
 use Rattle.reporting.specs.declared.carried.ReadTable.{ReadTable}
+use Rattle.reporting.specs.Entries.{fresh}
 
 -- ---- numbers in their widths
 
@@ -124,9 +126,12 @@ pub record Clean (e : Entry) : Type 0 where
   pub value : mag (e .«last_value») < 2 ^ 63
   pub quiet : e .marked ≡ false → (e .«last_time» ≡ 0) × (e .«last_value» ≡ pos 0)
 
+-- an entry as its bytes tell it: under a flag of 0 they carry no time and no value
+abbrev pub quieted : Entry → Entry
+quieted e = cond (e .marked) e (fresh (e .key) (e .config))
+
 abbrev pub AllClean : List Entry → Type 0
-AllClean [] = Unit
-AllClean (e ∷ l) = Clean e × AllClean l
+AllClean l = All Clean l
 
 -- ---- what the code hands back
 

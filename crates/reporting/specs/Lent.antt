@@ -1,7 +1,7 @@
 -- The table's operations on the bytes that carry it: what each says, and the bytes afterwards. Bytes that are no table are refused,
 -- and stay as they are. Assumes nothing: these are definitions.
 use mathlib.Core.Bool.{true, false, cond}
-use mathlib.Core.List.{List}
+use mathlib.Core.List.{List, map}
 use Prim.Native.Nat.{ℕ}
 use lib.IntN.{ℤ}
 use Rattle.frame.specs.declared.answer.Refusal.the-variants.{NotATable}
@@ -14,7 +14,7 @@ use Rattle.reporting.specs.declared.table.Report.the-variants as ReportV
 use Rattle.reporting.specs.declared.table.Setting.the-variants as SettingV
 use Rattle.reporting.specs.Entries.{acceptsL, configureL, clearL, markL}
 use Rattle.reporting.specs.Table.{room, Table, sound, bad, holding, ChangeTold, changeTold, ReportTold, reportTold, askT, SettingTold, settingTold, configurationT}
-use Rattle.reporting.specs.Carried.{tableIn, isTable, tableBytes, Reading, seen, readT, Written, written}
+use Rattle.reporting.specs.Carried.{quieted, tableIn, isTable, tableBytes, Reading, seen, readT, Written, written}
 
 -- of a table's entries what `rest` says; of other bytes the refusal
 unfoldable pub onLent : {R : Type 0} → List ℕ → R → (List Entry → R) → R
@@ -63,3 +63,8 @@ configureIn k g l =
 abbrev pub bytesAfter : List ℕ → Table → List ℕ
 bytesAfter bs (sound n l) = tableBytes room l
 bytesAfter bs (bad t) = bs
+
+-- the table that the bytes of a table are
+abbrev pub quietedT : Table → Table
+quietedT (sound n l) = sound n (map quieted l)
+quietedT (bad t) = bad t

@@ -3,10 +3,10 @@ ghost use mathlib.Core.Path.{_≡_};
 ghost use mathlib.Core.List.{[], map};
 ghost use mathlib.Core.Bool.{true, false};
 ghost use Prim.Native.Nat.{_+_, _^_, _≤_};
-ghost use lib.ListN.{length, drop};
+ghost use lib.ListN.{length, take, drop};
 ghost use lib.Seq.{sets};
 ghost use Rattle.types.specs.Number.{allZero, residue};
-ghost use Rattle.reporting.specs.Carried.{widths, laid, numbersIn, rowsIn, told, numbersOf, entryOf, inForm, allInForm};
+ghost use Rattle.reporting.specs.Carried.{widths, laid, numbersIn, rowsIn, told, numbersOf, entryOf, quieted, Clean, inForm, allInForm};
 ghost use Rattle.reporting.specs.Carried.{isTable, reading, seen, readT, written, writeT};
 use super::entry::Entry;
 use super::entry::Key;
@@ -144,10 +144,11 @@ pub(crate) fn read_slot(bytes: &[u8], at: usize) -> Entry
     }
 }
 
-// Writes the slot of an entry at `at`.
+// Writes the slot of an entry at `at`. Any entry that code holds is within the widths, as its fields are of these types.
 pub(crate) fn write_slot(bytes: &mut [u8], at: usize, e: Entry)
     requires { ⌜ at + 29 ≤ length (now bytes) ⌝ }
     ensures { λ _. ⌜ now (bytes .exit) ≡ sets (now (bytes .entry)) at (laid widths (numbersOf e)) ⌝ }
+    ensures { λ _. ⌜ Clean (quieted e) ⌝ }
 {
     let key = e.key;
     let cluster = key.cluster;
@@ -207,9 +208,11 @@ pub fn read_table(bytes: &[u8]) -> ReadTable
     read_slots(bytes, count)
 }
 
-// Writes the table, if it is one and the bytes have its size, and says whether; otherwise the bytes are as they were.
+// Writes the table, if it is one and the bytes have its size, and says whether; otherwise the bytes are as they were. What was written reads as
+// that table; but an entry that was never marked carries no time and no value there.
 pub fn write_table(bytes: &mut [u8], table: ReportingTable) -> bool
     ensures { λ r. ⌜ written r (now (bytes .exit)) ≡ writeT 16 table (now (bytes .entry)) ⌝ }
+    ensures { λ r. ⌜ (r ≡ true → readT 16 (now (bytes .exit)) ≡ seen true (map quieted (take (table .count) (table .entries)))) ⌝ }
 {
     if bytes.len() != TABLE_BYTES {
         return false;

@@ -4,7 +4,8 @@ pub mod Listed  -- a cluster among those that are served, and the ways of the re
 pub mod Turns  -- one id of a report
 pub mod Going  -- the loop over the ids of a report
 pub mod Whole  -- a report: the store, the header, the list, its ids
-pub mod Parts  -- a request served in parts is the request served
+pub mod Commands  -- the commands by their tags, and those that need no table
+pub mod Served  -- the checks one by one, over bytes and over a value
 pub mod Cases  -- one case split for each of the server's definitions
 pub mod Sees  -- what a command sees of a request's header
 pub mod Indifferent  -- what does not affect an answer

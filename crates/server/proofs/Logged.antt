@@ -4,9 +4,11 @@ use mathlib.Core.Path.{_≡_, refl, sym, ap, _∙_, subst}
 use mathlib.Core.Bool.{Bool, true, false, cond}
 use mathlib.Core.List.{List, [], _∷_, _++_, map}
 use Prim.Native.Nat.{ℕ}
+use lib.ListN.{length}
 use Rattle.frame.specs.declared.header.ZclHeader.{ZclHeader}
 use Rattle.frame.specs.declared.command_identifier.CommandIdentifier.{CommandIdentifier}
 use Rattle.frame.specs.Answer.{Outcome}
+use Rattle.frame.specs.Walk.{All}
 use Rattle.reporting.specs.declared.entry.Key.{Key}
 use Rattle.reporting.specs.declared.entry.ReportingConfig.{ReportingConfig}
 use Rattle.reporting.specs.declared.entry.Entry.{Entry}
@@ -14,18 +16,22 @@ use Rattle.reporting.specs.declared.table.ReportingTable.{ReportingTable}
 use Rattle.reporting.specs.declared.table.Changed.{Changed}
 use Rattle.reporting.specs.Entries.{acceptsL, configureL}
 use Rattle.reporting.specs.Table.{room, Table, sound, tableOf, holding, changeTold, Outcome as Left, outcome, doneT, fullT, configureT, clearT, markT, askT}
+use Rattle.reporting.specs.Lent.{quietedT}
 use Rattle.reporting.specs.Events.{Event, configured, cleared, marked, after}
 use Rattle.reporting.specs.Events as Event
 use Rattle.reporting.specs.Demand3.{Supposed, Promised, asksOf}
 use Rattle.reporting.specs.Log.{ifAccepted, ifAnswered}
 use Rattle.reporting.specs.Log as Method
 use Rattle.reporting.proofs.Histories.{configure-refused}
+use Rattle.reporting.proofs.Histories as direct-call
+use Rattle.reporting.proofs.Kept.{Quiet, run-quiet, quiet-same}
 use Rattle.configure.specs.Configure.{configureOf}
 use Rattle.server.specs.Serve.{State, commanded, serve}
 use Rattle.server.specs.History.{entriesOf, requested, requestEvents, Use, direct, used, useEvents, uses, served}
 use Rattle.server.specs.History as History
 use Rattle.server.specs.Log.{Made, request, method, Contract, next, last, Log, eventsOf, allEventsOf, Demand3OfServer}
 use Rattle.server.proofs.Cases.{commanded-case, serve-case}
+use Rattle.server.proofs.Histories.{request-is}
 use Rattle.server.proofs.Frames.{demand-3-of-frames}
 
 -- ---- a request leaves a table whose count is that of its entries
@@ -75,39 +81,46 @@ configure-is k g r l q = go (acceptsL room k l) refl q
       table = ap (λ (o : Left). o .table) q ∙ ap holding (sym (configure-refused room k g l e));
     }
 
-call-is : (c : Made) (t : ReportingTable) (l : List Entry) → tableOf t ≡ holding l → Contract c t → Is (useOf c) l (eventsOf c t) (next c t)
+-- without a report an entry has neither time nor value, and so the bytes that a request works on carry all of it; l is made of such entries
+call-is : (c : Made) (t : ReportingTable) (l : List Entry) → All Quiet l → tableOf t ≡ holding l → Contract c t → Is (useOf c) l (eventsOf c t) (next c t)
 unfolding useOf requested
-call-is (request q r reply store) t l e h =
-    let o = h ∙ ap (λ (x : Table). serve 8 room (q .store) x (q .cluster) (q .unicast) (q .frame) (q .room)) e in
+call-is (request q r reply store) t l k e h =
+    let b : quietedT (tableOf t) ≡ holding l = ap quietedT e ∙ ap (sound (length l)) (quiet-same l k) in
+    let o = h ∙ ap (λ (x : Table). serve 8 room (q .store) x (q .cluster) (q .unicast) (q .frame) (q .room)) b in
     record {
       events = ap (λ (x : Table). requestEvents room q (entriesOf x)) e;
       table =
           ap (λ (x : Outcome State). x .state .table) o
           ∙ serve-tight (q .store) (q .unicast) (q .room) (q .cluster) (q .frame) (holding l) refl;
     }
-call-is (method (Method.configure k g r)) t l e h = configure-is k g r l (h ∙ ap (configureT room k g) e)
-call-is (method (Method.clear k r)) t l e h =
+call-is (method (Method.configure k g r)) t l d e h = configure-is k g r l (h ∙ ap (configureT room k g) e)
+call-is (method (Method.clear k r)) t l d e h =
     let o = h ∙ ap (clearT k) e in
     record { events = ap (λ (x : Left). ifAccepted (x .told) (cleared k)) o; table = ap (λ (x : Left). x .table) o }
-call-is (method (Method.mark k now v r)) t l e h =
+call-is (method (Method.mark k now v r)) t l d e h =
     let o = h ∙ ap (markT k now v) e in
     record { events = ap (λ (x : Left). ifAccepted (x .told) (marked k now v)) o; table = ap (λ (x : Left). x .table) o }
-call-is (method (Method.ask k now v r)) t l e h = record { events = ap (ifAnswered k now v) (h ∙ ap (askT k now v) e); table = e }
-call-is (method (Method.configuration k r)) t l e h = record { events = refl; table = e }
-call-is (method (Method.len r)) t l e h = record { events = refl; table = e }
+call-is (method (Method.ask k now v r)) t l d e h = record { events = ap (ifAnswered k now v) (h ∙ ap (askT k now v) e); table = e }
+call-is (method (Method.configuration k r)) t l d e h = record { events = refl; table = e }
+call-is (method (Method.len r)) t l d e h = record { events = refl; table = e }
+
+used-quiet : (u : Use) (l : List Entry) → All Quiet l → All Quiet (used room u l)
+used-quiet (History.request r) l h = subst (All Quiet) (request-is room r l .table) (run-quiet room (requestEvents room r l) l h)
+used-quiet (direct c) l h = subst (All Quiet) (direct-call.call-is room c l .table) (run-quiet room (Event.events room c l) l h)
 
 -- ---- and so a log is uses
 
 record AllIs (us : List Use) (l : List Entry) (es : List Event) (t : ReportingTable) : Type 0 where
+  quiet : All Quiet (uses room us l)
   events : es ≡ served room us l
   table : tableOf t ≡ holding (uses room us l)
 
-log-is : (log : List Made) (t : ReportingTable) (l : List Entry) → tableOf t ≡ holding l → Log t log → AllIs (map useOf log) l (allEventsOf log t) (last log t)
-log-is [] t l e h = record { events = refl; table = e }
-log-is (c ∷ log) t l e h =
-    let one = call-is c t l e (h .0) in
-    let more = log-is log (next c t) (used room (useOf c) l) (one .table) (h .1) in
-    record { events = λ i. one .events i ++ more .events i; table = more .table }
+log-is : (log : List Made) (t : ReportingTable) (l : List Entry) → All Quiet l → tableOf t ≡ holding l → Log t log → AllIs (map useOf log) l (allEventsOf log t) (last log t)
+log-is [] t l q e h = record { quiet = q; events = refl; table = e }
+log-is (c ∷ log) t l q e h =
+    let one = call-is c t l q e (h .0) in
+    let more = log-is log (next c t) (used room (useOf c) l) (used-quiet (useOf c) l q) (one .table) (h .1) in
+    record { quiet = more .quiet; events = λ i. one .events i ++ more .events i; table = more .table }
 
 -- a log cut in two
 log-cut : (before after : List Made) (t : ReportingTable) → Log t (before ++ after) → Log t before × Log (last before t) after
@@ -119,8 +132,9 @@ unfolding useOf
 demand-3-of-server t before q r reply store after earlier k g rest G e h p low high s =
     let cut = log-cut before (request q r reply store ∷ after) t h in
     let l : List Entry = uses room (map useOf before) [] in
-    let this = call-is (request q r reply store) (last before t) l (log-is before t [] e (cut .0) .table) (cut .1 .0) in
-    let more = log-is after (r .table) (requested room q l) (this .table) (cut .1 .1) in
+    let first = log-is before t [] tt e (cut .0) in
+    let this = call-is (request q r reply store) (last before t) l (first .quiet) (first .table) (cut .1 .0) in
+    let more = log-is after (r .table) (requested room q l) (used-quiet (History.request q) l (first .quiet)) (this .table) (cut .1 .1) in
     subst (λ (es : List Event). Promised g G (asksOf k (rest ++ es))) (sym (more .events))
     (demand-3-of-frames room (map useOf before) q k g earlier rest G (map useOf after) (sym (this .events) ∙ p) low high
     (subst (λ (es : List Event). Supposed k G (rest ++ es)) (more .events) s))

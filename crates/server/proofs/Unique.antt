@@ -1,21 +1,21 @@
 -- No second answer fits a call. Two that meet a request's contract have the same answer, reply buffer and store, and tables that are alike
 -- (the slots past the count are no part of a table). Assumes nothing.
-use mathlib.Core.Path.{_≡_, sym, ap, _∙_}
+use mathlib.Core.Path.{_≡_, ap}
 use mathlib.Core.List.{List}
 use Prim.Native.Nat.{ℕ}
 use lib.ListN.{length}
-use Rattle.frame.specs.Header.{frameTypeOf}
 use Rattle.frame.specs.Answer.{Outcome, seen}
 use Rattle.frame.proofs.Outcome.{only-one, only-answer}
 use Rattle.reporting.specs.Table.{room, Alike, tableOf}
+use Rattle.reporting.specs.Lent.{quietedT}
 use Rattle.reporting.proofs.Unique.{alike}
 use Rattle.server.specs.declared.serve.Served.{Served}
 use Rattle.server.specs.DefaultResponse.{defaultResponse}
 use Rattle.server.specs.Report.{reportOf}
 use Rattle.server.specs.Serve.{State, state, serve}
-use Rattle.server.specs.Parts.{storeTyped}
+use Rattle.server.specs.Lent.{Lent, lent, serveLent}
 use Rattle.server.specs.UnsupportedCluster.{unsupportedCluster}
-use Rattle.server.specs.Unique.{OpenRequestOnce, DefaultResponseOnce, ReportOnce, HandleRequestOnce, UnsupportedClusterOnce, NeedsTableOnce, ServeStoreOnce}
+use Rattle.server.specs.Unique.{DefaultResponseOnce, ReportOnce, HandleRequestLentOnce, HandleRequestOnce, UnsupportedClusterOnce}
 
 -- ---- what is seen of a call tells all that it left
 
@@ -24,11 +24,6 @@ pub one-served : (o : Outcome State) (a b : Served) (d e s u : List ℕ) → see
 one-served o a b d e s u p q =
     let w = only-one o (a .answer) (b .answer) d e (state s (tableOf (a .table))) (state u (tableOf (b .table))) p q in
     (w .0, (w .1 .0, (ap (λ (x : State). x .store) (w .1 .1), alike (a .table) (b .table) (ap (λ (x : State). x .table) (w .1 .1)))))
-
--- src/checks.rt
-
-pub open-request-once : OpenRequestOnce
-open-request-once store known cluster request r q e f = e ∙ sym f
 
 -- src/default_response.rt
 
@@ -42,18 +37,15 @@ report-once store sequence ids frame r q x y e f = only-answer (reportOf 8 store
 
 -- src/serve.rt
 
+pub handle-request-lent-once : HandleRequestLentOnce
+handle-request-lent-once store table cluster unicast request reply r q x y s u bs cs e f =
+    let w = only-one (serveLent store table (cluster .0) unicast request (length reply)) r q x y (lent s bs) (lent u cs) e f in
+    (w .0, (w .1 .0, (ap (λ (z : Lent). z .store) (w .1 .1), ap (λ (z : Lent). z .table) (w .1 .1))))
+
 pub handle-request-once : HandleRequestOnce
-handle-request-once store table cluster unicast request reply r q x y s u e f = one-served (serve 8 room store (tableOf table) (cluster .0) unicast request (length reply)) r q x y s u e f
+handle-request-once store table cluster unicast request reply r q x y s u e f = one-served (serve 8 room store (quietedT (tableOf table)) (cluster .0) unicast request (length reply)) r q x y s u e f
 
 -- src/unsupported_cluster.rt
 
 pub unsupported-cluster-once : UnsupportedClusterOnce
 unsupported-cluster-once served cluster unicast request reply r q x y e f = only-answer (unsupportedCluster served (cluster .0) unicast request (length reply)) r q x y e f
-
--- src/without_table.rt
-
-pub needs-table-once : NeedsTableOnce
-needs-table-once request r q e f = e ∙ sym f
-
-pub serve-store-once : ServeStoreOnce
-serve-store-once store request body unicast reply r q x y s u e f = only-one (storeTyped 8 store unicast request body (length reply) (frameTypeOf (request .«frame_control» .0))) r q x y s u e f

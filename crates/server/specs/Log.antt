@@ -11,6 +11,7 @@ use Rattle.reporting.specs.declared.entry.Key.{Key}
 use Rattle.reporting.specs.declared.entry.ReportingConfig.{ReportingConfig}
 use Rattle.reporting.specs.declared.table.ReportingTable.{ReportingTable}
 use Rattle.reporting.specs.Table.{room, tableOf, holding}
+use Rattle.reporting.specs.Lent.{quietedT}
 use Rattle.reporting.specs.Events.{Event, configured}
 use Rattle.reporting.specs.Demand3.{Supposed, Promised, asksOf}
 use Rattle.reporting.specs.Log as Method
@@ -26,7 +27,7 @@ pub data Made : Type 0 where
 -- what the contract says of it, for the table that it was called on: the `ensures` of src/serve.rt, or that of the method
 abbrev pub Contract : Made → ReportingTable → Type 0
 Contract (request q r reply store) t =
-    seen (r .answer) reply (state store (tableOf (r .table))) ≡ serve 8 room (q .store) (tableOf t) (q .cluster) (q .unicast) (q .frame) (q .room)
+    seen (r .answer) reply (state store (tableOf (r .table))) ≡ serve 8 room (q .store) (quietedT (tableOf t)) (q .cluster) (q .unicast) (q .frame) (q .room)
 Contract (method c) t = Method.Contract c t
 
 -- the table that the caller has then

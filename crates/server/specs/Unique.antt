@@ -9,25 +9,16 @@ use Rattle.types.specs.declared.ids.ClusterId.{ClusterId}
 use Rattle.frame.specs.declared.answer.Answer.{Answer}
 use Rattle.frame.specs.declared.header.ZclHeader.{ZclHeader}
 use Rattle.frame.specs.declared.status.Status.{Status}
-use Rattle.frame.specs.Header.{frameTypeOf}
 use Rattle.frame.specs.Answer.{noState, seen}
 use Rattle.reporting.specs.declared.table.ReportingTable.{ReportingTable}
 use Rattle.reporting.specs.Table.{room, Alike, tableOf}
-use Rattle.server.specs.declared.checks.Opened.{Opened}
+use Rattle.reporting.specs.Lent.{quietedT}
 use Rattle.server.specs.declared.serve.Served.{Served}
 use Rattle.server.specs.DefaultResponse.{defaultResponse}
 use Rattle.server.specs.Report.{reportOf}
 use Rattle.server.specs.Serve.{state, serve}
-use Rattle.server.specs.Parts.{openedOf, needsTable, storeTyped}
+use Rattle.server.specs.Lent.{lent, serveLent}
 use Rattle.server.specs.UnsupportedCluster.{unsupportedCluster}
-
--- src/checks.rt
-abbrev pub OpenRequestOnce : Type 0
-OpenRequestOnce =
-    (store : List ℕ) (known : Bool) (cluster : ClusterId) (request : List ℕ) (r q : Opened)
-    → r ≡ openedOf 8 store known (cluster .0) request
-    → q ≡ openedOf 8 store known (cluster .0) request
-    → r ≡ q
 
 -- src/default_response.rt
 abbrev pub DefaultResponseOnce : Type 0
@@ -46,11 +37,18 @@ ReportOnce =
     → (r ≡ q) × (x ≡ y)
 
 -- src/serve.rt
+abbrev pub HandleRequestLentOnce : Type 0
+HandleRequestLentOnce =
+    (store table : List ℕ) (cluster : ClusterId) (unicast : Bool) (request reply : List ℕ) (r q : Answer) (x y s u bs cs : List ℕ)
+    → seen r x (lent s bs) ≡ serveLent store table (cluster .0) unicast request (length reply)
+    → seen q y (lent u cs) ≡ serveLent store table (cluster .0) unicast request (length reply)
+    → (r ≡ q) × ((x ≡ y) × ((s ≡ u) × (bs ≡ cs)))
+
 abbrev pub HandleRequestOnce : Type 0
 HandleRequestOnce =
     (store : List ℕ) (table : ReportingTable) (cluster : ClusterId) (unicast : Bool) (request reply : List ℕ) (r q : Served) (x y s u : List ℕ)
-    → seen (r .answer) x (state s (tableOf (r .table))) ≡ serve 8 room store (tableOf table) (cluster .0) unicast request (length reply)
-    → seen (q .answer) y (state u (tableOf (q .table))) ≡ serve 8 room store (tableOf table) (cluster .0) unicast request (length reply)
+    → seen (r .answer) x (state s (tableOf (r .table))) ≡ serve 8 room store (quietedT (tableOf table)) (cluster .0) unicast request (length reply)
+    → seen (q .answer) y (state u (tableOf (q .table))) ≡ serve 8 room store (quietedT (tableOf table)) (cluster .0) unicast request (length reply)
     → (r .answer ≡ q .answer) × ((x ≡ y) × ((s ≡ u) × Alike (r .table) (q .table)))
 
 -- src/unsupported_cluster.rt
@@ -60,14 +58,3 @@ UnsupportedClusterOnce =
     → seen r x noState ≡ unsupportedCluster served (cluster .0) unicast request (length reply)
     → seen q y noState ≡ unsupportedCluster served (cluster .0) unicast request (length reply)
     → (r ≡ q) × (x ≡ y)
-
--- src/without_table.rt
-abbrev pub NeedsTableOnce : Type 0
-NeedsTableOnce = (request : ZclHeader) (r q : Bool) → r ≡ needsTable request → q ≡ needsTable request → r ≡ q
-
-abbrev pub ServeStoreOnce : Type 0
-ServeStoreOnce =
-    (store : List ℕ) (request : ZclHeader) (body : List ℕ) (unicast : Bool) (reply : List ℕ) (r q : Answer) (x y s u : List ℕ)
-    → seen r x s ≡ storeTyped 8 store unicast request body (length reply) (frameTypeOf (request .«frame_control» .0))
-    → seen q y u ≡ storeTyped 8 store unicast request body (length reply) (frameTypeOf (request .«frame_control» .0))
-    → (r ≡ q) × ((x ≡ y) × (s ≡ u))

@@ -5,11 +5,12 @@ ghost use Rattle.frame.specs.Answer.{seen, noState};
 ghost use Rattle.server.specs.DefaultResponse.{silences, defaultResponse};
 use frame::answer::Answer;
 use frame::answer::Refusal;
+use frame::answer::refuse;
 use frame::command_identifier::CommandIdentifier;
 use frame::header::FrameControl;
 use frame::header::ZclHeader;
+use frame::header::begin_reply;
 use frame::reply::Put;
-use frame::reply::clear;
 use frame::reply::put_run;
 use frame::status::Status;
 
@@ -29,23 +30,20 @@ pub fn default_response(
 ) -> Answer
     ensures { λ r. ⌜ seen r (now (reply .exit)) noState ≡ defaultResponse request unicast status (length (now (reply .entry))) ⌝ }
 {
-    clear(reply);
     if !unicast {
-        return Answer::Refused(Refusal::NothingToSend);
+        return refuse(reply, Refusal::NothingToSend);
     }
     if is_silenced(request.frame_control, status) {
-        return Answer::Refused(Refusal::NothingToSend);
+        return refuse(reply, Refusal::NothingToSend);
     }
+    let begun = begin_reply(reply, request, CommandIdentifier::DefaultResponse);
+    let Put::At(from) = begun else {
+        return refuse(reply, Refusal::ReplyTooLong);
+    };
     let of = request.command_identifier;
-    let five = [
-        0x18,
-        request.sequence_number,
-        CommandIdentifier::DefaultResponse.raw(),
-        of.0,
-        status.to_u8(),
-    ];
-    let Put::At(n) = put_run(reply, 0, &five) else {
-        return Answer::Refused(Refusal::ReplyTooLong);
+    let two = [of.0, status.to_u8()];
+    let Put::At(n) = put_run(reply, from, &two) else {
+        return refuse(reply, Refusal::ReplyTooLong);
     };
     Answer::Reply(n)
 }

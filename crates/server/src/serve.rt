@@ -1,26 +1,43 @@
-// A request dispatched: the checks, then the frame, with the table where its command needs it.
+// A request dispatched: the checks, then the frame by its type, and a global command by its number. All of it works on the bytes that carry the
+// reporting table; a table by value is laid out as such bytes first.
 ghost use mathlib.Core.Path.{_≡_};
+ghost use mathlib.Core.Bool.{true, cond};
 ghost use lib.ListN.{length};
+ghost use Rattle.frame.specs.declared.answer.Refusal.the-variants.{NotAStore, NotATable};
 ghost use Rattle.frame.specs.Answer.{seen};
 ghost use Rattle.frame.specs.Header.{frameTypeOf};
 ghost use Rattle.frame.specs.CommandIdentifier.{commandOf};
-ghost use Rattle.reporting.specs.Table.{room, tableOf};
+ghost use Rattle.store.specs.Layout.{isStore};
+ghost use Rattle.reporting.specs.Table.{room, tableOf, holding};
+ghost use Rattle.reporting.specs.Carried.{isTable, tableIn};
+ghost use Rattle.reporting.specs.Lent.{quietedT};
 ghost use Rattle.server.specs.Serve.{state, commanded, typed, serve};
-ghost use Rattle.server.specs.Parts.{isSound};
-use super::checks::Opened;
-use super::checks::open_request;
-use super::without_table::serve_store;
-use super::without_table::store_command;
+ghost use Rattle.server.specs.Lent.{lent, serveLent};
+use super::default_response::default_response;
 use configure::configuration::read_reporting_configuration;
 use configure::configure::configure_reporting;
+use discover::attributes::discover_attributes;
 use frame::answer::Answer;
+use frame::answer::Refusal;
 use frame::answer::refuse;
 use frame::command_identifier::CommandIdentifier;
 use frame::header::FrameType;
+use frame::header::HeaderRead;
 use frame::header::ZclHeader;
-use reporting::table::Length;
+use frame::header::read_header;
+use frame::status::Status;
+use read::attributes::read_attributes;
+use reporting::carried::TABLE_BYTES;
+use reporting::carried::is_table;
+use reporting::carried::read_table;
+use reporting::carried::write_table;
 use reporting::table::ReportingTable;
+use store::layout::is_store;
+use store::lookup::cluster_of;
 use types::ids::ClusterId;
+use write::attributes::write_attributes;
+use write::attributes::write_attributes_no_response;
+use write::attributes::write_attributes_undivided;
 
 // An answer, and the table as it is afterwards.
 pub struct Served {
@@ -28,73 +45,121 @@ pub struct Served {
     pub answer: Answer,
 }
 
-// A global command: one of the two that need the table, or as without one.
+// A global command: one of the seven, or UNSUP_COMMAND.
 fn global_command(
     store: &mut [u8],
-    table: ReportingTable,
+    table: &mut [u8],
     request: ZclHeader,
     body: &[u8],
     unicast: bool,
     reply: &mut [u8],
-) -> Served
-    ensures { λ r. ⌜ seen (r .answer) (now (reply .exit)) (state (now (store .exit)) (tableOf (r .table))) ≡ commanded 8 room (now (store .entry)) (tableOf table) unicast request (now (body .entry)) (length (now (reply .entry))) (commandOf (request .«command_identifier» .0)) ⌝ }
+) -> Answer
+    requires { ⌜ isTable room (now table) ≡ true ⌝ }
+    ensures { λ _. ⌜ isTable room (now (table .exit)) ≡ true ⌝ }
+    ensures { λ r. ⌜ seen r (now (reply .exit)) (state (now (store .exit)) (holding (tableIn (now (table .exit))))) ≡ commanded 8 room (now (store .entry)) (holding (tableIn (now (table .entry)))) unicast request (now (body .entry)) (length (now (reply .entry))) (commandOf (request .«command_identifier» .0)) ⌝ }
 {
     let number = request.command_identifier;
     let command = CommandIdentifier::from_bits(number.0);
     match command {
-        CommandIdentifier::ConfigureReporting => {
-            let configured = configure_reporting(store, table, request, body, reply);
-            let answer = configured.answer;
-            let after = configured.table;
-            Served {
-                answer,
-                table: after,
-            }
+        CommandIdentifier::ReadAttributes => read_attributes(store, request, body, reply),
+        CommandIdentifier::WriteAttributes => write_attributes(store, request, body, reply),
+        CommandIdentifier::WriteAttributesUndivided => {
+            write_attributes_undivided(store, request, body, reply)
         }
-        CommandIdentifier::ReadReportingConfiguration => Served {
-            answer: read_reporting_configuration(store, table, request, body, reply),
-            table,
-        },
-        _ => Served {
-            answer: store_command(store, request, body, unicast, reply),
-            table,
-        },
+        CommandIdentifier::WriteAttributesNoResponse => {
+            write_attributes_no_response(store, request, body, reply)
+        }
+        CommandIdentifier::ConfigureReporting => {
+            configure_reporting(store, table, request, body, reply)
+        }
+        CommandIdentifier::ReadReportingConfiguration => {
+            read_reporting_configuration(store, table, request, body, reply)
+        }
+        CommandIdentifier::DiscoverAttributes => discover_attributes(store, request, body, reply),
+        _ => default_response(request, unicast, Status::UnsupCommand, reply),
     }
 }
 
-// A frame that passed the checks, by its type: only a global command may need the table.
+// By the frame's type: no cluster command is known. The global one is told first: of a match with three arms the compiler makes a slower test.
 fn serve_frame(
     store: &mut [u8],
-    table: ReportingTable,
+    table: &mut [u8],
     request: ZclHeader,
     body: &[u8],
     unicast: bool,
     reply: &mut [u8],
-) -> Served
-    ensures { λ r. ⌜ seen (r .answer) (now (reply .exit)) (state (now (store .exit)) (tableOf (r .table))) ≡ typed 8 room (now (store .entry)) (tableOf table) unicast request (now (body .entry)) (length (now (reply .entry))) (frameTypeOf (request .«frame_control» .0)) ⌝ }
+) -> Answer
+    requires { ⌜ isTable room (now table) ≡ true ⌝ }
+    ensures { λ _. ⌜ isTable room (now (table .exit)) ≡ true ⌝ }
+    ensures { λ r. ⌜ seen r (now (reply .exit)) (state (now (store .exit)) (holding (tableIn (now (table .exit))))) ≡ typed 8 room (now (store .entry)) (holding (tableIn (now (table .entry)))) unicast request (now (body .entry)) (length (now (reply .entry))) (frameTypeOf (request .«frame_control» .0)) ⌝ }
 {
     let kind = request.frame_control.frame_type();
     let FrameType::GlobalCommand = kind else {
-        return Served {
-            answer: serve_store(store, request, body, unicast, reply),
-            table,
+        let FrameType::ClusterCommand = kind else {
+            return refuse(reply, Refusal::ReservedFrameType);
         };
+        return default_response(request, unicast, Status::UnsupCommand, reply);
     };
     global_command(store, table, request, body, unicast, reply)
 }
 
-// Whether a value is a table.
-fn is_sound(table: ReportingTable) -> bool
-    ensures { λ r. ⌜ r ≡ isSound (tableOf table) ⌝ }
+// A request over bytes that are a table: 7, 1, 2, and then the frame.
+fn serve_table(
+    store: &mut [u8],
+    table: &mut [u8],
+    cluster: ClusterId,
+    unicast: bool,
+    request: &[u8],
+    reply: &mut [u8],
+) -> Answer
+    requires { ⌜ isTable room (now table) ≡ true ⌝ }
+    ensures { λ _. ⌜ isTable room (now (table .exit)) ≡ true ⌝ }
+    ensures { λ r. ⌜ seen r (now (reply .exit)) (state (now (store .exit)) (holding (tableIn (now (table .exit))))) ≡ serve 8 room (now (store .entry)) (holding (tableIn (now (table .entry)))) (cluster .0) unicast (now (request .entry)) (length (now (reply .entry))) ⌝ }
 {
-    let entries = table.len();
-    match entries {
-        Length::Entries(_) => true,
-        Length::Refused(_) => false,
+    if !is_store(store) {
+        return refuse(reply, Refusal::NotAStore);
     }
+    let own = cluster_of(store);
+    if own.0 != cluster.0 {
+        return refuse(reply, Refusal::OtherCluster);
+    }
+    let HeaderRead::Header(h) = read_header(request) else {
+        return refuse(reply, Refusal::HeaderShort);
+    };
+    let start = h.body;
+    serve_frame(store, table, h, &request[start..], unicast, reply)
 }
 
-// Serves a request.
+// What a request without a table is refused by: 8, but 7 comes first.
+fn no_table(store: &[u8]) -> Refusal
+    ensures { λ r. ⌜ r ≡ cond (isStore 8 (now (store .entry))) NotATable NotAStore ⌝ }
+{
+    if is_store(store) {
+        return Refusal::NotATable;
+    }
+    Refusal::NotAStore
+}
+
+// Serves a request over a table that is lent as bytes. They are checked once; then Configure Reporting and Read Reporting Configuration work on
+// them where they lie, and no other command touches them.
+pub fn handle_request_lent(
+    store: &mut [u8],
+    table: &mut [u8],
+    cluster: ClusterId,
+    unicast: bool,
+    request: &[u8],
+    reply: &mut [u8],
+) -> Answer
+    ensures { λ r. ⌜ seen r (now (reply .exit)) (lent (now (store .exit)) (now (table .exit))) ≡ serveLent (now (store .entry)) (now (table .entry)) (cluster .0) unicast (now (request .entry)) (length (now (reply .entry))) ⌝ }
+{
+    if !is_table(table) {
+        return refuse(reply, no_table(store));
+    }
+    serve_table(store, table, cluster, unicast, request, reply)
+}
+
+// Serves a request over a table by value, and hands the table back: it is laid out as bytes, served there, and read back. One with a count above
+// the limit comes back as it was.
 pub fn handle_request(
     store: &mut [u8],
     table: ReportingTable,
@@ -103,17 +168,21 @@ pub fn handle_request(
     request: &[u8],
     reply: &mut [u8],
 ) -> Served
-    ensures { λ r. ⌜ seen (r .answer) (now (reply .exit)) (state (now (store .exit)) (tableOf (r .table))) ≡ serve 8 room (now (store .entry)) (tableOf table) (cluster .0) unicast (now (request .entry)) (length (now (reply .entry))) ⌝ }
+    ensures { λ r. ⌜ seen (r .answer) (now (reply .exit)) (state (now (store .exit)) (tableOf (r .table))) ≡ serve 8 room (now (store .entry)) (quietedT (tableOf table)) (cluster .0) unicast (now (request .entry)) (length (now (reply .entry))) ⌝ }
 {
-    let opened = open_request(store, is_sound(table), cluster, request);
-    match opened {
-        Opened::Refused(why) => Served {
-            answer: refuse(reply, why),
+    let mut bytes = [0; TABLE_BYTES];
+    if !write_table(&mut bytes, table) {
+        let refused = refuse(reply, no_table(store));
+        return Served {
+            answer: refused,
             table,
-        },
-        Opened::Frame(h) => {
-            let start = h.body;
-            serve_frame(store, table, h, &request[start..], unicast, reply)
-        }
+        };
+    }
+    let answer = serve_table(store, &mut bytes, cluster, unicast, request, reply);
+    let back = read_table(&bytes);
+    let after = back.table;
+    Served {
+        answer,
+        table: after,
     }
 }

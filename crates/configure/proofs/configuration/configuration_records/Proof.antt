@@ -8,8 +8,7 @@ use denote.Ref.{now}
 use Rattle.frame.specs.Reply.{Shows}
 use Rattle.frame.specs.Walk.{item}
 use Rattle.frame.proofs.Shortened.{Going, going-first, going-more, going-stop, going-cut, going-done}
-use Rattle.reporting.specs.declared.entry.Entry.{Entry}
-use Rattle.reporting.specs.Table.{sound, tableOf}
+use Rattle.reporting.specs.Carried.{tableIn}
 use Rattle.configure.specs.Request.{asked, askedAt}
 use Rattle.configure.specs.Configuration.{encode, recordFor}
 use Rattle.configure.specs.Inside.{askedItem}
@@ -20,18 +19,18 @@ use Rattle.configure.proofs.configuration.configuration_records.Tie as 
 
 abbrev Inv-loop : tie.InvT-loop
 Inv-loop store table request body reply₀ from at₀ out₀ reply at out =
-    (length reply ≡ length reply₀) × ((n : ℕ) (l : List Entry) → tableOf table ≡ sound n l → (head : List ℕ) → Shows reply₀ from head
-    → Going encode (λ fit. recordFor 8 store l request) (askedAt body) (length body) (length reply₀) head reply at out)
+    (length reply ≡ length reply₀) × ((head : List ℕ) → Shows reply₀ from head
+    → Going encode (λ fit. recordFor 8 store (tableIn table) request) (askedAt body) (length body) (length reply₀) head reply at out)
 
 abbrev μ-loop : tie.MeasureT-loop
 μ-loop store table request body reply₀ from at₀ out₀ reply at out = length body - at
 
 -- what was read is what is asked there
-read-asked : (c : tie.After-direction Inv-loop μ-loop) → item (asked (c .direction .given .0 .0) (c .direction .given .0 .1 .0 .0)) (c .direction .given .0 .1 .1 .0) ≡ askedAt (now (c .before .before .before .before .before .before .before .before .args .body)) (c .before .before .before .before .loop .at)
+read-asked : (c : tie.After-direction Inv-loop μ-loop) → item (asked (c .direction .given .0 .0) (c .direction .given .0 .1 .0 .0)) (c .direction .given .0 .1 .1 .0) ≡ askedAt (now (c .before .before .before .before .before .before .before .before .before .args .body)) (c .before .before .before .before .loop .at)
 read-asked c = ap askedItem (sym (c .direction .given .1)) ∙ c .before .before .next-asked .ensures
 
 loop-holds : tie.Need-loop-holds Inv-loop μ-loop
-loop-holds c = (refl, λ n l e head w. going-first _ _ _ _ _ _ _ _ w)
+loop-holds c = (refl, λ head w. going-first _ _ _ _ _ _ _ _ w)
 
 next-asked-requires : tie.Need-next-asked-requires Inv-loop μ-loop
 next-asked-requires c κs = search needs
@@ -50,10 +49,10 @@ same-length c = c .before .before .refuse .kept .0 ∙ c .before .before .before
 
 returns : tie.Need-returns Inv-loop μ-loop
 returns c =
-    λ n l e head w. c .before .before .refuse .ensures ∙ going-cut _ _ _ _ _ _ _ _ _ (c .before .before .before .before .before .before .before .before .loop .inv .1 n l e head w) (c .before .before .before .before .before .before .before .before .loop .inv .0) (c .before .before .before .before .before .before .before .loop-test .taken) (ap askedItem (sym (c .before .before .before .before .enum-told .given .1)) ∙ c .before .before .before .before .before .before .next-asked .ensures)
+    λ head w. c .before .before .refuse .ensures ∙ going-cut _ _ _ _ _ _ _ _ _ (c .before .before .before .before .before .before .before .before .loop .inv .1 head w) (c .before .before .before .before .before .before .before .before .loop .inv .0) (c .before .before .before .before .before .before .before .loop-test .taken) (ap askedItem (sym (c .before .before .before .before .enum-told .given .1)) ∙ c .before .before .before .before .before .before .next-asked .ensures)
 
 configuration-turn-requires : tie.Need-configuration-turn-requires Inv-loop μ-loop
-configuration-turn-requires c κs = search needs
+configuration-turn-requires c κs = c .before .before .before .before .before .before .before .before .before .before .before .pre
 
 enum-known-put : tie.Need-enum-known-put Inv-loop μ-loop
 enum-known-put c = search needs
@@ -66,25 +65,24 @@ same-length-2 c = c .before .before .before .before .configuration-turn .kept .1
 
 returns-2 : tie.Need-returns-2 Inv-loop μ-loop
 returns-2 c =
-    λ n l e head w. going-stop _ _ _ _ _ _ _ _ _ (c .before .before .before .before .before .before .before .before .before .before .before .loop .inv .1 n l e head w) (c .before .before .before .before .before .before .before .before .before .before .before .loop .inv .0) (asked-ahead _) (c .before .before .before .before .before .before .before .before .before .before .loop-test .taken) _ _ (read-asked (c .before .before .before .before .before .before .before)) _ _ (c .before .before .before .before .configuration-turn .ensures n l e) (c .enum-told2 .given .1)
+    λ head w. going-stop _ _ _ _ _ _ _ _ _ (c .before .before .before .before .before .before .before .before .before .before .before .loop .inv .1 head w) (c .before .before .before .before .before .before .before .before .before .before .before .loop .inv .0) (asked-ahead _) (c .before .before .before .before .before .before .before .before .before .before .loop-test .taken) _ _ (read-asked (c .before .before .before .before .before .before .before)) _ _ (c .before .before .before .before .configuration-turn .ensures) (c .enum-told2 .given .1)
 
 loop-less : tie.Need-loop-less Inv-loop μ-loop
 loop-less c =
-    let h = asked-ahead (now (c .before .before .before .before .before .before .before .before .before .before .before .before .before .before .before .before .args .body)) (c .before .before .before .before .before .before .before .before .before .before .before .before .loop .at) _ (c .before .before .before .before .before .before .before .before .direction .given .0 .1 .1 .0) (sym (read-asked (c .before .before .before .before .before .before .before .before))) in
+    let h = asked-ahead (now (c .before .before .before .before .before .before .before .before .before .before .before .before .before .before .before .before .before .args .body)) (c .before .before .before .before .before .before .before .before .before .before .before .before .loop .at) _ (c .before .before .before .before .before .before .before .before .direction .given .0 .1 .1 .0) (sym (read-asked (c .before .before .before .before .before .before .before .before))) in
     omega (arith, c .before .before .before .before .before .before .before .before .before .before .before .loop-test .taken, h)
 
 loop-again : tie.Need-loop-again Inv-loop μ-loop
 loop-again c = (
   c .before .before .before .before .before .configuration-turn .kept .1 .1 .1 .1 .1 .0 ∙ c .before .before .before .before .before .before .before .before .before .before .before .before .loop .inv .0,
-  λ n l e head w. going-more _ _ _ _ _ _ _ _ _ (c .before .before .before .before .before .before .before .before .before .before .before .before .loop .inv .1 n l e head w) (c .before .before .before .before .before .before .before .before .before .before .before .before .loop .inv .0) (asked-ahead _) (c .before .before .before .before .before .before .before .before .before .before .before .loop-test .taken) _ _ (read-asked (c .before .before .before .before .before .before .before .before)) _ _ (c .before .before .before .before .before .configuration-turn .ensures n l e) _ (c .before .put .given .1),
+  λ head w. going-more _ _ _ _ _ _ _ _ _ (c .before .before .before .before .before .before .before .before .before .before .before .before .loop .inv .1 head w) (c .before .before .before .before .before .before .before .before .before .before .before .before .loop .inv .0) (asked-ahead _) (c .before .before .before .before .before .before .before .before .before .before .before .loop-test .taken) _ _ (read-asked (c .before .before .before .before .before .before .before .before)) _ _ (c .before .before .before .before .before .configuration-turn .ensures) _ (c .before .put .given .1),
 )
 
 same-length-3 : tie.Need-same-length-3 Inv-loop μ-loop
 same-length-3 c = c .before .loop .inv .0
 
 returns-3 : tie.Need-returns-3 Inv-loop μ-loop
-returns-3 c =
-    λ n l e head w. going-done _ _ _ _ _ _ _ _ _ (c .before .loop .inv .1 n l e head w) (c .before .loop .inv .0) (c .loop-test .left)
+returns-3 c = λ head w. going-done _ _ _ _ _ _ _ _ _ (c .before .loop .inv .1 head w) (c .before .loop .inv .0) (c .loop-test .left)
 
 pub configuration-records-spec : {M : Type 1} → statement M
 configuration-records-spec =

@@ -17,7 +17,7 @@ same-length c = search needs
 returns : tie.Need-returns
 returns c =
     let n = c .before .before .before .before .new in
-    new-written (n .result) (n .ensures) _ (now (c .before .before .before .before .before .before .before .args .table)) _ (c .before .before .before .write-table .ensures) (c .if1 .taken)
+    new-written (n .result) (n .ensures) _ (now (c .before .before .before .before .before .before .before .args .table)) _ (c .before .before .before .write-table .ensures .0) (c .if1 .taken)
 
 number-requires : tie.Need-number-requires
 number-requires c κs = search needs
@@ -28,7 +28,7 @@ same-length-2 c = search needs
 returns-2 : tie.Need-returns-2
 returns-2 c =
     let n = c .before .before .before .before .before .new in
-    new-refused (n .result) (n .ensures) _ (now (c .before .before .before .before .before .before .before .before .args .table)) _ (c .before .before .before .before .write-table .ensures) (c .number .result) (c .number .ensures) (c .before .if1 .left)
+    new-refused (n .result) (n .ensures) _ (now (c .before .before .before .before .before .before .before .before .args .table)) _ (c .before .before .before .before .write-table .ensures .0) (c .number .result) (c .number .ensures) (c .before .if1 .left)
 
 pub hd-table-new-spec : {M : Type 1} → statement M
 hd-table-new-spec =

@@ -11,7 +11,7 @@ use Rattle.replay.proofs.methods.lay.Statement.{statement}
 use Rattle.replay.proofs.methods.lay.Tie as tie
 
 small : (c : tie.After-struct-known) → c .before .before .before .before .before .before .before .args .table .count ≤ 16
-small c = laid-small (c .before .before .before .before .before .before .before .args .table) (now (c .before .before .before .before .before .before .before .args .bytes)) _ _ (c .before .before .before .before .before .before .before .pre) (c .before .before .before .before .write-table .ensures) (c .before .if1 .taken)
+small c = laid-small (c .before .before .before .before .before .before .before .args .table) (now (c .before .before .before .before .before .before .before .args .bytes)) _ _ (c .before .before .before .before .before .before .before .pre) (c .before .before .before .before .write-table .ensures .0) (c .before .if1 .taken)
 
 write-table-requires : tie.Need-write-table-requires
 write-table-requires c κs = search needs
@@ -28,14 +28,14 @@ same-length c = search needs
 returns : tie.Need-returns
 returns c =
     let n : length (c .before .before .before .before .before .before .before .args .table .entries) ≡ 16 = search (length-mapped, needs) in
-    laid-says (c .before .before .before .before .before .before .before .args .table) (now (c .before .before .before .before .before .before .before .args .bytes)) _ _ (c .before .before .before .before .before .before .before .pre) (c .before .before .before .before .write-table .ensures) (c .before .if1 .taken) n
+    laid-says (c .before .before .before .before .before .before .before .args .table) (now (c .before .before .before .before .before .before .before .args .bytes)) _ _ (c .before .before .before .before .before .before .before .pre) (c .before .before .before .before .write-table .ensures .0) (c .before .if1 .taken) n
 
 same-length-2 : tie.Need-same-length-2
 same-length-2 c = search needs
 
 returns-2 : tie.Need-returns-2
 returns-2 c =
-    laid-none (c .before .before .before .before .before .before .args .table) (now (c .before .before .before .before .before .before .args .bytes)) _ _ (c .before .before .before .before .before .before .pre) (c .before .before .before .write-table .ensures) (c .if1 .left)
+    laid-none (c .before .before .before .before .before .before .args .table) (now (c .before .before .before .before .before .before .args .bytes)) _ _ (c .before .before .before .before .before .before .pre) (c .before .before .before .write-table .ensures .0) (c .if1 .left)
 
 pub lay-spec : {M : Type 1} → statement M
 lay-spec =

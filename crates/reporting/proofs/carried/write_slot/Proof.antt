@@ -11,7 +11,7 @@ use lib.ListN.{length, set, length-set}
 use lib.Seq.{sets}
 use denote.Ref.{now}
 use Rattle.reporting.specs.Carried.{widths, laid, told, numbersOf}
-use Rattle.reporting.proofs.CarriageEntry.{told-below}
+use Rattle.reporting.proofs.CarriageEntry.{told-below, quieted-clean}
 use Rattle.reporting.proofs.CarriageCode.{slot-puts}
 use Rattle.reporting.proofs.carried.write_slot.Statement.{statement}
 use Rattle.reporting.proofs.carried.write_slot.Tie as tie
@@ -119,12 +119,14 @@ returns c =
     let w₅ = c .before .before .before .before .before .before .before .before .before .before .before .before .before .before .before .put-u64-in in
     let w₇ = c .before .before .before .before .before .before .before .before .put-u32-in in
     let w₈ = c .before .before .put-u64-in2 in
-    let flagged = set (w₅ .last .0) (s .args .at + 16) in
-    slot-puts (s .args .at) (k .cluster .0) (k .attribute .0) (g .«min_interval») (g .«max_interval») (g .«reportable_change») (f .result) (t .result) (v .result)
-    (now (s .args .bytes)) (w₁ .last .0) (w₂ .last .0) (w₃ .last .0) (w₄ .last .0) (w₅ .last .0) (flagged (f .result)) (w₇ .last .0) (w₈ .last .0)
-    (w₁ .ensures) (w₂ .ensures) (w₃ .ensures) (w₄ .ensures) (w₅ .ensures) (ap flagged (sym (mod-eq-of-lt (flag-below (c .before .before .before .before .before .before .before .before .before .before .before .before))))) (w₇ .ensures) (w₈ .ensures)
-    ∙ ap (λ (ns : List ℕ). sets (now (s .args .bytes)) (s .args .at) (laid widths ns))
-    (λ i. k .cluster .0 ∷ k .attribute .0 ∷ g .«min_interval» ∷ g .«max_interval» ∷ g .«reportable_change» ∷ f .ensures i ∷ t .ensures i ∷ (v .ensures ∙ ap (told (s .args .e .marked)) b) i ∷ [])
+    let flagged = set (w₅ .last .0) (s .args .at + 16) in (
+      slot-puts (s .args .at) (k .cluster .0) (k .attribute .0) (g .«min_interval») (g .«max_interval») (g .«reportable_change») (f .result) (t .result) (v .result)
+          (now (s .args .bytes)) (w₁ .last .0) (w₂ .last .0) (w₃ .last .0) (w₄ .last .0) (w₅ .last .0) (flagged (f .result)) (w₇ .last .0) (w₈ .last .0)
+          (w₁ .ensures) (w₂ .ensures) (w₃ .ensures) (w₄ .ensures) (w₅ .ensures) (ap flagged (sym (mod-eq-of-lt (flag-below (c .before .before .before .before .before .before .before .before .before .before .before .before))))) (w₇ .ensures) (w₈ .ensures)
+          ∙ ap (λ (ns : List ℕ). sets (now (s .args .bytes)) (s .args .at) (laid widths ns))
+          (λ i. k .cluster .0 ∷ k .attribute .0 ∷ g .«min_interval» ∷ g .«max_interval» ∷ g .«reportable_change» ∷ f .ensures i ∷ t .ensures i ∷ (v .ensures ∙ ap (told (s .args .e .marked)) b) i ∷ []),
+      quieted-clean (s .args .e) (omega (arith, s .good)) (omega (arith, s .good)) (omega (arith, s .good)) (omega (arith, s .good)) (omega (arith, s .good)) (omega (arith, s .good)) (c .before .before .before .before .before .before .before .before .before .before .before .before .before .before .before .before .before .before .before .before .before .before .before .before .before .before .before .before .before .before .before .before .before .struct-told .given .1 .1 .1 .1 .0 .1),
+    )
 
 pub write-slot-spec : {M : Type 1} → statement M
 write-slot-spec =

@@ -1,25 +1,30 @@
 -- After i turns the bytes are the count, the first i slots, and zeros. Assumes nothing.
 use borrow.Author.Needs.{needs}
 use native.Mathlib.Omega.{arith}
-use Prim.Native.Nat.{_-_, _≤_}
-use mathlib.Core.Path.{_≡_, sym, _∙_}
-use lib.ListN.{length}
+use Prim.Native.Nat.{ℕ, _-_, _≤_, _<_}
+use mathlib.Core.Path.{_≡_, sym, ap, subst, _∙_}
+use mathlib.Core.Bool.{false≢true}
+use mathlib.Core.List.{map}
+use lib.ListN.{length, take}
+use lib.Seq.{length-take-le}
 use denote.Ref.{now}
-use Rattle.reporting.proofs.CarriageLoops.{length-mapped, filled, cleared-length, filled-start, filled-turn, filled-all, write-sized, write-counted, write-done}
+use Rattle.reporting.specs.Carried.{AllClean, quieted, readT}
+use Rattle.reporting.proofs.CarriageTable.{quieted-read}
+use Rattle.reporting.proofs.CarriageLoops.{length-mapped, filled, cleared-length, filled-start, filled-turn, clean-turn, filled-all, write-sized, write-counted, write-done}
 use Rattle.reporting.proofs.carried.write_table.Statement.{statement}
 use Rattle.reporting.proofs.carried.write_table.Tie as tie
 
 abbrev Inv-loop : tie.InvT-loop
-Inv-loop bytes₀ table count i₀ bytes i = (i ≤ count) × ((length bytes ≡ 465) × (bytes ≡ filled 465 count (table .entries) i))
+Inv-loop bytes₀ table count i₀ bytes i = (i ≤ count) × ((length bytes ≡ 465) × ((bytes ≡ filled 465 count (table .entries) i) × AllClean (map quieted (take i (table .entries)))))
 
 abbrev μ-loop : tie.MeasureT-loop
 μ-loop bytes₀ table count i₀ bytes i = count - i
 
 returns : tie.Need-returns Inv-loop μ-loop
-returns c = write-sized (c .before .before .args .t2) (now (c .before .before .args .bytes)) (c .if1 .taken)
+returns c = (write-sized (c .before .before .args .t2) (now (c .before .before .args .bytes)) (c .if1 .taken), λ q. absurd (false≢true q))
 
 returns-2 : tie.Need-returns-2 Inv-loop μ-loop
-returns-2 c = write-counted (c .before .before .before .args .t2) (now (c .before .before .before .args .bytes)) (c .before .if1 .left) (c .if2 .taken)
+returns-2 c = (write-counted (c .before .before .before .args .t2) (now (c .before .before .before .args .bytes)) (c .before .if1 .left) (c .if2 .taken), λ q. absurd (false≢true q))
 
 clear-requires : tie.Need-clear-requires Inv-loop μ-loop
 clear-requires c κs = search needs
@@ -36,7 +41,8 @@ loop-holds : tie.Need-loop-holds Inv-loop μ-loop
 loop-holds c =
     let a = c .before .before .before .before .before .before .before .args in
     let k = c .before .before .clear in
-    (omega arith, filled-start (a .t2 .count) (a .t2 .entries) (now (a .bytes)) (k .last .0) (c .before .before .before .before .before .if1 .left) (k .ensures))
+    let f = filled-start (a .t2 .count) (a .t2 .entries) (now (a .bytes)) (k .last .0) (c .before .before .before .before .before .if1 .left) (k .ensures) in
+    (omega arith, (f .0, (f .1, tt)))
 
 mul-e : tie.Need-mul-e Inv-loop μ-loop
 mul-e c = search needs
@@ -66,7 +72,9 @@ loop-again c =
     let l = c .before .before .before .before .before .before .loop in
     let h = c .before .before .before .before .before .loop-test .taken in
     let w = c .before .before .write-slot in
-    (omega arith, filled-turn (t .count) (t .entries) (l .i) _ (l .bytes) (w .last .0) n (omega (arith, c .before .before .before .before .before .before .before .before .before .before .before .if2 .left)) (l .inv .1 .0) (l .inv .1 .1) (w .ensures))
+    let below : l .i < 16 = omega (arith, c .before .before .before .before .before .before .before .before .before .before .before .if2 .left) in
+    let f = filled-turn (t .count) (t .entries) (l .i) _ (l .bytes) (w .last .0) n below (l .inv .1 .0) (l .inv .1 .1 .0) (w .ensures .0) in
+    (omega arith, (f .0, (f .1, clean-turn (t .entries) (l .i) _ (omega arith) (l .inv .1 .1 .1) (w .ensures .1))))
 
 same-length : tie.Need-same-length Inv-loop μ-loop
 same-length c = c .before .loop .inv .1 .0 ∙ sym (c .before .before .before .before .before .before .before .if1 .left)
@@ -76,7 +84,12 @@ returns-3 c =
     let l = c .before .loop in
     let t = c .before .before .before .before .before .before .before .before .before .args .t2 in
     let n : length (c .before .before .before .before .before .before .before .before .before .args .t2 .entries) ≡ 16 = search (length-mapped, needs) in
-    write-done t (now (c .before .before .before .before .before .before .before .before .before .args .bytes)) (c .before .before .before .before .before .before .before .if1 .left) (l .bytes) (c .before .before .before .before .before .before .if2 .left) (l .inv .1 .1 ∙ filled-all t (l .i) n (c .before .before .before .before .before .before .if2 .left) (l .inv .0) (c .loop-test .left))
+    let small = c .before .before .before .before .before .before .if2 .left in
+    let e = l .inv .1 .1 .0 ∙ filled-all t (l .i) n small (l .inv .0) (c .loop-test .left) in
+    let i : l .i ≡ t .count = omega (arith, l .inv .0, c .loop-test .left) in (
+      write-done t (now (c .before .before .before .before .before .before .before .before .before .args .bytes)) (c .before .before .before .before .before .before .before .if1 .left) (l .bytes) small e,
+      λ q. ap (readT 16) e ∙ quieted-read 16 (take (t .count) (t .entries)) (omega (arith, length-take-le (t .count) (t .entries) (omega arith))) (subst (λ (k : ℕ). AllClean (map quieted (take k (t .entries)))) i (l .inv .1 .1 .1)),
+    )
 
 pub write-table-spec : {M : Type 1} → statement M
 write-table-spec =

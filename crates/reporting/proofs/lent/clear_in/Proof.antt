@@ -84,7 +84,7 @@ returns-2 c =
     let bs = now (c .before .before .before .before .before .before .before .before .before .before .before .before .before .before .before .args .bytes) in
     clear-seen bs (all-bytes (c .before .before .before .before .before .before .before .before .before .before .before .before .before .before)) (c .before .before .before .before .before .before .before .before .before .before .before .before .before .before .before .pre) (c .before .before .before .before .before .before .before .before .before .before .before .before .before .before .before .args .key) _
     (clear-moved (found (c .before .before .before .before .before .before .before .before .before .before .before)) (all-bytes (c .before .before .before .before .before .before .before .before .before .before .before .before .before .before)) (getD bs 0 0 - 1) (c .before .before .before .before .before .before .before .before .read-slot .result) (c .before .before .before .before .before .before .write-slot .last .0) (c .before .before .blank-slot .last .0)
-    (c .before .before .before .before .before .before .before .before .before .before .if1 .left) (omega (arith, c .before .before .before .before .before .before .before .before .before .before .if1 .left)) (c .before .before .before .before .before .before .before .before .read-slot .ensures) (c .before .before .before .before .before .before .write-slot .ensures) (c .before .before .blank-slot .ensures))
+    (c .before .before .before .before .before .before .before .before .before .before .if1 .left) (omega (arith, c .before .before .before .before .before .before .before .before .before .before .if1 .left)) (c .before .before .before .before .before .before .before .before .read-slot .ensures) (c .before .before .before .before .before .before .write-slot .ensures .0) (c .before .before .blank-slot .ensures))
 
 pub clear-in-spec : {M : Type 1} → statement M
 clear-in-spec =

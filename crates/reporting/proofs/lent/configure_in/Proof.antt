@@ -70,7 +70,7 @@ same-length-2 c = length-set (c .before .before .before .write-slot .last .0) 0 
 returns-2 : tie.Need-returns-2
 returns-2 c =
     configure-seen (now (c .before .before .before .before .before .before .before .before .before .before .before .args .bytes)) (all-bytes (c .before .before .before .before .before .before .before .before .before .before)) (c .before .before .before .before .before .before .before .before .before .before .before .pre) (c .before .before .before .before .before .before .before .before .before .before .before .args .key) (c .before .before .before .before .before .before .before .before .before .before .before .args .config) ChangeV.Done _ (clean (c .before .before .before .before .before .before .before .before .before .before .before))
-    (configure-new (found (c .before .before .before .before .before .before .before)) (all-bytes (c .before .before .before .before .before .before .before .before .before .before)) _ _ (c .before .before .before .before .fresh .result) (c .before .before .before .before .fresh .ensures) (c .if2 .taken) (c .before .before .before .before .before .before .if1 .left) (c .before .before .before .write-slot .ensures))
+    (configure-new (found (c .before .before .before .before .before .before .before)) (all-bytes (c .before .before .before .before .before .before .before .before .before .before)) _ _ (c .before .before .before .before .fresh .result) (c .before .before .before .before .fresh .ensures) (c .if2 .taken) (c .before .before .before .before .before .before .if1 .left) (c .before .before .before .write-slot .ensures .0))
 
 same-length-3 : tie.Need-same-length-3
 same-length-3 c = size-after (c .before .before .before)
@@ -78,7 +78,7 @@ same-length-3 c = size-after (c .before .before .before)
 returns-3 : tie.Need-returns-3
 returns-3 c =
     configure-seen (now (c .before .before .before .before .before .before .before .before .before .before .before .args .bytes)) (all-bytes (c .before .before .before .before .before .before .before .before .before .before)) (c .before .before .before .before .before .before .before .before .before .before .before .pre) (c .before .before .before .before .before .before .before .before .before .before .before .args .key) (c .before .before .before .before .before .before .before .before .before .before .before .args .config) ChangeV.Done _ (clean (c .before .before .before .before .before .before .before .before .before .before .before))
-    (configure-old (found (c .before .before .before .before .before .before .before)) (all-bytes (c .before .before .before .before .before .before .before .before .before .before)) _ _ (c .before .before .before .before .fresh .result) (c .before .before .before .before .fresh .ensures) (c .if2 .left) (c .before .before .before .write-slot .ensures))
+    (configure-old (found (c .before .before .before .before .before .before .before)) (all-bytes (c .before .before .before .before .before .before .before .before .before .before)) _ _ (c .before .before .before .before .fresh .result) (c .before .before .before .before .fresh .ensures) (c .if2 .left) (c .before .before .before .write-slot .ensures .0))
 
 pub configure-in-spec : {M : Type 1} → statement M
 configure-in-spec =

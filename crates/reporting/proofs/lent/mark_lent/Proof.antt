@@ -72,7 +72,7 @@ returns-3 c =
     let s = c .before .before .before .before .before .before .before .before .before .before .before .before .before .before .before in
     let m = c .before .before .before .before .mark in
     mark-is (found (c .before .before .before .before .before .before .before .before)) (all-bytes (c .before .before .before .before .before .before .before .before)) _ (m .result) (s .args .now) (s .args .value) _ (toZ-ofZ (s .fits .value))
-    (m .ensures ∙ ap (markE (s .args .now) _) (c .before .before .before .before .before .read-slot .ensures)) (c .before .before .before .before .before .before .before .if2 .left) (c .before .before .write-slot .ensures)
+    (m .ensures ∙ ap (markE (s .args .now) _) (c .before .before .before .before .before .read-slot .ensures)) (c .before .before .before .before .before .before .before .if2 .left) (c .before .before .write-slot .ensures .0)
 
 pub mark-lent-spec : {M : Type 1} → statement M
 mark-lent-spec =

@@ -1,0 +1,139 @@
+/* Time and stack of a request with the table lent as bytes and by value: compare/speed/forms makes the three functions and runs this. */
+#include <stdint.h>
+#include <stdio.h>
+#include <string.h>
+#include <time.h>
+#include <ucontext.h>
+
+uint8_t forms_lent(uint8_t *store, size_t store_len, uint8_t *table, size_t table_len, uint16_t cluster, const uint8_t *request, size_t request_len, uint8_t *reply, size_t reply_len);
+uint8_t forms_value(uint8_t *store, size_t store_len, uint8_t *table, size_t table_len, uint16_t cluster, const uint8_t *request, size_t request_len, uint8_t *reply, size_t reply_len);
+uint8_t forms_copy(uint8_t *table, size_t table_len);
+
+/* Document 01's store T, and a table of 16 entries: attribute 5 is the last. */
+static uint8_t store[] = {
+    0x21, 0xfc, 4, 0, 0, 0, 0x23, 2, 36, 0, 4, 0, 1, 0, 0x20, 1, 40, 0, 1, 0, 5, 0, 0x29, 3, 41, 0, 2, 0, 7, 0, 0x42, 1, 43, 0, 5, 0,
+    0, 0, 0, 0x80, 7, 0x38, 0xff, 2, 'T', 'V', 0, 0
+};
+static uint8_t table[465];
+static uint8_t reply[64];
+
+struct row {
+    const char *name;
+    size_t len;
+    uint8_t frame[16];
+};
+
+static const struct row rows[] = {
+    { "read 1", 5, { 0x00, 1, 0x00, 0, 0 } },
+    { "configure 1", 13, { 0x00, 1, 0x06, 0, 5, 0, 0x29, 10, 0, 60, 0, 50, 0 } },
+    { "read configuration 1", 6, { 0x00, 1, 0x08, 0, 5, 0 } },
+};
+
+enum form { LENT, VALUE, COPY };
+static const char *const names[] = { "lent", "by value", "bytes to value and back" };
+static enum form form;
+static const struct row *row;
+static volatile uint8_t said;
+
+static void call(void)
+{
+    switch (form) {
+    case LENT:
+        said = forms_lent(store, sizeof store, table, sizeof table, 0xfc21, row->frame, row->len, reply, sizeof reply);
+        break;
+    case VALUE:
+        said = forms_value(store, sizeof store, table, sizeof table, 0xfc21, row->frame, row->len, reply, sizeof reply);
+        break;
+    default:
+        said = forms_copy(table, sizeof table);
+    }
+}
+
+/* The call runs on a stack of its own, which was painted: what is no longer so was used. */
+static uint8_t painted[1 << 18];
+static ucontext_t here, there;
+
+static size_t stack_of_call(void)
+{
+    size_t low = 0;
+
+    memset(painted, 0xa5, sizeof painted);
+    getcontext(&there);
+    there.uc_stack.ss_sp = painted;
+    there.uc_stack.ss_size = sizeof painted;
+    there.uc_link = &here;
+    makecontext(&there, call, 0);
+    swapcontext(&here, &there);
+    while (low < sizeof painted && painted[low] == 0xa5)
+        low++;
+    return sizeof painted - low;
+}
+
+static void nothing(void)
+{
+}
+
+/* What starting on that stack takes without a call. */
+static size_t stack_of_none(void)
+{
+    size_t low = 0;
+
+    memset(painted, 0xa5, sizeof painted);
+    getcontext(&there);
+    there.uc_stack.ss_sp = painted;
+    there.uc_stack.ss_size = sizeof painted;
+    there.uc_link = &here;
+    makecontext(&there, nothing, 0);
+    swapcontext(&here, &there);
+    while (low < sizeof painted && painted[low] == 0xa5)
+        low++;
+    return sizeof painted - low;
+}
+
+static double nanoseconds(void)
+{
+    enum { CALLS = 20000, BLOCKS = 41 };
+    double best = 0;
+    struct timespec a, b;
+    int i, k;
+
+    for (k = 0; k < BLOCKS; k++) {
+        double t;
+        clock_gettime(CLOCK_MONOTONIC, &a);
+        for (i = 0; i < CALLS; i++)
+            call();
+        clock_gettime(CLOCK_MONOTONIC, &b);
+        t = ((b.tv_sec - a.tv_sec) * 1e9 + (b.tv_nsec - a.tv_nsec)) / CALLS;
+        if (k == 0 || t < best)
+            best = t;
+    }
+    return best;
+}
+
+int main(void)
+{
+    size_t base = stack_of_none(), i;
+
+    table[0] = 16;
+    for (i = 0; i < 16; i++) {
+        uint8_t *slot = table + 1 + 29 * i;
+        slot[0] = 0x21;
+        slot[1] = 0xfc;
+        slot[2] = i == 15 ? 5 : (uint8_t)(100 + i);
+        slot[4] = 10;
+        slot[6] = 60;
+        slot[8] = 50;
+    }
+    printf("%-22s %-24s %8s %8s\n", "request", "table", "ns", "stack");
+    for (row = rows; row < rows + sizeof rows / sizeof rows[0]; row++)
+        for (form = LENT; form < COPY; form++) {
+            size_t stack = stack_of_call() - base;
+            if (said != 0)
+                return 1;
+            printf("%-22s %-24s %8.1f %8zu\n", row->name, names[form], nanoseconds(), stack);
+        }
+    form = COPY;
+    i = stack_of_call() - base;
+    printf("%-22s %-24s %8.1f %8zu\n", "", names[COPY], nanoseconds(), i);
+    return 0;
+}

@@ -1,0 +1,127 @@
+-- A request's checks, one by one; and the same request over bytes that carry its table, and over a table by value. Assumes nothing.
+use mathlib.Core.Path.{_≡_, refl, sym, ap, _∙_}
+use mathlib.Core.Bool.{Bool, true, false, cond}
+use mathlib.Core.List.{List, map}
+use Prim.Native.Nat.{ℕ, _≤_}
+use native.Mathlib.Omega.{arith}
+use lib.ListN.{length, take, length-map}
+use lib.Dec.{leb}
+use borrow.Author.Tests.{eq-eqb, ne-eqb, le-ltb, lt-ltb, leb-true, leb-false}
+use Rattle.types.specs.Number.{AllBytes}
+use Rattle.frame.specs.declared.header.HeaderRead.{HeaderRead}
+use Rattle.frame.specs.declared.answer.Answer.{Answer}
+use Rattle.frame.specs.declared.answer.Refusal.{Refusal}
+use Rattle.frame.specs.declared.answer.Refusal.the-variants.{OtherCluster, NotAStore, NotATable}
+use Rattle.frame.specs.Header.{headerOf}
+use Rattle.frame.specs.Answer.{noState, seen, refused}
+use Rattle.frame.proofs.Outcome.{refused-with}
+use Rattle.store.specs.Contents.{clusterOf}
+use Rattle.store.specs.Layout.{isStore}
+use Rattle.reporting.specs.declared.entry.Entry.{Entry}
+use Rattle.reporting.specs.declared.table.ReportingTable.{ReportingTable}
+use Rattle.reporting.specs.declared.carried.ReadTable.{ReadTable}
+use Rattle.reporting.specs.Table.{room, Table, sound, bad, live, tableOf, holding}
+use Rattle.reporting.specs.Carried.{quieted, isTable, tableIn, tableBytes, Reading, reading, readT, Written, written, writeT}
+use Rattle.reporting.specs.Carried as Carried
+use Rattle.reporting.specs.Lent.{quietedT}
+use Rattle.reporting.proofs.CarriageTable.{bytes-back, table-count}
+use Rattle.reporting.proofs.CarriageLoops.{known-count, table-size}
+use Rattle.reporting.proofs.Slots.{live-length}
+use Rattle.configure.proofs.Settings.{carries-is, carries-own}
+use Rattle.server.specs.Serve.{state, within, byHeader, tabled, serve}
+use Rattle.server.specs.Lent.{lent, carried, serveLent}
+
+-- ---- the checks, one by one
+
+module _ (s : List ℕ) (l : List Entry) (cluster : ℕ) (unicast : Bool) (frame : List ℕ) (n : ℕ) where
+  pub serve-no-store : isStore 8 s ≡ false → refused n NotAStore (state s (holding l)) ≡ serve 8 room s (holding l) cluster unicast frame n
+  unfolding serve
+  serve-no-store e = rw e
+
+  module _ (store : isStore 8 s ≡ true) (own : ℕ) (is : own ≡ clusterOf s) where
+    pub serve-other : (own ≡ cluster → ⊥) → refused n OtherCluster (state s (holding l)) ≡ serve 8 room s (holding l) cluster unicast frame n
+    unfolding serve tabled
+    serve-other q = rw (store, ne-eqb cluster (clusterOf s) (λ p. q (is ∙ sym p)))
+
+    pub serve-read : own ≡ cluster → (r : HeaderRead) → r ≡ headerOf frame → byHeader 8 room s (holding l) unicast frame n r ≡ serve 8 room s (holding l) cluster unicast frame n
+    unfolding serve tabled
+    serve-read q r e = ap (byHeader 8 room s (holding l) unicast frame n) e ∙ rw (store, eq-eqb cluster (clusterOf s) (sym q ∙ is))
+
+-- ---- over bytes
+
+module _ (s bs : List ℕ) (cluster : ℕ) (unicast : Bool) (frame : List ℕ) (n : ℕ) (a : Answer) (d : List ℕ) where
+  -- that are no table
+  pub lent-refused : isTable room bs ≡ false → (why : Refusal) → why ≡ cond (isStore 8 s) NotATable NotAStore → seen a d noState ≡ refused n why noState
+      → seen a d (lent s bs) ≡ serveLent s bs cluster unicast frame n
+  unfolding serveLent
+  lent-refused is why w e = refused-with a d n why (lent s bs) e ∙ ap (λ (y : Refusal). refused n y (lent s bs)) w ∙ rw is
+
+  -- that are one: they are one still, and these are its bytes
+  pub lent-served : isTable room bs ≡ true → (s′ bs′ : List ℕ) → AllBytes bs′ → isTable room bs′ ≡ true
+      → seen a d (state s′ (holding (tableIn bs′))) ≡ serve 8 room s (holding (tableIn bs)) cluster unicast frame n → seen a d (lent s′ bs′) ≡ serveLent s bs cluster unicast frame n
+  unfolding serveLent
+  lent-served is s′ bs′ b is′ e =
+      ap (λ (x : List ℕ). seen a d (lent s′ x)) (sym (bytes-back room bs′ b is′)) ∙ ap (within (carried bs)) e ∙ rw is
+
+-- ---- over a value
+
+-- what `write_table` says to bytes of its size
+module _ (t : ReportingTable) (bs : List ℕ) (size : length bs ≡ 465) (w : Bool) (bs′ : List ℕ) (e : written w bs′ ≡ writeT 16 t bs) where
+  by-count : written w bs′ ≡ cond (leb (t .count) 16) (written true (tableBytes 16 (take (t .count) (t .entries)))) (written false bs)
+  unfolding writeT
+  by-count = e ∙ rw (table-size, eq-eqb (length bs) 465 size)
+
+  is-written : w ≡ leb (t .count) 16
+  is-written = go (leb (t .count) 16) (ap (λ (x : Written). x .done) by-count)
+    where
+      go : (b : Bool) → w ≡ (cond b (written true (tableBytes 16 (take (t .count) (t .entries)))) (written false bs)) .done → w ≡ b
+      go true p = p
+      go false p = p
+
+  -- a count above the limit
+  pub not-written : w ≡ false → tableOf t ≡ bad t
+  not-written q = rw (lt-ltb room (t .count) (leb-false (t .count) 16 (sym is-written ∙ q)))
+
+  pub was-written : w ≡ true → t .count ≤ room
+  was-written q = leb-true (t .count) 16 (sym is-written ∙ q)
+
+module _ (s : List ℕ) (t : ReportingTable) (cluster : ℕ) (unicast : Bool) (frame : List ℕ) (n : ℕ) (a : Answer) (d : List ℕ) where
+  refused-bad : (u : ReportingTable) → refused n (cond (isStore 8 s) NotATable NotAStore) (state s (bad u)) ≡ serve 8 room s (bad u) cluster unicast frame n
+  unfolding serve tabled
+  refused-bad u = go (isStore 8 s)
+    where
+      go : (b : Bool) → refused n (cond b NotATable NotAStore) (state s (bad u)) ≡ cond b (refused n NotATable (state s (bad u))) (refused n NotAStore (state s (bad u)))
+      go true = refl
+      go false = refl
+
+  -- that is no table
+  pub value-refused : tableOf t ≡ bad t → (why : Refusal) → why ≡ cond (isStore 8 s) NotATable NotAStore → seen a d noState ≡ refused n why noState
+      → seen a d (state s (tableOf t)) ≡ serve 8 room s (quietedT (tableOf t)) cluster unicast frame n
+  value-refused h why w e =
+      refused-with a d n why (state s (tableOf t)) e
+      ∙ (λ i. refused n (w i) (state s (h i)))
+      ∙ refused-bad t
+      ∙ sym (ap (λ (x : Table). serve 8 room s (quietedT x) cluster unicast frame n) h)
+
+  -- that is one: as its bytes, and the table read from them afterwards
+  pub value-served : t .count ≤ room → length (t .entries) ≡ room → (bs : List ℕ) → readT 16 bs ≡ Carried.seen true (map quieted (live t))
+      → (s′ bs′ : List ℕ) → isTable room bs′ ≡ true → seen a d (state s′ (holding (tableIn bs′))) ≡ serve 8 room s (holding (tableIn bs)) cluster unicast frame n
+      → (r : ReadTable) → reading r ≡ readT 16 bs′ → seen a d (state s′ (tableOf (r .table))) ≡ serve 8 room s (quietedT (tableOf t)) cluster unicast frame n
+  value-served small slots bs c s′ bs′ is′ e r g =
+      ap (λ (x : Table). seen a d (state s′ x)) (read-back r bs′ is′ g)
+      ∙ e
+      ∙ ap (λ (l : List Entry). serve 8 room s (holding l) cluster unicast frame n) (carries-is bs (map quieted (live t)) c .1)
+      ∙ sym (ap (λ (x : Table). serve 8 room s (quietedT x) cluster unicast frame n) is-sound ∙ ap (λ (k : ℕ). serve 8 room s (sound k (map quieted (live t))) cluster unicast frame n) counted)
+    where
+      is-sound : tableOf t ≡ sound (t .count) (live t)
+      is-sound = rw (le-ltb room (t .count) small)
+
+      counted : t .count ≡ length (map quieted (live t))
+      counted = sym (length-map (live t) quieted ∙ live-length t slots small)
+
+      read-back : (r : ReadTable) (bs′ : List ℕ) → isTable room bs′ ≡ true → reading r ≡ readT 16 bs′ → tableOf (r .table) ≡ holding (tableIn bs′)
+      read-back r bs′ is g =
+          let p = g ∙ carries-own bs′ is in
+          let k : r .table .count ≡ length (tableIn bs′) = ap (λ (x : Reading). x .count) p in
+          rw (le-ltb room (r .table .count) (omega (arith, k, table-count bs′, known-count bs′ is)))
+          (λ i. sound (k i) (ap (λ (x : Reading). x .entries) p i))
