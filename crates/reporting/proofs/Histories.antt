@@ -14,6 +14,7 @@ use Rattle.reporting.specs.declared.entry.ReportingConfig.{ReportingConf
 use Rattle.reporting.specs.declared.entry.Entry.{Entry}
 use Rattle.reporting.specs.Entries.{same, matches, fresh, replaced, findL, lookupL, Distinct, updateL, acceptsL, configureL, markE, markL}
 use Rattle.reporting.specs.Events.{Event, configured, cleared, asked, marked, keyOf, after, run, Honest, Leads, CallsAreEvents, HistoriesAreEvents, Wish, clears, wrong, sets, wish, recordW, eventsW, configRecord, configure, clear, ask, mark, configuration, len, call, events, calls, history}
+use Rattle.reporting.specs.Sentences.{KeysStayDistinct, KeysNeverTwice}
 use Rattle.reporting.proofs.Places.{lookup-none, lookup-at}
 use Rattle.reporting.proofs.Others.{key-is, key-other, other-not, update-other, update-own, update-distinct, append-other, append-own, append-distinct, clear-other, clear-distinct}
 
@@ -22,7 +23,7 @@ use Rattle.reporting.proofs.Others.{key-is, key-other, other-not, updat
 fresh-keeps : (k : Key) (g : ReportingConfig) (e : Entry) → matches k e ≡ true → (fresh k g) .key ≡ e .key
 fresh-keeps k g e m = sym (key-is k e m)
 
-configure-other : (limit : ℕ) (j k : Key) (g : ReportingConfig) (l : List Entry) → (j ≡ k → ⊥) → lookupL k (configureL limit j g l) ≡ lookupL k l
+pub configure-other : (limit : ℕ) (j k : Key) (g : ReportingConfig) (l : List Entry) → (j ≡ k → ⊥) → lookupL k (configureL limit j g l) ≡ lookupL k l
 configure-other limit j k g l h = go (ltb (findL j l) (length l)) (ltb (length l) limit)
   where
     go : (t u : Bool) → lookupL k (cond t (updateL j (replaced j g) l) (cond u (l ++ (fresh j g ∷ [])) l)) ≡ lookupL k l
@@ -127,3 +128,11 @@ leads-then limit es fs l m n a b =
 pub history-is : HistoriesAreEvents
 history-is limit [] l = record { honest = tt; table = refl }
 history-is limit (c ∷ cs) l = leads-then limit (events limit c l) (history limit cs (call limit c l)) l (call limit c l) (calls limit cs (call limit c l)) (call-is limit c l) (history-is limit cs (call limit c l))
+
+-- ---- keys never stand twice (claims of specs/Sentences.antt)
+
+pub keys-stay-distinct : KeysStayDistinct
+keys-stay-distinct limit c l d = subst Distinct (call-is limit c l .table) (run-distinct limit (events limit c l) l d)
+
+pub keys-never-twice : KeysNeverTwice
+keys-never-twice limit cs = subst Distinct (history-is limit cs [] .table) (run-distinct limit (history limit cs []) [] tt)

@@ -5,10 +5,10 @@ pub mod Places
 pub mod Slots
 pub mod Others
 pub mod Histories
-pub mod Sentences
 pub mod Accepted
 pub mod Follows
 pub mod Promise
+pub mod Sentences
 pub mod Compiled
 pub mod Example
 pub mod Unique
