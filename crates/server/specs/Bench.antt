@@ -10,6 +10,8 @@ use Rattle.frame.specs.Answer.{Outcome, replied}
 use Rattle.store.specs.declared.value.Numbered.the-variants.{Is}
 use Rattle.store.specs.Value.{numberOf}
 use Rattle.reporting.specs.declared.entry.Key.{Key}
+use Rattle.reporting.specs.declared.entry.ReportingConfig.{ReportingConfig}
+use Rattle.reporting.specs.declared.entry.Entry.{Entry}
 use Rattle.reporting.specs.Table.{Table, holding, markT, askT}
 use Rattle.server.specs.Serve.{State, state, serve}
 
@@ -39,8 +41,9 @@ pub record Asking : Type 0 where
 pub data Claim : Type 0 where
   -- a request over T and an empty table, with this room: the reply, and attribute 1 afterwards
   serves : List ℕ → ℕ → List ℕ → ℕ → Claim
-  -- a configure request with room 64: the reply; attribute 5 in the table that it left is marked at a time with a value, and asked
-  reports : List ℕ → List ℕ → ℕ → ℤ → List Asking → Claim
+  -- a configure request over T and an empty table, with room 64: the reply, and the table that it leaves, which has attribute 5 alone, with
+  -- this configuration and not marked; there attribute 5 is marked at a time with a value, and asked
+  reports : List ℕ → List ℕ → ReportingConfig → ℕ → ℤ → List Asking → Claim
   -- the number of an attribute of T
   numbers : ℕ → ℤ → Claim
   -- the reportable change of a type, from these bytes
@@ -55,16 +58,19 @@ served frame room = serve 8 16 (T 0x07) (holding []) cluster true frame room
 abbrev pub key : Key
 key = record { cluster = record { 0 = cluster }; attribute = record { 0 = 5 } }
 
+-- attribute 5's entry with a configuration, not marked
+abbrev pub unmarked : ReportingConfig → Entry
+unmarked config = record { key = key; config = config; marked = false; «last_time» = 0; «last_value» = pos 0 }
+
 abbrev pub Answers : Table → List Asking → Type 0
 Answers t [] = Unit
 Answers t (a ∷ more) = (askT key (a .time) (a .value) t .due ≡ a .due) × Answers t more
 
 abbrev pub Holds : Claim → Type 0
 Holds (serves frame room reply level) = served frame room ≡ replied room reply (state (T level) (holding []))
-Holds (reports frame reply time value asks) =
-    let o : Outcome State = served frame 64 in
-    (o ≡ replied 64 reply (state (T 0x07) (o .state .table)))
-    × Answers (markT key time value (o .state .table) .table) asks
+Holds (reports frame reply config time value asks) =
+    (served frame 64 ≡ replied 64 reply (state (T 0x07) (holding (unmarked config ∷ []))))
+    × Answers (markT key time value (served frame 64 .state .table) .table) asks
 Holds (numbers attribute z) = numberOf 8 (T 0x07) attribute ≡ Is z
 Holds (changes t bytes n) = changeAt bytes 0 t ≡ n
 
@@ -87,6 +93,10 @@ asks =
     ∷ asking 90 (pos 0) false
     ∷ []
 
+-- minimum 10, maximum 60, change 50
+abbrev pub configuration : ReportingConfig
+configuration = record { «min_interval» = 10; «max_interval» = 60; «reportable_change» = 50 }
+
 abbrev pub starred : List Claim
 starred =
     -- 1, 2 and 3: read
@@ -103,7 +113,7 @@ starred =
     ∷ serves (0x00 ∷ 0x2c ∷ 0x0c ∷ 0x01 ∷ 0x00 ∷ 0x03 ∷ []) 64 (0x18 ∷ 0x2c ∷ 0x0d ∷ 0x01 ∷ 0x01 ∷ 0x00 ∷ 0x20 ∷ 0x05 ∷ 0x00 ∷ 0x29 ∷ 0x07 ∷ 0x00 ∷ 0x42 ∷ []) 0x07
     ∷ serves (0x00 ∷ 0x2c ∷ 0x0c ∷ 0x08 ∷ 0x00 ∷ 0x00 ∷ []) 64 (0x18 ∷ 0x2c ∷ 0x0d ∷ 0x01 ∷ []) 0x07
     -- 11: configure, mark, ask
-    ∷ reports (0x00 ∷ 0x2d ∷ 0x06 ∷ 0x00 ∷ 0x05 ∷ 0x00 ∷ 0x29 ∷ 0x0a ∷ 0x00 ∷ 0x3c ∷ 0x00 ∷ 0x32 ∷ 0x00 ∷ []) (0x18 ∷ 0x2d ∷ 0x07 ∷ 0x00 ∷ []) 100 (negsuc 199) asks
+    ∷ reports (0x00 ∷ 0x2d ∷ 0x06 ∷ 0x00 ∷ 0x05 ∷ 0x00 ∷ 0x29 ∷ 0x0a ∷ 0x00 ∷ 0x3c ∷ 0x00 ∷ 0x32 ∷ 0x00 ∷ []) (0x18 ∷ 0x2d ∷ 0x07 ∷ 0x00 ∷ []) configuration 100 (negsuc 199) asks
     -- 12: numbers, and a change
     ∷ numbers 0 (pos 2147483648)
     ∷ numbers 5 (negsuc 199)
