@@ -10,7 +10,9 @@ pub mod Cases  -- one case split for each of the server's definitions
 pub mod Sees  -- what a command sees of a request's header
 pub mod Indifferent  -- what does not affect an answer
 pub mod Shapes  -- the shape of every command's outcome
+pub mod Says  -- a call replies or refuses, and its reply buffer is left so
 pub mod Refusals  -- what every answer leaves
+pub mod Elsewhere  -- what the responder and a report leave
 pub mod Stays  -- a store stays a store
 pub mod Unique  -- no second answer fits
 pub mod Histories  -- a request is its events

@@ -3,20 +3,17 @@
 use mathlib.Core.Path.{_≡_, refl, sym, ap, _∙_, subst}
 use mathlib.Core.Bool.{Bool}
 use mathlib.Core.List.{List}
-use Prim.Native.Nat.{ℕ, _≤_}
+use Prim.Native.Nat.{ℕ}
 use native.Mathlib.Omega.{arith}
-use lib.ListN.{length, take, length-replicate}
-use Rattle.types.specs.Number.{zeros}
 use Rattle.frame.specs.declared.answer.Refusal.{Refusal}
-use Rattle.frame.specs.Reply.{padded}
 use Rattle.frame.specs.Answer.{refusalNumber, Outcome, refused}
-use Rattle.frame.proofs.Buffer.{length-padded, take-padded}
 use Rattle.frame.proofs.Codes.{refusal-same, refusal-nonzero}
 use Rattle.reporting.specs.Table.{Table}
 use Rattle.server.specs.Serve.{State, state, serve}
 use Rattle.server.specs.Left.{Early, RefusalClears, ReplyThenZeros, ReplyLength, Untouched}
 use Rattle.server.proofs.Cases.{Own, apart, serve-case}
 use Rattle.server.proofs.Shapes.{Shape, replies, refuses, commanded-shape}
+use Rattle.server.proofs.Says.{Says, sends, declines, says-clears, says-zeros, says-long}
 
 -- THE WAYS of a request: refused before any command, with store and table as they came; or as a command's outcome is
 pub data Ways (room : ℕ) (s : List ℕ) (t : Table) (o : Outcome State) : Type 0 where
@@ -32,38 +29,12 @@ serve-ways form limit s unicast room =
 abbrev number : Outcome State → ℕ
 number o = o .number
 
--- nothing of a reply is left
-abbrev Cleared : ℕ → Outcome State → Type 0
-Cleared room o = (o .reply ≡ zeros room) × (o .size ≡ 0)
-
-is-cleared : (room : ℕ) (o : Outcome State) (why : Refusal) (x : State) → o ≡ refused room why x → Cleared room o
-is-cleared room o why x e = (ap (λ (y : Outcome State). y .reply) e, ap (λ (y : Outcome State). y .size) e)
-
--- a refusal's number is not a reply's
-no-reply : (room : ℕ) (o : Outcome State) (why : Refusal) (x : State) → o ≡ refused room why x → o .number ≡ 0 → ⊥
-no-reply room o why x e k = absurd (omega (arith, refusal-nonzero why, ap number e, k))
-
 module _ (room : ℕ) (s : List ℕ) (t : Table) (o : Outcome State) where
-  -- a refusal leaves that
-  clears : Ways room s t o → (o .number ≡ 0 → ⊥) → Cleared room o
-  clears (first why h e) k = is-cleared room o why _ e
-  clears (then (replies out h e)) k = absurd (k (ap number e))
-  clears (then (refuses why h e)) k = is-cleared room o why _ e
-
-  -- a reply stands at the start, and zeros behind it
-  padded-out : Ways room s t o → o .number ≡ 0 → (o .size ≤ room) × (o .reply ≡ padded room (take (o .size) (o .reply)))
-  padded-out (first why h e) k = absurd (no-reply room o why _ e k)
-  padded-out (then (replies out h e)) k =
-      let r : o .reply ≡ padded room out = ap (λ (x : Outcome State). x .reply) e in
-      let z : o .size ≡ length out = ap (λ (x : Outcome State). x .size) e in
-      (omega arith, r ∙ ap (padded room) (sym (ap (λ (m : ℕ). take m (o .reply)) z ∙ ap (take (length out)) r ∙ take-padded room out)))
-  padded-out (then (refuses why h e)) k = absurd (no-reply room o why _ e k)
-
-  -- the buffer is as long as it was
-  same-room : Ways room s t o → length (o .reply) ≡ room
-  same-room (first why h e) = ap (λ (x : Outcome State). length (x .reply)) e ∙ length-replicate room 0
-  same-room (then (replies out h e)) = ap (λ (x : Outcome State). length (x .reply)) e ∙ length-padded room out h
-  same-room (then (refuses why h e)) = ap (λ (x : Outcome State). length (x .reply)) e ∙ length-replicate room 0
+  -- as any call, it replies or refuses
+  says : Ways room s t o → Says room o
+  says (first why h e) = declines why (e ∙ ap (refused room why) (sym (ap (λ (x : Outcome State). x .state) e)))
+  says (then (replies out h e)) = sends out h e
+  says (then (refuses why h e)) = declines why e
 
   -- 1, 2, 3, 7 and 8 leave store and table as they were
   as-it-was : Ways room s t o → (why : Refusal) → Early why → o .number ≡ refusalNumber why → o .state ≡ state s t
@@ -73,14 +44,17 @@ module _ (room : ℕ) (s : List ℕ) (t : Table) (o : Outcome State) where
 
 -- ---- THE LAWS, for every request
 
+request-says : (form limit : ℕ) (s : List ℕ) (t : Table) (cluster : ℕ) (unicast : Bool) (frame : List ℕ) (room : ℕ) → Says room (serve form limit s t cluster unicast frame room)
+request-says form limit s t cluster unicast frame room = says room s t _ (serve-ways form limit s unicast room cluster frame t)
+
 pub refusal-clears : RefusalClears
-refusal-clears form limit s t cluster unicast frame room = clears room s t _ (serve-ways form limit s unicast room cluster frame t)
+refusal-clears form limit s t cluster unicast frame room = says-clears room _ (request-says form limit s t cluster unicast frame room)
 
 pub reply-then-zeros : ReplyThenZeros
-reply-then-zeros form limit s t cluster unicast frame room = padded-out room s t _ (serve-ways form limit s unicast room cluster frame t)
+reply-then-zeros form limit s t cluster unicast frame room = says-zeros room _ (request-says form limit s t cluster unicast frame room)
 
 pub reply-length : ReplyLength
-reply-length form limit s t cluster unicast frame room = same-room room s t _ (serve-ways form limit s unicast room cluster frame t)
+reply-length form limit s t cluster unicast frame room = says-long room _ (request-says form limit s t cluster unicast frame room)
 
 pub untouched : Untouched
 untouched form limit s t cluster unicast frame room = as-it-was room s t _ (serve-ways form limit s unicast room cluster frame t)

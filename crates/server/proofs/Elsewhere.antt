@@ -1,0 +1,115 @@
+-- What the responder and a report leave: each replies or refuses. Assumes nothing.
+use mathlib.Core.Path.{_≡_, refl}
+use mathlib.Core.Bool.{Bool, true, false, cond}
+use mathlib.Core.List.{List, [], _∷_, _++_}
+use Prim.Native.Nat.{ℕ, _+_, _≤_}
+use native.Mathlib.Omega.{arith}
+use lib.ListN.{length, length-append}
+use lib.Dec.{leb}
+use borrow.Author.Tests.{leb-true}
+use Rattle.frame.specs.declared.header.HeaderRead.{HeaderRead}
+use Rattle.frame.specs.declared.header.HeaderRead.the-variants.{Header, Short}
+use Rattle.frame.specs.declared.command_identifier.CommandIdentifier.the-variants.{ReportAttributes}
+use Rattle.frame.specs.declared.status.Status.the-variants.{UnsupportedCluster}
+use Rattle.frame.specs.declared.answer.Refusal.the-variants.{HeaderShort, ReplyTooLong, NothingToSend, NotAStore, EmptyReport, NotReportable}
+use Rattle.frame.specs.Header.{headerOf, replyHead}
+use Rattle.frame.specs.Answer.{Outcome, noState, refused}
+use Rattle.frame.specs.Encoded.{encodeAll, fits}
+use Rattle.store.specs.declared.lookup.Found.{Found}
+use Rattle.store.specs.declared.lookup.Found.the-variants.{At, Nothing}
+use Rattle.store.specs.Contents.{nameOf, findOf, reportable}
+use Rattle.store.specs.Layout.{isStore}
+use Rattle.server.specs.Left.{ResponderClears, ResponderThenZeros, ResponderLength, ReportClears, ReportThenZeros, ReportLength}
+use Rattle.server.specs.Report.{ReportRecord, encode, recordOf, Reported, all, trouble, reportBy, reportFrom, reportReply, unasked, listed, reportOf}
+use Rattle.server.specs.UnsupportedCluster.{among, isDefaultResponse, respond, unsupportedCluster}
+use Rattle.server.proofs.Shapes.{Shape, replies, refuses, default-shape}
+use Rattle.server.proofs.Says.{Says, sends, declines, says-either, says-clears, says-zeros, says-long}
+
+-- ---- the responder
+
+shape-says : {S : Type 0} (room : ℕ) (o : Outcome S) → Shape room o → Says room o
+shape-says room o (replies out h e) = sends out h e
+shape-says room o (refuses why h e) = declines why e
+
+respond-says : (unicast : Bool) (room : ℕ) (r : HeaderRead) → Says room (respond unicast room r)
+unfolding respond
+respond-says unicast room (Header h) =
+    says-either room (isDefaultResponse h) _ _ (declines NothingToSend refl) (shape-says room _ (default-shape h unicast UnsupportedCluster room))
+respond-says unicast room Short = declines HeaderShort refl
+
+responder-says : (served : List ℕ) (cluster : ℕ) (unicast : Bool) (frame : List ℕ) (room : ℕ) → Says room (unsupportedCluster served cluster unicast frame room)
+unfolding unsupportedCluster
+responder-says served cluster unicast frame room =
+    says-either room (among cluster served) _ _ (declines NothingToSend refl) (respond-says unicast room (headerOf frame))
+
+pub responder-clears : ResponderClears
+responder-clears served cluster unicast frame room = says-clears room _ (responder-says served cluster unicast frame room)
+
+pub responder-then-zeros : ResponderThenZeros
+responder-then-zeros served cluster unicast frame room = says-zeros room _ (responder-says served cluster unicast frame room)
+
+pub responder-length : ResponderLength
+responder-length served cluster unicast frame room = says-long room _ (responder-says served cluster unicast frame room)
+
+-- ---- a report: records that were all taken fit behind the head
+
+module _ (form : ℕ) (s : List ℕ) (room : ℕ) where
+  abbrev Fit : ℕ → Reported → Type 0
+  Fit head (all rs) = head + length (encodeAll encode rs) ≤ room
+  Fit head (trouble why) = Unit {0}
+
+  none-fit : (head : ℕ) → head ≤ room → head + length (encodeAll encode []) ≤ room
+  unfolding encodeAll
+  none-fit head h = omega arith
+
+  by-fits : (head id : ℕ) (rs : List ReportRecord) (rest : List ReportRecord → Reported)
+      → ((longer : List ReportRecord) → head + length (encodeAll encode longer) ≤ room → Fit head (rest longer))
+      → (f : Found) → Fit head (reportBy s room head id rs rest f)
+  unfolding fits
+  by-fits head id rs rest k (At a) = go (reportable a) (leb (head + length (encodeAll encode longer)) room) refl
+    where
+      longer : List ReportRecord
+      longer = rs ++ (recordOf s id a ∷ [])
+
+      go : (a b : Bool) → leb (head + length (encodeAll encode longer)) room ≡ b → Fit head (cond a (cond b (rest longer) (trouble ReplyTooLong)) (trouble NotReportable))
+      go true true e = k longer (leb-true _ _ e)
+      go true false e = tt
+      go false b e = tt
+  by-fits head id rs rest k Nothing = tt
+
+  from-fits : (head : ℕ) (ids : List ℕ) (rs : List ReportRecord) → head + length (encodeAll encode rs) ≤ room → Fit head (reportFrom form s room head rs ids)
+  unfolding reportFrom
+  from-fits head [] rs h = h
+  from-fits head (id ∷ ids) rs h =
+      by-fits head id rs (λ longer. reportFrom form s room head longer ids) (λ longer w. from-fits head ids longer w) (findOf form s (nameOf 0 id))
+
+  reply-says : (head : List ℕ) (y : Reported) → Fit (length head) y → Says room (reportReply room head y)
+  unfolding reportReply
+  reply-says head (all rs) h = sends (head ++ encodeAll encode rs) (omega (arith, length-append head (encodeAll encode rs))) refl
+  reply-says head (trouble why) h = declines why refl
+
+  listed-says : (ids : List ℕ) (o : Outcome (Unit {0})) → Says room o → Says room (listed ids room o)
+  listed-says [] o h = declines EmptyReport refl
+  listed-says (id ∷ ids) o h = h
+
+  report-says : (sequence : ℕ) (ids : List ℕ) → Says room (reportOf form s sequence ids room)
+  unfolding reportOf
+  report-says sequence ids =
+      says-either room (isStore form s) _ _ (go (leb (length head) room) refl) (declines NotAStore refl)
+    where
+      head : List ℕ
+      head = replyHead (unasked sequence) ReportAttributes
+
+      go : (b : Bool) → leb (length head) room ≡ b
+          → Says room (cond b (listed ids room (reportReply room head (reportFrom form s room (length head) [] ids))) (refused room ReplyTooLong noState))
+      go true e = listed-says ids _ (reply-says head _ (from-fits (length head) ids [] (none-fit (length head) (leb-true _ _ e))))
+      go false e = declines ReplyTooLong refl
+
+pub report-clears : ReportClears
+report-clears form s sequence ids room = says-clears room _ (report-says form s room sequence ids)
+
+pub report-then-zeros : ReportThenZeros
+report-then-zeros form s sequence ids room = says-zeros room _ (report-says form s room sequence ids)
+
+pub report-length : ReportLength
+report-length form s sequence ids room = says-long room _ (report-says form s room sequence ids)
