@@ -12,3 +12,5 @@ pub mod Kept
 pub mod Logged
 -- the number of a value, from the store to the head-end
 pub mod Through
+-- what every call of the server's functions leaves
+pub mod Leaves

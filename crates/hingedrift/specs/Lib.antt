@@ -1,6 +1,7 @@
 -- What a reader must believe of this crate, a file for an idea.
 pub mod Tables  -- the reporting table through its bytes
 pub mod Serving  -- the server, a number and a report frame
+pub mod Left  -- what every call of these leaves
 pub mod Reading  -- the readers' functions
 pub mod Log  -- what the functions left, and demand 3 of it
 pub mod Numbers  -- the number of a value, from the store to the head-end
