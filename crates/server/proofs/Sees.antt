@@ -2,8 +2,8 @@
 --
 -- Where nothing is decided by what is left out, the two sides are the same as soon as the definitions are open that hand the header on.
 -- Where a case stands in between (a walk's end, a record), it is split first.
-use mathlib.Core.Path.{_≡_, refl, ap, fun-ext}
-use mathlib.Core.Bool.{Bool, and-false}
+use mathlib.Core.Path.{_≡_, refl, ap, _∙_, fun-ext}
+use mathlib.Core.Bool.{Bool, false, _&&_, and-false}
 use mathlib.Core.List.{List, []}
 use Prim.Native.Nat.{ℕ, _/_, _%_}
 use lib.ListN.{length}
@@ -11,10 +11,12 @@ use lib.Dec.{eqb}
 use Rattle.frame.specs.declared.header.ZclHeader.{ZclHeader}
 use Rattle.frame.specs.declared.header.FrameType.{FrameType}
 use Rattle.frame.specs.declared.header.FrameType.the-variants.{GlobalCommand, ClusterCommand, Reserved}
+use Rattle.frame.specs.declared.status.Status.{Status}
 use Rattle.frame.specs.declared.status.Status.the-variants.{UnsupCommand}
 use Rattle.frame.specs.declared.command_identifier.CommandIdentifier.{CommandIdentifier}
 use Rattle.frame.specs.declared.command_identifier.CommandIdentifier.the-variants.{WriteAttributesResponse, ConfigureReportingResponse}
 use Rattle.frame.specs.Header.{replyHead}
+use Rattle.frame.specs.Status.{statusCode}
 use Rattle.frame.specs.CommandIdentifier.{commandOf}
 use Rattle.frame.specs.Walk.{Way, through, broken, stopped}
 use Rattle.frame.specs.Encoded.{fits}
@@ -73,17 +75,18 @@ module _ (form : ℕ) (s : List ℕ) (h : ZclHeader) (body : List ℕ) (room : �
   configuration-sees (sound n l) = refl
   configuration-sees (bad t) = refl
 
--- bit 4 silences a SUCCESS only, and UNSUP_COMMAND is none
-never-silenced : (control : ℕ) → silences control UnsupCommand ≡ silences 0 UnsupCommand
-never-silenced control = and-false (eqb (control / 16 % 2) 1)
+-- bit 4 silences a SUCCESS only
+module _ (status : Status) (fails : eqb (statusCode status) 0 ≡ false) where
+  never-silenced : (control : ℕ) → silences control status ≡ false
+  never-silenced control = ap (λ (b : Bool). eqb (control / 16 % 2) 1 && b) fails ∙ and-false (eqb (control / 16 % 2) 1)
 
-default-sees : (h : ZclHeader) (unicast : Bool) (room : ℕ) → defaultResponse h unicast UnsupCommand room ≡ defaultResponse (bare h) unicast UnsupCommand room
-unfolding defaultResponse defaultReply replyHead
-default-sees h unicast room = rw (never-silenced (h .«frame_control» .0)) refl
+  pub default-sees : (h : ZclHeader) (unicast : Bool) (room : ℕ) → defaultResponse h unicast status room ≡ defaultResponse (bare h) unicast status room
+  unfolding defaultResponse defaultReply replyHead
+  default-sees h unicast room = rw (never-silenced (h .«frame_control» .0)) refl
 
 module _ (form limit : ℕ) (s : List ℕ) (t : Table) (unicast : Bool) (h : ZclHeader) (body : List ℕ) (room : ℕ) where
   unsupported-sees : unsupported s t unicast h room ≡ unsupported s t unicast (bare h) room
-  unsupported-sees = ap (neither s t) (default-sees h unicast room)
+  unsupported-sees = ap (neither s t) (default-sees UnsupCommand refl h unicast room)
 
   pub commanded-sees : (c : CommandIdentifier) → commanded form limit s t unicast h body room c ≡ commanded form limit s t unicast (bare h) body room c
   unfolding readOf recordFor writeAttributes writeSilently written headed discoverOf replyHead

@@ -1,5 +1,6 @@
 -- What is said of a cluster that is not served (document 01, "The responder .."; ZCL 2.5.12.2). Assumes nothing: these are definitions.
-use Prim.Native.Nat.{ℕ}
+use mathlib.Core.Path.{_≡_}
+use Prim.Native.Nat.{ℕ, _+_, _/_, _%_}
 use mathlib.Core.Bool.{Bool, true, false, cond, _&&_}
 use mathlib.Core.List.{List, [], _∷_}
 use lib.Dec.{eqb}
@@ -40,3 +41,17 @@ respond unicast room Short = refused room HeaderShort noState
 unfoldable pub unsupportedCluster : List ℕ → ℕ → Bool → List ℕ → ℕ → Outcome (Unit {0})
 unsupportedCluster served cluster unicast frame room =
     cond (among cluster served) (refused room NothingToSend noState) (respond unicast room (headerOf frame))
+
+-- ---- two laws, to be proved
+
+-- control bits 3 to 7 do not affect the responder's answer
+abbrev pub ResponderControlBitsDoNotMatter : Type 0
+ResponderControlBitsDoNotMatter =
+    (served : List ℕ) (cluster : ℕ) (unicast : Bool) (room control other : ℕ) (rest : List ℕ) → control % 8 ≡ other % 8
+    → unsupportedCluster served cluster unicast (control ∷ rest) room ≡ unsupportedCluster served cluster unicast (other ∷ rest) room
+
+-- nor does the manufacturer code: a frame answers as it does without bit 2 and the two bytes
+abbrev pub ResponderManufacturerCodeDoesNotMatter : Type 0
+ResponderManufacturerCodeDoesNotMatter =
+    (served : List ℕ) (cluster : ℕ) (unicast : Bool) (room control a b : ℕ) (rest : List ℕ) → control / 4 % 2 ≡ 0
+    → unsupportedCluster served cluster unicast ((control + 4) ∷ a ∷ b ∷ rest) room ≡ unsupportedCluster served cluster unicast (control ∷ rest) room
