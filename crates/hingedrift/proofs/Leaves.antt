@@ -2,14 +2,16 @@
 -- is no table the refusal. Assumes nothing.
 use mathlib.Core.Path.{_≡_, refl, sym, ap, _∙_, subst}
 use mathlib.Core.Bool.{Bool, true, false, cond, true≢false}
-use mathlib.Core.List.{List}
+use mathlib.Core.List.{List, []}
 use Prim.Native.Nat.{ℕ}
 use native.Mathlib.Omega.{arith}
 use lib.ListN.{length}
 use Rattle.types.specs.Number.{AllBytes}
 use Rattle.frame.specs.declared.answer.Refusal.{Refusal}
 use Rattle.frame.specs.declared.answer.Refusal.the-variants.{NotAStore, NotATable}
+use Rattle.frame.specs.Header.{frameTypeOf}
 use Rattle.frame.specs.Answer.{refusalNumber, Outcome, refused}
+use Rattle.frame.proofs.Codes.{refusal-nonzero}
 use Rattle.store.specs.Layout.{isStore}
 use Rattle.store.specs.Stays.{StoreLike}
 use Rattle.reporting.specs.declared.entry.Entry.{Entry}
@@ -21,15 +23,17 @@ use Rattle.reporting.proofs.Kept.{Kept}
 use Rattle.server.specs.Serve.{State, within, serve}
 use Rattle.server.specs.Lent.{Lent, lent, carried, serveLent}
 use Rattle.server.specs.Left.{Clears, ThenZeros, AsLong, Early}
+use Rattle.server.specs.Starts.{Starts, answering}
 use Rattle.server.specs.History.{Request, requested, requestEvents}
 use Rattle.server.proofs.Says.{Says, declines, says-clears, says-zeros, says-long}
 use Rattle.server.proofs.Refusals.{refusal-clears, reply-then-zeros, reply-length, untouched}
 use Rattle.server.proofs.Elsewhere.{responder-clears, responder-then-zeros, responder-length, report-clears, report-then-zeros, report-length}
+use Rattle.server.proofs.Starting.{replies-start, responses-start, reports-start}
 use Rattle.server.proofs.Stays.{store-stays}
 use Rattle.server.proofs.Fitting.{request-fits}
 use Rattle.server.proofs.Histories.{request-is, request-holds}
 use Rattle.hingedrift.specs.Serving.{isUnicast, handleLeft}
-use Rattle.hingedrift.specs.Left.{HdHandleRequestClears, HdHandleRequestThenZeros, HdHandleRequestLength, HdUntouched, HdNoTableStays, HdStoreStays, HdTableStays, HdUnsupportedClusterClears, HdUnsupportedClusterThenZeros, HdUnsupportedClusterLength, HdReportClears, HdReportThenZeros, HdReportLength}
+use Rattle.hingedrift.specs.Left.{HdHandleRequestClears, HdHandleRequestThenZeros, HdHandleRequestLength, HdHandleRequestStarts, HdUntouched, HdNoTableStays, HdStoreStays, HdTableStays, HdUnsupportedClusterClears, HdUnsupportedClusterThenZeros, HdUnsupportedClusterLength, HdUnsupportedClusterStarts, HdReportClears, HdReportThenZeros, HdReportLength, HdReportStarts}
 use Rattle.hingedrift.proofs.Kept.{run-keeps}
 
 -- ---- hd_handle_request
@@ -51,23 +55,23 @@ module _ (s bs : List ℕ) (cluster unicast : ℕ) (frame : List ℕ) (size : �
       go true e = one e
       go false e = none e
 
-  unserved-says : Says size unserved
+  unserved-says : Says [] size unserved
   unserved-says = declines (cond (isStore 8 s) NotATable NotAStore) refl
 
 pub hd-handle-request-clears : HdHandleRequestClears
 hd-handle-request-clears s bs cluster unicast frame size =
     handled s bs cluster unicast frame size (λ o. Clears size o) (λ e. refusal-clears 8 room s (holding (tableIn bs)) cluster (isUnicast unicast) frame size)
-    (λ e. says-clears size _ (unserved-says s bs cluster unicast frame size))
+    (λ e. says-clears [] size _ (unserved-says s bs cluster unicast frame size))
 
 pub hd-handle-request-then-zeros : HdHandleRequestThenZeros
 hd-handle-request-then-zeros s bs cluster unicast frame size =
     handled s bs cluster unicast frame size (λ o. ThenZeros size o) (λ e. reply-then-zeros 8 room s (holding (tableIn bs)) cluster (isUnicast unicast) frame size)
-    (λ e. says-zeros size _ (unserved-says s bs cluster unicast frame size))
+    (λ e. says-zeros [] size _ (unserved-says s bs cluster unicast frame size))
 
 pub hd-handle-request-length : HdHandleRequestLength
 hd-handle-request-length s bs cluster unicast frame size =
     handled s bs cluster unicast frame size (λ o. AsLong size o) (λ e. reply-length 8 room s (holding (tableIn bs)) cluster (isUnicast unicast) frame size)
-    (λ e. says-long size _ (unserved-says s bs cluster unicast frame size))
+    (λ e. says-long [] size _ (unserved-says s bs cluster unicast frame size))
 
 pub hd-untouched : HdUntouched
 hd-untouched s bs cluster unicast frame size =
@@ -116,6 +120,12 @@ hd-table-stays s bs cluster unicast frame size sb tb fb is =
     (ap (isTable room) same ∙ table-is room _ (kept .small) (kept .clean), ap length same ∙ length-table room _ (kept .small) ∙ sym (the-conditions room bs is .size)))
     (λ none. absurd (true≢false (sym is ∙ none)))
 
+pub hd-handle-request-starts : HdHandleRequestStarts
+hd-handle-request-starts s bs cluster unicast frame size h e =
+    handled s bs cluster unicast frame size (λ o. Starts (h .«sequence_number») (answering (frameTypeOf (h .«frame_control» .0)) (h .«command_identifier» .0)) o)
+    (λ is. replies-start 8 room s (holding (tableIn bs)) cluster (isUnicast unicast) frame size h e)
+    (λ none k. absurd (omega (arith, refusal-nonzero (cond (isStore 8 s) NotATable NotAStore), k)))
+
 -- ---- hd_unsupported_cluster
 
 pub hd-unsupported-cluster-clears : HdUnsupportedClusterClears
@@ -127,6 +137,9 @@ hd-unsupported-cluster-then-zeros served cluster unicast frame size = responder-
 pub hd-unsupported-cluster-length : HdUnsupportedClusterLength
 hd-unsupported-cluster-length served cluster unicast frame size = responder-length served cluster (isUnicast unicast) frame size
 
+pub hd-unsupported-cluster-starts : HdUnsupportedClusterStarts
+hd-unsupported-cluster-starts served cluster unicast frame size h e = responses-start served cluster (isUnicast unicast) frame size h e
+
 -- ---- hd_report
 
 pub hd-report-clears : HdReportClears
@@ -137,3 +150,6 @@ hd-report-then-zeros s sequence ids size = report-then-zeros 8 s sequence ids si
 
 pub hd-report-length : HdReportLength
 hd-report-length s sequence ids size = report-length 8 s sequence ids size
+
+pub hd-report-starts : HdReportStarts
+hd-report-starts s sequence ids size = reports-start 8 s sequence ids size

@@ -7,8 +7,12 @@ use mathlib.Core.List.{List}
 use Prim.Native.Nat.{ℕ}
 use lib.ListN.{length}
 use Rattle.types.specs.Number.{AllBytes}
+use Rattle.frame.specs.declared.header.ZclHeader.{ZclHeader}
+use Rattle.frame.specs.declared.header.HeaderRead.the-variants.{Header}
+use Rattle.frame.specs.declared.command_identifier.CommandIdentifier.the-variants.{ReportAttributes, DefaultResponse}
 use Rattle.frame.specs.declared.answer.Refusal.{Refusal}
 use Rattle.frame.specs.declared.answer.Refusal.the-variants.{NotAStore, NotATable}
+use Rattle.frame.specs.Header.{frameTypeOf, headerOf}
 use Rattle.frame.specs.Answer.{refusalNumber, Outcome}
 use Rattle.store.specs.Layout.{isStore}
 use Rattle.store.specs.Stays.{StoreLike}
@@ -16,6 +20,7 @@ use Rattle.reporting.specs.Table.{room}
 use Rattle.reporting.specs.Carried.{isTable}
 use Rattle.server.specs.Lent.{Lent, lent}
 use Rattle.server.specs.Left.{Clears, ThenZeros, AsLong, Early}
+use Rattle.server.specs.Starts.{Starts, answering}
 use Rattle.hingedrift.specs.Serving.{unsupportedLeft, reportLeft, handleLeft}
 
 -- ---- hd_handle_request
@@ -61,6 +66,13 @@ HdTableStays =
     → isTable room bs ≡ true
     → (isTable room (handleLeft s bs cluster unicast frame size .state .table) ≡ true) × (length (handleLeft s bs cluster unicast frame size .state .table) ≡ length bs)
 
+-- every reply starts 18, the request's sequence number, and the command that answers the request's (server, specs/Starts.antt)
+abbrev pub HdHandleRequestStarts : Type 0
+HdHandleRequestStarts =
+    (s bs : List ℕ) (cluster unicast : ℕ) (frame : List ℕ) (size : ℕ) (h : ZclHeader)
+    → headerOf frame ≡ Header h
+    → Starts (h .«sequence_number») (answering (frameTypeOf (h .«frame_control» .0)) (h .«command_identifier» .0)) (handleLeft s bs cluster unicast frame size)
+
 -- ---- hd_unsupported_cluster, which changes neither
 
 abbrev pub OfEveryResponse : (ℕ → Outcome (Unit {0}) → Type 0) → Type 0
@@ -75,6 +87,12 @@ HdUnsupportedClusterThenZeros = OfEveryResponse (λ size o. ThenZeros size o)
 abbrev pub HdUnsupportedClusterLength : Type 0
 HdUnsupportedClusterLength = OfEveryResponse (λ size o. AsLong size o)
 
+abbrev pub HdUnsupportedClusterStarts : Type 0
+HdUnsupportedClusterStarts =
+    (served : List ℕ) (cluster unicast : ℕ) (frame : List ℕ) (size : ℕ) (h : ZclHeader)
+    → headerOf frame ≡ Header h
+    → Starts (h .«sequence_number») DefaultResponse (unsupportedLeft served cluster unicast frame size)
+
 -- ---- hd_report, which changes neither
 
 abbrev pub OfEveryReport : (ℕ → Outcome (Unit {0}) → Type 0) → Type 0
@@ -88,3 +106,6 @@ HdReportThenZeros = OfEveryReport (λ size o. ThenZeros size o)
 
 abbrev pub HdReportLength : Type 0
 HdReportLength = OfEveryReport (λ size o. AsLong size o)
+
+abbrev pub HdReportStarts : Type 0
+HdReportStarts = (s : List ℕ) (sequence : ℕ) (ids : List ℕ) (size : ℕ) → Starts sequence ReportAttributes (reportLeft s sequence ids size)

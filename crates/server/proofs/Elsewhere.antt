@@ -9,7 +9,7 @@ use lib.Dec.{leb}
 use borrow.Author.Tests.{leb-true}
 use Rattle.frame.specs.declared.header.HeaderRead.{HeaderRead}
 use Rattle.frame.specs.declared.header.HeaderRead.the-variants.{Header, Short}
-use Rattle.frame.specs.declared.command_identifier.CommandIdentifier.the-variants.{ReportAttributes}
+use Rattle.frame.specs.declared.command_identifier.CommandIdentifier.the-variants.{ReportAttributes, DefaultResponse}
 use Rattle.frame.specs.declared.status.Status.the-variants.{UnsupportedCluster}
 use Rattle.frame.specs.declared.answer.Refusal.the-variants.{HeaderShort, ReplyTooLong, NothingToSend, NotAStore, EmptyReport, NotReportable}
 use Rattle.frame.specs.Header.{headerOf, replyHead}
@@ -22,34 +22,35 @@ use Rattle.store.specs.Layout.{isStore}
 use Rattle.server.specs.Left.{ResponderClears, ResponderThenZeros, ResponderLength, ReportClears, ReportThenZeros, ReportLength}
 use Rattle.server.specs.Report.{ReportRecord, encode, recordOf, Reported, all, trouble, reportBy, reportFrom, reportReply, unasked, listed, reportOf}
 use Rattle.server.specs.UnsupportedCluster.{among, isDefaultResponse, respond, unsupportedCluster}
-use Rattle.server.proofs.Shapes.{Shape, replies, refuses, default-shape}
-use Rattle.server.proofs.Says.{Says, sends, declines, says-either, says-clears, says-zeros, says-long}
+use Rattle.server.proofs.Shapes.{default-shape}
+use Rattle.server.proofs.Says.{Says, sends, declines, says-either, says-clears, says-zeros, says-long, shape-says}
 
 -- ---- the responder
 
-shape-says : {S : Type 0} (room : ℕ) (o : Outcome S) → Shape room o → Says room o
-shape-says room o (replies out h e) = sends out h e
-shape-says room o (refuses why h e) = declines why e
+-- the head of its reply, if the frame has a header
+abbrev pub headOf : HeaderRead → List ℕ
+headOf (Header h) = replyHead h DefaultResponse
+headOf Short = []
 
-respond-says : (unicast : Bool) (room : ℕ) (r : HeaderRead) → Says room (respond unicast room r)
+respond-says : (unicast : Bool) (room : ℕ) (r : HeaderRead) → Says (headOf r) room (respond unicast room r)
 unfolding respond
 respond-says unicast room (Header h) =
-    says-either room (isDefaultResponse h) _ _ (declines NothingToSend refl) (shape-says room _ (default-shape h unicast UnsupportedCluster room))
+    says-either (replyHead h DefaultResponse) room (isDefaultResponse h) _ _ (declines NothingToSend refl) (shape-says _ room _ (default-shape h unicast UnsupportedCluster room))
 respond-says unicast room Short = declines HeaderShort refl
 
-responder-says : (served : List ℕ) (cluster : ℕ) (unicast : Bool) (frame : List ℕ) (room : ℕ) → Says room (unsupportedCluster served cluster unicast frame room)
+pub responder-says : (served : List ℕ) (cluster : ℕ) (unicast : Bool) (frame : List ℕ) (room : ℕ) → Says (headOf (headerOf frame)) room (unsupportedCluster served cluster unicast frame room)
 unfolding unsupportedCluster
 responder-says served cluster unicast frame room =
-    says-either room (among cluster served) _ _ (declines NothingToSend refl) (respond-says unicast room (headerOf frame))
+    says-either (headOf (headerOf frame)) room (among cluster served) _ _ (declines NothingToSend refl) (respond-says unicast room (headerOf frame))
 
 pub responder-clears : ResponderClears
-responder-clears served cluster unicast frame room = says-clears room _ (responder-says served cluster unicast frame room)
+responder-clears served cluster unicast frame room = says-clears _ room _ (responder-says served cluster unicast frame room)
 
 pub responder-then-zeros : ResponderThenZeros
-responder-then-zeros served cluster unicast frame room = says-zeros room _ (responder-says served cluster unicast frame room)
+responder-then-zeros served cluster unicast frame room = says-zeros _ room _ (responder-says served cluster unicast frame room)
 
 pub responder-length : ResponderLength
-responder-length served cluster unicast frame room = says-long room _ (responder-says served cluster unicast frame room)
+responder-length served cluster unicast frame room = says-long _ room _ (responder-says served cluster unicast frame room)
 
 -- ---- a report: records that were all taken fit behind the head
 
@@ -83,33 +84,33 @@ module _ (form : ℕ) (s : List ℕ) (room : ℕ) where
   from-fits head (id ∷ ids) rs h =
       by-fits head id rs (λ longer. reportFrom form s room head longer ids) (λ longer w. from-fits head ids longer w) (findOf form s (nameOf 0 id))
 
-  reply-says : (head : List ℕ) (y : Reported) → Fit (length head) y → Says room (reportReply room head y)
+  reply-says : (head : List ℕ) (y : Reported) → Fit (length head) y → Says head room (reportReply room head y)
   unfolding reportReply
-  reply-says head (all rs) h = sends (head ++ encodeAll encode rs) (omega (arith, length-append head (encodeAll encode rs))) refl
+  reply-says head (all rs) h = sends (encodeAll encode rs) (omega (arith, length-append head (encodeAll encode rs))) refl
   reply-says head (trouble why) h = declines why refl
 
-  listed-says : (ids : List ℕ) (o : Outcome (Unit {0})) → Says room o → Says room (listed ids room o)
-  listed-says [] o h = declines EmptyReport refl
-  listed-says (id ∷ ids) o h = h
+  listed-says : (head ids : List ℕ) (o : Outcome (Unit {0})) → Says head room o → Says head room (listed ids room o)
+  listed-says head [] o h = declines EmptyReport refl
+  listed-says head (id ∷ ids) o h = h
 
-  report-says : (sequence : ℕ) (ids : List ℕ) → Says room (reportOf form s sequence ids room)
+  pub report-says : (sequence : ℕ) (ids : List ℕ) → Says (replyHead (unasked sequence) ReportAttributes) room (reportOf form s sequence ids room)
   unfolding reportOf
   report-says sequence ids =
-      says-either room (isStore form s) _ _ (go (leb (length head) room) refl) (declines NotAStore refl)
+      says-either (replyHead (unasked sequence) ReportAttributes) room (isStore form s) _ _ (go (leb (length head) room) refl) (declines NotAStore refl)
     where
       head : List ℕ
       head = replyHead (unasked sequence) ReportAttributes
 
       go : (b : Bool) → leb (length head) room ≡ b
-          → Says room (cond b (listed ids room (reportReply room head (reportFrom form s room (length head) [] ids))) (refused room ReplyTooLong noState))
-      go true e = listed-says ids _ (reply-says head _ (from-fits (length head) ids [] (none-fit (length head) (leb-true _ _ e))))
+          → Says head room (cond b (listed ids room (reportReply room head (reportFrom form s room (length head) [] ids))) (refused room ReplyTooLong noState))
+      go true e = listed-says head ids _ (reply-says head _ (from-fits (length head) ids [] (none-fit (length head) (leb-true _ _ e))))
       go false e = declines ReplyTooLong refl
 
 pub report-clears : ReportClears
-report-clears form s sequence ids room = says-clears room _ (report-says form s room sequence ids)
+report-clears form s sequence ids room = says-clears _ room _ (report-says form s room sequence ids)
 
 pub report-then-zeros : ReportThenZeros
-report-then-zeros form s sequence ids room = says-zeros room _ (report-says form s room sequence ids)
+report-then-zeros form s sequence ids room = says-zeros _ room _ (report-says form s room sequence ids)
 
 pub report-length : ReportLength
-report-length form s sequence ids room = says-long room _ (report-says form s room sequence ids)
+report-length form s sequence ids room = says-long _ room _ (report-says form s room sequence ids)

@@ -13,6 +13,7 @@ pub mod Shapes  -- the shape of every command's outcome
 pub mod Says  -- a call replies or refuses, and its reply buffer is left so
 pub mod Refusals  -- what every answer leaves
 pub mod Elsewhere  -- what the responder and a report leave
+pub mod Starting  -- how every reply starts
 pub mod Stays  -- a store stays a store
 pub mod Unique  -- no second answer fits
 pub mod Histories  -- a request is its events

@@ -5,6 +5,7 @@ pub mod Lent  -- the same over bytes that carry the table
 pub mod Left  -- what every answer leaves
 pub mod UnsupportedCluster  -- the responder for clusters that are not served
 pub mod Report  -- the Report Attributes frame
+pub mod Starts  -- how every reply starts
 pub mod History  -- requests and direct calls, as the events of a reporting table
 pub mod Demand3  -- demand 3 with frames
 pub mod Log  -- what the code answered, and demand 3 of it

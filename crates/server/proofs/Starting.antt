@@ -1,0 +1,70 @@
+-- How every reply starts: by the head that it is written behind. Assumes nothing.
+use mathlib.Core.Path.{_≡_, refl, sym, subst}
+use mathlib.Core.Bool.{Bool}
+use mathlib.Core.List.{List}
+use Prim.Native.Nat.{ℕ}
+use lib.ListN.{drop}
+use lib.Dec.{eqb}
+use Rattle.frame.specs.declared.header.ZclHeader.{ZclHeader}
+use Rattle.frame.specs.declared.header.FrameType.{FrameType}
+use Rattle.frame.specs.declared.header.FrameType.the-variants.{GlobalCommand, ClusterCommand, Reserved}
+use Rattle.frame.specs.declared.header.HeaderRead.{HeaderRead}
+use Rattle.frame.specs.declared.header.HeaderRead.the-variants.{Header}
+use Rattle.frame.specs.declared.command_identifier.CommandIdentifier.the-variants.{ReportAttributes, DefaultResponse}
+use Rattle.frame.specs.declared.answer.Refusal.the-variants.{OtherCluster, ReservedFrameType, NotAStore, NotATable}
+use Rattle.frame.specs.CommandIdentifier.{commandOf}
+use Rattle.frame.specs.Header.{frameTypeOf, headerOf, replyHead}
+use Rattle.store.specs.Contents.{clusterOf}
+use Rattle.store.specs.Layout.{isStore}
+use Rattle.reporting.specs.declared.entry.Entry.{Entry}
+use Rattle.reporting.specs.Table.{Table, sound, bad}
+use Rattle.server.specs.Report.{unasked}
+use Rattle.server.specs.Serve.{typed, byHeader, tabled, serve}
+use Rattle.server.specs.Starts.{answering, RepliesStart, ResponsesStart, ReportsStart}
+use Rattle.server.specs.UnsupportedCluster.{unsupportedCluster}
+use Rattle.server.proofs.Elsewhere.{headOf, responder-says, report-says}
+use Rattle.server.proofs.Shapes.{unsupported-shape, commanded-shape}
+use Rattle.server.proofs.Says.{Says, declines, says-either, says-starts, shape-says}
+
+-- ---- to a request
+
+module _ (form limit : ℕ) (s : List ℕ) (cluster : ℕ) (unicast : Bool) (frame : List ℕ) (room : ℕ) (h : ZclHeader) where
+  abbrev headBy : FrameType → List ℕ
+  headBy k = replyHead h (answering k (h .«command_identifier» .0))
+
+  typed-says : (n : ℕ) (l : List Entry) (body : List ℕ) (k : FrameType) → Says (headBy k) room (typed form limit s (sound n l) unicast h body room k)
+  unfolding typed
+  typed-says n l body GlobalCommand = shape-says _ room _ (commanded-shape form limit s n l unicast h body room (commandOf (h .«command_identifier» .0)))
+  typed-says n l body ClusterCommand = shape-says _ room _ (unsupported-shape form limit s n l unicast h body room)
+  typed-says n l body Reserved = declines ReservedFrameType refl
+
+  module _ (e : headerOf frame ≡ Header h) where
+    abbrev head : List ℕ
+    head = headBy (frameTypeOf (h .«frame_control» .0))
+
+    header-says : (n : ℕ) (l : List Entry) → Says head room (byHeader form limit s (sound n l) unicast frame room (headerOf frame))
+    unfolding byHeader
+    header-says n l =
+        subst (λ (r : HeaderRead). Says head room (byHeader form limit s (sound n l) unicast frame room r)) (sym e) (typed-says n l (drop (h .body) frame) (frameTypeOf (h .«frame_control» .0)))
+
+    tabled-says : (t : Table) → Says head room (tabled form limit s cluster unicast frame room t)
+    unfolding tabled
+    tabled-says (sound n l) = says-either head room (eqb cluster (clusterOf s)) _ _ (header-says n l) (declines OtherCluster refl)
+    tabled-says (bad t) = declines NotATable refl
+
+    serve-says : (t : Table) → Says head room (serve form limit s t cluster unicast frame room)
+    unfolding serve
+    serve-says t = says-either head room (isStore form s) _ _ (tabled-says t) (declines NotAStore refl)
+
+pub replies-start : RepliesStart
+replies-start form limit s t cluster unicast frame room h e = says-starts h _ room _ (serve-says form limit s cluster unicast frame room h e t)
+
+-- ---- the responder's, and a report
+
+pub responses-start : ResponsesStart
+responses-start served cluster unicast frame room h e =
+    says-starts h DefaultResponse room _
+    (subst (λ (r : HeaderRead). Says (headOf r) room (unsupportedCluster served cluster unicast frame room)) e (responder-says served cluster unicast frame room))
+
+pub reports-start : ReportsStart
+reports-start form s sequence ids room = says-starts (unasked sequence) ReportAttributes room _ (report-says form s room sequence ids)
