@@ -47,7 +47,7 @@ answering GlobalCommand command = replyTo (commandOf command)
 answering ClusterCommand command = DefaultResponse
 answering Reserved command = DefaultResponse
 
--- EVERY REPLY to a request starts so; a frame without a header gets none
+-- EVERY REPLY to a request starts so (a frame without a header gets no reply: `byHeader` in Serve.antt, `respond` in UnsupportedCluster.antt)
 abbrev pub RepliesStart : Type 0
 RepliesStart =
     (form limit : ℕ) (s : List ℕ) (t : Table) (cluster : ℕ) (unicast : Bool) (frame : List ℕ) (room : ℕ) (h : ZclHeader)
