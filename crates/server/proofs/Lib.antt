@@ -18,6 +18,7 @@ pub mod Stays  -- a store stays a store
 pub mod Unique  -- no second answer fits
 pub mod Histories  -- a request is its events
 pub mod Frames  -- demand 3 with frames
+pub mod Accepting  -- a record that the reply does not fail is configured
 pub mod WorkedFrames  -- a served history that meets its suppositions
 pub mod Logged  -- demand 3 of what the code answered
 pub mod Fitting  -- what a request configures is within the widths of a table's bytes

@@ -8,6 +8,7 @@ pub mod Report  -- the Report Attributes frame
 pub mod Starts  -- how every reply starts
 pub mod History  -- requests and direct calls, as the events of a reporting table
 pub mod Demand3  -- demand 3 with frames
+pub mod Accepted  -- what a reply tells of a configuration
 pub mod Log  -- what the code answered, and demand 3 of it
 pub mod Bench  -- the starred bench frames, as one list under one claim
 pub mod ServedHistory  -- a history that meets what demand 3 supposes
