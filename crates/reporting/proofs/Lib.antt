@@ -11,6 +11,7 @@ pub mod Promise
 pub mod Sentences
 pub mod Compiled
 pub mod Example
+pub mod LogExample
 pub mod Unique
 -- numbers and rows of numbers as bytes, over the widths
 pub mod Carriage

@@ -5,6 +5,7 @@ pub mod Table
 pub mod Events
 pub mod Demand3
 pub mod Log
+pub mod LogExample  -- a log that meets what demand 3 supposes
 pub mod Sentences  -- document 01's sentences on the table, each a claim
 pub mod Carried
 pub mod OneForm  -- table to bytes and back, and bytes to table and back

@@ -21,5 +21,6 @@ pub mod Frames  -- demand 3 with frames
 pub mod Accepting  -- a record that the reply does not fail is configured
 pub mod WorkedFrames  -- a served history that meets its suppositions
 pub mod Logged  -- demand 3 of what the code answered
+pub mod LogExample  -- a log that meets its suppositions
 pub mod Fitting  -- what a request configures is within the widths of a table's bytes
 pub mod Starred  -- the starred bench frames

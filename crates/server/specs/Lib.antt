@@ -12,6 +12,7 @@ pub mod Accepted  -- what a reply tells of a configuration
 pub mod Log  -- what the code answered, and demand 3 of it
 pub mod Bench  -- the starred bench frames, as one list under one claim
 pub mod ServedHistory  -- a history that meets what demand 3 supposes
+pub mod LogExample  -- a log that meets what demand 3 of the code supposes
 pub mod Unique  -- no second answer fits a contract
 pub mod WithoutTable  -- frames that have nothing to do with the table
 pub mod Inside  -- what only inner functions say
