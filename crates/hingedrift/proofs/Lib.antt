@@ -10,6 +10,8 @@ pub mod Unique
 pub mod Kept
 -- demand 3 of what the functions left
 pub mod Logged
+-- a log that meets its suppositions
+pub mod LogExample
 -- the number of a value, from the store to the head-end
 pub mod Through
 -- what every call of the server's functions leaves

@@ -4,5 +4,6 @@ pub mod Serving  -- the server, a number and a report frame
 pub mod Left  -- what every call of these leaves
 pub mod Reading  -- the readers' functions
 pub mod Log  -- what the functions left, and demand 3 of it
+pub mod LogExample  -- a log that meets what demand 3 supposes
 pub mod Numbers  -- the number of a value, from the store to the head-end
 pub mod Unique  -- no second answer fits a contract

@@ -1,0 +1,83 @@
+-- A log of the functions towards C (specs/LogExample.antt), computed: it meets all that demand 3 of the bytes supposes. Assumes nothing.
+use mathlib.Core.Path.{_≡_, refl, sym, subst}
+use mathlib.Core.Bool.{Bool, true, false, cond}
+use mathlib.Core.List.{List, [], _∷_}
+use Prim.Native.Nat.{ℕ, zero, suc, _<_}
+use native.Mathlib.Omega.{arith}
+use lib.Dec.{ltb}
+use borrow.Author.Tests.{ltb-true}
+use Rattle.types.specs.Number.{AllBytes, allZero, le, bytesOf, unsignedAt, signedOf, signedAt, residue}
+use Rattle.types.specs.Ids.{sizeOf, formOf, isAnalog, isSigned, isFloat}
+use Rattle.types.specs.Value.{changeAt}
+use Rattle.types.specs.Extent.{upto, count}
+use Rattle.frame.specs.Header.{frameTypeOf, headerOf, replyHead}
+use Rattle.frame.specs.CommandIdentifier.{commandOf}
+use Rattle.frame.specs.Reply.{padded}
+use Rattle.frame.specs.Walk.{recordsIn, recordsFrom, walk}
+use Rattle.frame.specs.Encoded.{encodeAll, fits}
+use Rattle.frame.specs.Failures.{turn, passFrom, encodeFailures, answered, concluded, performed, headed}
+use Rattle.store.specs.Contents.{attributeAt, attributesFrom, attributesOf, findIn, findOf}
+use Rattle.store.specs.Layout.{each, ascending, roomOk, isText, lengthOk, followOn, endFrom, unusedOk, isStore}
+use Rattle.reporting.specs.Due.{movedBy}
+use Rattle.reporting.specs.Carried.{total, laid, numbersIn, rowsLaid, rowsIn, numbersOf, entryOf, inForm, tableBytes, slotsIn, tableIn, allInForm, isTable}
+use Rattle.reporting.specs.Events.{Event}
+use Rattle.reporting.specs.Demand3.{asksOf, Supposed, Promised}
+use Rattle.configure.specs.Request.{changeWidth, configureAt}
+use Rattle.configure.specs.Configure.{setting, tried, configureEvents, configureOf}
+use Rattle.server.specs.Serve.{commanded, typed, byHeader, tabled, serve}
+use Rattle.server.specs.Lent.{serveLent}
+use Rattle.server.specs.History.{requestEvents}
+use Rattle.server.specs.Bench.{T, key}
+use Rattle.server.specs.ServedHistory.{g}
+use Rattle.server.specs.LogExample.{configuring, crossed, told}
+use Rattle.server.proofs.LogExample as served
+use Rattle.hingedrift.specs.Tables.{onTable, newLeft, markLeft, askLeft}
+use Rattle.hingedrift.specs.LogExample.{was, new, first, after, LogStands, LogEvents, LogSupposed}
+use Rattle.hingedrift.proofs.Logged.{demand-3-of-bytes}
+
+-- ---- bytes, by a test
+
+abbrev small : List ℕ → Bool
+small [] = true
+small (b ∷ bs) = cond (ltb b 256) (small bs) false
+
+bytes-cons : (b : ℕ) (bs : List ℕ) → b < 256 → AllBytes bs → AllBytes (b ∷ bs)
+bytes-cons b bs h k zero = h
+bytes-cons b bs h k (suc i) = k i
+
+bytes-small : (l : List ℕ) → small l ≡ true → AllBytes l
+bytes-small [] e = λ i. omega arith
+bytes-small (b ∷ bs) e = go (ltb b 256) refl e (λ h. bytes-small bs h)
+  where
+    go : (c : Bool) → ltb b 256 ≡ c → cond c (small bs) false ≡ true → (small bs ≡ true → AllBytes bs) → AllBytes (b ∷ bs)
+    go true f h rec = bytes-cons b bs (ltb-true b 256 f) (rec h)
+    go false f h rec = let z : _≡_ {A = ℕ} 0 1 = cc in absurd (omega arith)
+
+store-bytes : AllBytes (T 0x07)
+store-bytes = bytes-small (T 0x07) refl
+
+-- ---- the log
+
+pub log-stands : LogStands
+unfolding allZero le bytesOf unsignedAt signedOf signedAt residue sizeOf formOf isAnalog isSigned isFloat changeAt upto count frameTypeOf headerOf replyHead commandOf padded recordsIn recordsFrom walk encodeAll fits turn passFrom encodeFailures answered concluded performed headed attributeAt attributesFrom attributesOf findIn findOf each ascending roomOk isText lengthOk followOn endFrom unusedOk isStore movedBy total laid numbersIn rowsLaid rowsIn numbersOf entryOf inForm tableBytes slotsIn tableIn allInForm isTable changeWidth configureAt setting tried configureEvents configureOf commanded typed byHeader tabled serve serveLent onTable newLeft markLeft askLeft
+log-stands = (
+  refl,
+  (
+    (store-bytes, bytes-small (configuring .frame) refl),
+    refl,
+    (tt, refl, ((omega arith, omega arith), refl, ((store-bytes, bytes-small (crossed .frame) refl), refl, (tt, refl, (tt, refl, tt))))),
+  ),
+)
+
+pub log-events : LogEvents
+unfolding allZero le bytesOf unsignedAt signedOf signedAt residue sizeOf formOf isAnalog isSigned isFloat changeAt upto count frameTypeOf headerOf replyHead commandOf padded recordsIn recordsFrom walk encodeAll fits turn passFrom encodeFailures answered concluded performed headed attributeAt attributesFrom attributesOf findIn findOf each ascending roomOk isText lengthOk followOn endFrom unusedOk isStore total laid numbersIn rowsLaid rowsIn numbersOf entryOf tableBytes slotsIn tableIn changeWidth configureAt setting tried configureEvents requestEvents
+log-events = (refl, refl)
+
+pub log-supposed : LogSupposed
+log-supposed = served.log-supposed
+
+pub log-promised : Promised g 59 (asksOf key told)
+log-promised =
+    subst (λ (es : List Event). Promised g 59 (asksOf key es)) (log-events .1)
+    (demand-3-of-bytes was new [] first after [] key g [] 59 (log-stands .0) (log-stands .1) (log-events .0) (log-supposed .0) (log-supposed .1)
+    (subst (Supposed key 59) (sym (log-events .1)) (log-supposed .2)))
