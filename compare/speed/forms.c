@@ -49,11 +49,11 @@ static void call(void)
     }
 }
 
-/* The call runs on a stack of its own, which was painted: what is no longer so was used. */
+/* It runs on a stack of its own, which was painted: what is no longer so was used. */
 static uint8_t painted[1 << 18];
 static ucontext_t here, there;
 
-static size_t stack_of_call(void)
+static size_t stack_of(void (*run)(void))
 {
     size_t low = 0;
 
@@ -62,32 +62,16 @@ static size_t stack_of_call(void)
     there.uc_stack.ss_sp = painted;
     there.uc_stack.ss_size = sizeof painted;
     there.uc_link = &here;
-    makecontext(&there, call, 0);
+    makecontext(&there, run, 0);
     swapcontext(&here, &there);
     while (low < sizeof painted && painted[low] == 0xa5)
         low++;
     return sizeof painted - low;
-}
-
-static void nothing(void)
-{
 }
 
 /* What starting on that stack takes without a call. */
-static size_t stack_of_none(void)
+static void nothing(void)
 {
-    size_t low = 0;
-
-    memset(painted, 0xa5, sizeof painted);
-    getcontext(&there);
-    there.uc_stack.ss_sp = painted;
-    there.uc_stack.ss_size = sizeof painted;
-    there.uc_link = &here;
-    makecontext(&there, nothing, 0);
-    swapcontext(&here, &there);
-    while (low < sizeof painted && painted[low] == 0xa5)
-        low++;
-    return sizeof painted - low;
 }
 
 static double nanoseconds(void)
@@ -112,7 +96,7 @@ static double nanoseconds(void)
 
 int main(void)
 {
-    size_t base = stack_of_none(), i;
+    size_t base = stack_of(nothing), i;
 
     table[0] = 16;
     for (i = 0; i < 16; i++) {
@@ -127,13 +111,13 @@ int main(void)
     printf("%-22s %-24s %8s %8s\n", "request", "table", "ns", "stack");
     for (row = rows; row < rows + sizeof rows / sizeof rows[0]; row++)
         for (form = LENT; form < COPY; form++) {
-            size_t stack = stack_of_call() - base;
+            size_t stack = stack_of(call) - base;
             if (said != 0)
                 return 1;
             printf("%-22s %-24s %8.1f %8zu\n", row->name, names[form], nanoseconds(), stack);
         }
     form = COPY;
-    i = stack_of_call() - base;
+    i = stack_of(call) - base;
     printf("%-22s %-24s %8.1f %8zu\n", "", names[COPY], nanoseconds(), i);
     return 0;
 }
