@@ -1,4 +1,4 @@
-// What Read Reporting Configuration looks up in the table, judged without it: the table is asked in one place, however it is held.
+// What Read Reporting Configuration looks up in the table, judged by the store alone: the table is asked in one place.
 ghost use Rattle.configure.specs.Inside.{Seeks};
 use super::key::key_for;
 use super::record::DIRECTION_REPORTED;

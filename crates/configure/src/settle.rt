@@ -1,4 +1,4 @@
-// One configuration: what is to be done with the table, judged without it, whether the table is a value or lent as bytes.
+// One configuration: what is to be done with the table, judged without it.
 ghost use mathlib.Core.Path.{_≡_};
 ghost use Rattle.store.specs.Contents.{nameOf, findOf};
 ghost use Rattle.reporting.specs.Table.{room, changeTold};
