@@ -1,7 +1,7 @@
 -- What the operations on a table's bytes find, and what they then say. Assumes nothing.
 use Prim.Native.Nat.{ℕ, zero, suc, _+_, _*_, _^_, _≤_, _<_}
 use mathlib.Core.Path.{_≡_, refl, ap, sym, _∙_}
-use mathlib.Core.Bool.{Bool, true, false, cond, _&&_, _||_, false≢true}
+use mathlib.Core.Bool.{Bool, true, false, cond, _&&_, _||_, and-true, and-false, false≢true}
 use mathlib.Core.List.{List, [], _∷_, _++_, map}
 use mathlib.Core.Option.{some}
 use native.Mathlib.Omega.{arith}
@@ -44,11 +44,11 @@ module _ (bs : List ℕ) (at : ℕ) (k : Key) (c a : ℕ) (ec : c ≡ unsignedAt
   key-at : matches k (entryOf (numbersIn widths (drop at bs))) ≡ (eqb c (k .cluster .0) && eqb a (k .attribute .0))
   key-at = ap (matches k) (entry-at bs at) ∙ (λ i. eqb (sym ec i) (k .cluster .0) && eqb (sym ea i) (k .attribute .0))
 
-  pub key-first : c ≡ k .cluster .0 → eqb a (k .attribute .0) ≡ matches k (entryOf (numbersIn widths (drop at bs)))
-  key-first h = sym (key-at ∙ ap (λ (b : Bool). b && eqb a (k .attribute .0)) (eq-eqb c (k .cluster .0) h))
+  pub key-first : a ≡ k .attribute .0 → eqb c (k .cluster .0) ≡ matches k (entryOf (numbersIn widths (drop at bs)))
+  key-first h = sym (key-at ∙ ap (λ (b : Bool). eqb c (k .cluster .0) && b) (eq-eqb a (k .attribute .0) h) ∙ and-true (eqb c (k .cluster .0)))
 
-  pub key-not : (c ≡ k .cluster .0 → ⊥) → eqb c (k .cluster .0) ≡ matches k (entryOf (numbersIn widths (drop at bs)))
-  key-not h = ne-eqb c (k .cluster .0) h ∙ sym (key-at ∙ ap (λ (b : Bool). b && eqb a (k .attribute .0)) (ne-eqb c (k .cluster .0) h))
+  pub key-not : (a ≡ k .attribute .0 → ⊥) → eqb a (k .attribute .0) ≡ matches k (entryOf (numbersIn widths (drop at bs)))
+  key-not h = ne-eqb a (k .attribute .0) h ∙ sym (key-at ∙ ap (λ (b : Bool). eqb c (k .cluster .0) && b) (ne-eqb a (k .attribute .0) h) ∙ and-false (eqb c (k .cluster .0)))
 
 nth-row : (n : ℕ) (bs : List ℕ) (i : ℕ) (d : Entry) → i < n → getD (map entryOf (rowsIn widths n bs)) i d ≡ entryOf (numbersIn widths (drop (29 * i) bs))
 unfolding rowsIn

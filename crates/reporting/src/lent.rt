@@ -26,14 +26,14 @@ use super::table::Setting;
 use frame::answer::Refusal;
 use frame::reply::clear;
 
-// Whether the slot at `at` is the key's.
+// Whether the slot at `at` is the key's. The attribute first: the slots of one store have one cluster.
 fn slot_is_of(bytes: &[u8], at: usize, key: Key) -> bool
     requires { ⌜ at + 29 ≤ length (now bytes) ⌝ }
     ensures { λ r. ⌜ r ≡ matches key (entryOf (numbersIn widths (drop at (now (bytes .entry))))) ⌝ }
 {
     let cluster = u16_in(bytes, at);
     let attribute = u16_in(bytes, at + 2);
-    cluster == key.cluster.0 && attribute == key.attribute.0
+    attribute == key.attribute.0 && cluster == key.cluster.0
 }
 
 // The place of the key's first slot, or the count where there is none. Not public: the bytes must be a table.

@@ -1,6 +1,6 @@
 -- A request's checks, one by one; and the same request over bytes that carry its table, and over a table by value. Assumes nothing.
 use mathlib.Core.Path.{_≡_, refl, sym, ap, _∙_}
-use mathlib.Core.Bool.{Bool, true, false, cond}
+use mathlib.Core.Bool.{Bool, true, false, cond, false≢true}
 use mathlib.Core.List.{List, map}
 use Prim.Native.Nat.{ℕ, _≤_}
 use native.Mathlib.Omega.{arith}
@@ -10,7 +10,6 @@ use borrow.Author.Tests.{eq-eqb, ne-eqb, le-ltb, lt-ltb, leb-true, leb-false}
 use Rattle.types.specs.Number.{AllBytes}
 use Rattle.frame.specs.declared.header.HeaderRead.{HeaderRead}
 use Rattle.frame.specs.declared.answer.Answer.{Answer}
-use Rattle.frame.specs.declared.answer.Refusal.{Refusal}
 use Rattle.frame.specs.declared.answer.Refusal.the-variants.{OtherCluster, NotAStore, NotATable}
 use Rattle.frame.specs.Header.{headerOf}
 use Rattle.frame.specs.Answer.{noState, seen, refused}
@@ -29,7 +28,8 @@ use Rattle.reporting.proofs.CarriageLoops.{known-count, table-size}
 use Rattle.reporting.proofs.Slots.{live-length}
 use Rattle.configure.proofs.Settings.{carries-is, carries-own}
 use Rattle.server.specs.Serve.{state, within, byHeader, tabled, serve}
-use Rattle.server.specs.Lent.{lent, carried, serveLent}
+use Rattle.server.specs.Lent.{Lent, lent, carried, serveLent}
+use Rattle.server.specs.Inside.{Over}
 
 -- ---- the checks, one by one
 
@@ -47,21 +47,49 @@ module _ (s : List ℕ) (l : List Entry) (cluster : ℕ) (unicast : Bool) (frame
     unfolding serve tabled
     serve-read q r e = ap (byHeader 8 room s (holding l) unicast frame n) e ∙ rw (store, eq-eqb cluster (clusterOf s) (sym q ∙ is))
 
+-- ---- over bytes of which it is known whether they are a table
+
+module _ (s bs : List ℕ) (cluster : ℕ) (unicast : Bool) (frame : List ℕ) (n : ℕ) (known : Bool) (a : Answer) (d : List ℕ) where
+  pub over-no-store : isStore 8 s ≡ false → (known ≡ true → isTable room bs ≡ true) → seen a d noState ≡ refused n NotAStore noState
+      → Over known s bs cluster unicast frame n a d s bs
+  over-no-store h is e =
+      record {
+        stays = is;
+        served = λ k. refused-with a d n NotAStore (state s (holding (tableIn bs))) e ∙ serve-no-store s (tableIn bs) cluster unicast frame n h;
+        fails = λ k. refused-with a d n NotAStore (lent s bs) e ∙ ap (λ (b : Bool). refused n (cond b NotATable NotAStore) (lent s bs)) (sym h);
+      }
+
+  pub over-no-table : isStore 8 s ≡ true → known ≡ false → seen a d noState ≡ refused n NotATable noState → Over known s bs cluster unicast frame n a d s bs
+  over-no-table h none e =
+      record {
+        stays = λ k. absurd (false≢true (sym none ∙ k));
+        served = λ k. absurd (false≢true (sym none ∙ k));
+        fails = λ k. refused-with a d n NotATable (lent s bs) e ∙ ap (λ (b : Bool). refused n (cond b NotATable NotAStore) (lent s bs)) (sym h);
+      }
+
+  pub over-table : known ≡ true → (s′ bs′ : List ℕ) → isTable room bs′ ≡ true
+      → seen a d (state s′ (holding (tableIn bs′))) ≡ serve 8 room s (holding (tableIn bs)) cluster unicast frame n → Over known s bs cluster unicast frame n a d s′ bs′
+  over-table one s′ bs′ is e = record { stays = λ k. is; served = λ k. e; fails = λ k. absurd (false≢true (sym k ∙ one)) }
+
 -- ---- over bytes
 
 module _ (s bs : List ℕ) (cluster : ℕ) (unicast : Bool) (frame : List ℕ) (n : ℕ) (a : Answer) (d : List ℕ) where
   -- that are no table
-  pub lent-refused : isTable room bs ≡ false → (why : Refusal) → why ≡ cond (isStore 8 s) NotATable NotAStore → seen a d noState ≡ refused n why noState
-      → seen a d (lent s bs) ≡ serveLent s bs cluster unicast frame n
+  lent-refused : isTable room bs ≡ false → refused n (cond (isStore 8 s) NotATable NotAStore) (lent s bs) ≡ serveLent s bs cluster unicast frame n
   unfolding serveLent
-  lent-refused is why w e = refused-with a d n why (lent s bs) e ∙ ap (λ (y : Refusal). refused n y (lent s bs)) w ∙ rw is
+  lent-refused is = rw is
 
   -- that are one: they are one still, and these are its bytes
-  pub lent-served : isTable room bs ≡ true → (s′ bs′ : List ℕ) → AllBytes bs′ → isTable room bs′ ≡ true
+  lent-served : isTable room bs ≡ true → (s′ bs′ : List ℕ) → AllBytes bs′ → isTable room bs′ ≡ true
       → seen a d (state s′ (holding (tableIn bs′))) ≡ serve 8 room s (holding (tableIn bs)) cluster unicast frame n → seen a d (lent s′ bs′) ≡ serveLent s bs cluster unicast frame n
   unfolding serveLent
   lent-served is s′ bs′ b is′ e =
       ap (λ (x : List ℕ). seen a d (lent s′ x)) (sym (bytes-back room bs′ b is′)) ∙ ap (within (carried bs)) e ∙ rw is
+
+  pub lent-over : (known : Bool) → known ≡ isTable room bs → (s′ bs′ : List ℕ) → AllBytes bs′ → Over known s bs cluster unicast frame n a d s′ bs′
+      → seen a d (lent s′ bs′) ≡ serveLent s bs cluster unicast frame n
+  lent-over true is s′ bs′ b o = lent-served (sym is) s′ bs′ b (o .stays refl) (o .served refl)
+  lent-over false is s′ bs′ b o = o .fails refl ∙ lent-refused (sym is)
 
 -- ---- over a value
 
@@ -95,11 +123,11 @@ module _ (s : List ℕ) (t : ReportingTable) (cluster : ℕ) (unicast : Bool) (f
       go false = refl
 
   -- that is no table
-  pub value-refused : tableOf t ≡ bad t → (why : Refusal) → why ≡ cond (isStore 8 s) NotATable NotAStore → seen a d noState ≡ refused n why noState
-      → seen a d (state s (tableOf t)) ≡ serve 8 room s (quietedT (tableOf t)) cluster unicast frame n
-  value-refused h why w e =
-      refused-with a d n why (state s (tableOf t)) e
-      ∙ (λ i. refused n (w i) (state s (h i)))
+  pub value-refused : tableOf t ≡ bad t → (bs s′ bs′ : List ℕ) → seen a d (lent s′ bs′) ≡ refused n (cond (isStore 8 s) NotATable NotAStore) (lent s bs)
+      → seen a d (state s′ (tableOf t)) ≡ serve 8 room s (quietedT (tableOf t)) cluster unicast frame n
+  value-refused h bs s′ bs′ e =
+      ap (within (λ (x : Lent). state (x .store) (tableOf t))) e
+      ∙ ap (λ (x : Table). refused n (cond (isStore 8 s) NotATable NotAStore) (state s x)) h
       ∙ refused-bad t
       ∙ sym (ap (λ (x : Table). serve 8 room s (quietedT x) cluster unicast frame n) h)
 

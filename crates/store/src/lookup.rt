@@ -37,11 +37,14 @@ pub fn name_of(code: ManufacturerCode, id: AttributeId) -> Name
     Name(id.0 as u32)
 }
 
-// The cluster that a store belongs to.
+// The cluster that a store belongs to. Where its two bytes are there, they are lent as such: neither is asked again whether it is.
 pub fn cluster_of(s: &[u8]) -> ClusterId
     ensures { λ r. ⌜ r .0 ≡ clusterOf (now (s .entry)) ⌝ }
 {
-    ClusterId(u16_at(s, 0))
+    if s.len() < 2 {
+        return ClusterId(u16_at(s, 0));
+    }
+    ClusterId(u16_at(&s[0..2], 0))
 }
 
 // How many attributes the contents list.
