@@ -10,13 +10,13 @@ use borrow.Author.Tests.{eq-eqb, ne-eqb, le-leb, lt-leb}
 use Rattle.frame.specs.declared.answer.Answer.{Answer}
 use Rattle.frame.specs.declared.reply.Put.{Put}
 use Rattle.frame.specs.Answer.{answerNumber, answerLength, noState, seen}
-use Rattle.frame.specs.Reply.{Putting, putting, put}
+use Rattle.frame.specs.Inside.Buffer.{Putting, putting, put}
 use Rattle.frame.proofs.Buffer.{put-fits, part-at}
 use Rattle.store.specs.Contents.{clusterOf}
 use Rattle.store.specs.Layout.{isStore}
 use Rattle.store.proofs.Layouts.{store-is}
 use Rattle.reporting.specs.declared.table.ReportingTable.{ReportingTable}
-use Rattle.reporting.specs.Table.{room, tableOf, holding}
+use Rattle.reporting.specs.Table.{capacity, tableOf, holding}
 use Rattle.reporting.specs.Lent.{quietedT}
 use Rattle.server.specs.Serve.{State, serve}
 use Rattle.bench.specs.Bench.{decimal, hex, said, servedOf, lengthOf, benchOf}
@@ -52,11 +52,11 @@ copied d s after r h e = ap (λ (p : Putting). take (length s) (p .buffer)) (e �
 -- a call on the copy, with a new table
 pub said-served : (s copy request after : List ℕ) (t : ReportingTable) (cluster : ℕ) (a : Answer) (left : State)
     → take (length s) copy ≡ s → tableOf t ≡ holding [] → cluster ≡ clusterOf s
-    → seen a after left ≡ serve 8 room (take (length s) copy) (quietedT (tableOf t)) cluster true request 64
+    → seen a after left ≡ serve 8 capacity (take (length s) copy) (quietedT (tableOf t)) cluster true request 64
     → said (seen a after noState) ≡ said (servedOf s request)
 unfolding said
 said-served s copy request after t cluster a left c n k e =
-    ap said e ∙ (λ i. said (serve 8 room (c i) (quietedT (n i)) (k i) true request 64))
+    ap said e ∙ (λ i. said (serve 8 capacity (c i) (quietedT (n i)) (k i) true request 64))
 
 -- ---- the input
 

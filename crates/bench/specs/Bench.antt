@@ -1,4 +1,4 @@
--- DOCUMENT 01'S BENCH PROGRAM ("Bench frames", last paragraph): what is written for what is read. Assumes nothing: these are definitions.
+-- Definitions. DOCUMENT 01'S BENCH PROGRAM ("Bench frames", last paragraph): what is written for what is read.
 use Prim.Native.Nat.{ℕ, _+_}
 use mathlib.Core.Bool.{true, cond}
 use mathlib.Core.List.{List, [], _∷_, _++_}
@@ -9,7 +9,7 @@ use Rattle.types.specs.Number.{unsignedAt}
 use Rattle.frame.specs.Answer.{Outcome, refusalNumber}
 use Rattle.frame.specs.declared.answer.Refusal.the-variants.{NotAStore}
 use Rattle.store.specs.Contents.{clusterOf}
-use Rattle.reporting.specs.Table.{holding, room}
+use Rattle.reporting.specs.Table.{holding, capacity}
 use Rattle.server.specs.Serve.{State, serve}
 
 -- ---- the text
@@ -34,7 +34,7 @@ said o = cond (eqb (o .number) 0) (decimal 0 ++ (space ∷ hex (take (o .size) (
 
 -- "unicast, the store's cluster, empty table, room 64"
 abbrev pub servedOf : List ℕ → List ℕ → Outcome State
-servedOf store request = serve 8 room store (holding []) (clusterOf store) true request 64
+servedOf store request = serve 8 capacity store (holding []) (clusterOf store) true request 64
 
 -- "a two-byte store length"; of fewer bytes than two it is what they say, and the store is cut short
 abbrev pub lengthOf : List ℕ → ℕ

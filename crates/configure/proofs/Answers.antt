@@ -11,7 +11,7 @@ use Rattle.frame.specs.declared.header.ZclHeader.{ZclHeader}
 use Rattle.frame.specs.declared.reply.Put.{Put}
 use Rattle.frame.specs.declared.status.Status.the-variants.{UnsupportedAttribute, UnreportableAttribute, NotFound}
 use Rattle.frame.specs.Status.{statusCode}
-use Rattle.frame.specs.Reply.{putting, put}
+use Rattle.frame.specs.Inside.Buffer.{putting, put}
 use Rattle.frame.proofs.Shortened.{turned-put}
 use Rattle.store.specs.declared.lookup.Attribute.{Attribute}
 use Rattle.store.specs.declared.lookup.Found.{Found}

@@ -17,7 +17,7 @@ use Rattle.store.specs.Contents.{nameOf, findOf, reportable}
 use Rattle.reporting.specs.declared.entry.Key.{Key}
 use Rattle.reporting.specs.declared.entry.Entry.{Entry}
 use Rattle.reporting.specs.Entries.{lookupL}
-use Rattle.reporting.specs.Table.{Table, sound, bad}
+use Rattle.reporting.specs.Table.{Table, holding, bad}
 use Rattle.configure.specs.Request.{Asked, asked, askedFrom, keyFor}
 use Rattle.configure.specs.Configuration.{SettingRecord, setting, failure, encode, recordBy, recordFor, configurationOf}
 
@@ -44,7 +44,7 @@ module _ (form : ℕ) (s : List ℕ) (request : ZclHeader) where
   -- the reply is never longer than the room
   pub configuration-within : (T : Table) (body : List ℕ) (room : ℕ) → configurationOf form s T request body room .size ≤ room
   unfolding configurationOf
-  configuration-within (sound n l) body room =
+  configuration-within (holding l) body room =
       shortened-within encode (λ fit. recordFor form s l request) (replyHead request ReadReportingConfigurationResponse) (askedFrom body 0) room
   configuration-within (bad t) body room = omega arith
 

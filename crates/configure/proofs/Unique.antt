@@ -2,12 +2,12 @@
 use mathlib.Core.Path.{sym, _∙_}
 use lib.ListN.{length}
 use Rattle.frame.proofs.Outcome.{only-one, only-answer}
-use Rattle.reporting.specs.Table.{room, holding}
+use Rattle.reporting.specs.Table.{capacity, holding}
 use Rattle.reporting.specs.Carried.{tableIn}
 use Rattle.reporting.proofs.Unique.{one-carried}
 use Rattle.configure.specs.Configuration.{configurationOf}
 use Rattle.configure.specs.Configure.{configureOf}
-use Rattle.configure.specs.Unique.{ChangeWidthOnce, ReadReportingConfigurationOnce, ConfigureReportingOnce}
+use Rattle.configure.specs.Claims.Unique.{ChangeWidthOnce, ReadReportingConfigurationOnce, ConfigureReportingOnce}
 
 -- src/change.rt
 
@@ -23,5 +23,5 @@ read-reporting-configuration-once store table request body reply r q x y e f = o
 
 pub configure-reporting-once : ConfigureReportingOnce
 configure-reporting-once store table request body reply r q x y t u a b e f =
-    let w = only-one (configureOf 8 room store (holding (tableIn table)) request body (length reply)) r q x y (holding (tableIn t)) (holding (tableIn u)) (e .1) (f .1) in
+    let w = only-one (configureOf 8 capacity store (holding (tableIn table)) request body (length reply)) r q x y (holding (tableIn t)) (holding (tableIn u)) (e .1) (f .1) in
     (w .0, (w .1 .0, one-carried t u a b (e .0) (f .0) (w .1 .1)))

@@ -11,7 +11,7 @@ use Rattle.frame.specs.Reply.{padded}
 use Rattle.frame.specs.Answer.{Outcome}
 use Rattle.frame.specs.Walk.{recordsIn, recordsFrom, walk}
 use Rattle.frame.specs.Encoded.{encodeAll, fits}
-use Rattle.frame.specs.Shortened.{turn, shortenedFrom, shortenedReply, shortened}
+use Rattle.frame.specs.Shortened.{withRecordFor, shortenedFrom, shortenedReply, shortened}
 use Rattle.store.specs.Contents.{attributeAt, attributesFrom, attributesOf, findIn, findOf}
 use Rattle.reporting.specs.Entries.{fresh}
 use Rattle.reporting.specs.Table.{holding}
@@ -60,5 +60,5 @@ whole =
 
 -- the room is 30 bytes, just enough; or 29, too little for the last record; or 13, too little for the first, and the rest is not read
 worked : (answer 30 .reply ≡ whole) × ((answer 29 .reply ≡ take 26 whole ++ zeros 3) × (answer 13 .size ≡ 3))
-unfolding configurationOf shortened shortenedFrom shortenedReply turn walk recordsFrom recordsIn encodeAll fits askedAt recordFor recordBy encode changeWidth isAnalog sizeOf bytesOf unsignedAt le padded replyHead attributeAt attributesFrom attributesOf findIn findOf
+unfolding configurationOf shortened shortenedFrom shortenedReply withRecordFor walk recordsFrom recordsIn encodeAll fits askedAt recordFor recordBy encode changeWidth isAnalog sizeOf bytesOf unsignedAt le padded replyHead attributeAt attributesFrom attributesOf findIn findOf
 worked = (refl, (refl, refl))

@@ -1,5 +1,4 @@
--- Read Reporting Configuration (document 01, "Commands, step by step", Read configuration; ZCL 2.5.9, 2.5.10). Assumes nothing: these are
--- definitions.
+-- Definitions. Read Reporting Configuration (document 01, "Commands, step by step", Read configuration; ZCL 2.5.9, 2.5.10).
 use Prim.Native.Nat.{ℕ, _*_, _%_, _^_}
 use mathlib.Core.Bool.{cond}
 use mathlib.Core.List.{List, _∷_, _++_}
@@ -21,7 +20,7 @@ use Rattle.reporting.specs.declared.entry.Key.{Key}
 use Rattle.reporting.specs.declared.entry.ReportingConfig.{ReportingConfig}
 use Rattle.reporting.specs.declared.entry.Entry.{Entry}
 use Rattle.reporting.specs.Entries.{lookupL}
-use Rattle.reporting.specs.Table.{Table, sound, bad}
+use Rattle.reporting.specs.Table.{Table, holding, bad}
 use Rattle.configure.specs.Request.{Asked, askedFrom, changeWidth, keyFor}
 
 -- ---- the reply: a record for each that was asked
@@ -66,6 +65,6 @@ recordFor form s l request r = recordBy l (keyFor s request (r .id)) r (findOf f
 -- READ REPORTING CONFIGURATION: the header, and a record for each that was asked as long as they fit. A table with a count above the
 -- limit is none: 8
 unfoldable pub configurationOf : ℕ → List ℕ → Table → ZclHeader → List ℕ → ℕ → Outcome (Unit {0})
-configurationOf form s (sound n l) request body room =
+configurationOf form s (holding l) request body room =
     shortened encode (λ fit. recordFor form s l request) (replyHead request ReadReportingConfigurationResponse) (askedFrom body 0) room
 configurationOf form s (bad t) request body room = refused room NotATable noState

@@ -1,8 +1,8 @@
--- What inner functions say; nothing that a caller of this crate must believe. Assumes nothing: these are definitions.
+-- Inside. What inner functions say; nothing that a caller must believe.
 use mathlib.Core.Path.{_≡_}
 use Prim.Native.Nat.{ℕ}
-use mathlib.Core.Bool.{Bool, true}
-use mathlib.Core.List.{List, [], _∷_, _++_}
+use mathlib.Core.Bool.{true}
+use mathlib.Core.List.{List}
 use Rattle.frame.specs.declared.header.ZclHeader.{ZclHeader}
 use Rattle.frame.specs.declared.status.Status.{Status}
 use Rattle.frame.specs.declared.status.Status.the-variants.{Success}
@@ -10,12 +10,12 @@ use Rattle.frame.specs.declared.failures.Pass.{Pass}
 use Rattle.frame.specs.Status.{statusCode}
 use Rattle.frame.specs.Walk.{Item, item, unread}
 use Rattle.frame.specs.Failures.{Did, did}
-use Rattle.frame.specs.Passes.{Passed}
+use Rattle.frame.specs.Inside.Passes.{Passed}
 use Rattle.reporting.specs.declared.entry.Entry.{Entry}
-use Rattle.reporting.specs.Entries.{acceptsL, lookupL}
-use Rattle.reporting.specs.Table.{room}
-use Rattle.reporting.specs.Carried.{seen, readT}
-use Rattle.reporting.specs.Events.{Event, cleared, run, sets, statusW, eventsW}
+use Rattle.reporting.specs.Entries.{acceptsL, configureL, clearL, lookupL}
+use Rattle.reporting.specs.Table.{capacity}
+use Rattle.reporting.specs.Carried.{tableIn, isTable}
+use Rattle.reporting.specs.Wish.{toSet, statusW}
 use Rattle.configure.specs.declared.record.Next.{Next}
 use Rattle.configure.specs.declared.settle.Deed.{Deed}
 use Rattle.configure.specs.declared.pass.Turn.{Turn}
@@ -24,7 +24,7 @@ use Rattle.configure.specs.Configure.{failure, failing, tried, configuri
 use lib.ListN.{length}
 use Rattle.frame.specs.declared.answer.Answer.{Answer}
 use Rattle.frame.specs.declared.reply.Put.{Put}
-use Rattle.frame.specs.Shortened.{Turned, Walked}
+use Rattle.frame.specs.Inside.Shortened.{Turned, Walked}
 use Rattle.configure.specs.declared.configuration.NextAsked.{NextAsked}
 use Rattle.configure.specs.declared.seek.Sought.{Sought}
 use Rattle.configure.specs.Configuration.{SettingRecord, encode, settingBy, recordFor}
@@ -39,30 +39,20 @@ itemOf Next.Cut = unread
 
 -- ---- a configuration and the table
 
--- bytes that are a table of these entries
-abbrev pub Carries : List ℕ → List Entry → Type 0
-Carries bs l = readT room bs ≡ seen true l
+-- what a deed comes to: its status, and the entries afterwards
+abbrev pub deedOf : Deed → List Entry → Did (List Entry)
+deedOf (Deed.Fails why) l = did why l
+deedOf (Deed.Clears k) l = did Success (clearL k l)
+deedOf (Deed.Sets k g) l = did (statusW toSet (acceptsL capacity k l)) (configureL capacity k g l)
 
--- what a deed comes to in a table that events left: its status, and the events with its own behind them
-abbrev pub deedOf : Deed → List Entry → List Event → Did (List Event)
-deedOf (Deed.Fails why) l es = did why es
-deedOf (Deed.Clears k) l es = did Success (es ++ cleared k ∷ [])
-deedOf (Deed.Sets k g) l es =
-    let accepted : Bool = acceptsL room k (run room es l) in
-    did (statusW sets accepted) (es ++ eventsW sets accepted k g)
+-- it is what the definition wants, whatever the entries
+abbrev pub Judges : (List Entry → Did (List Entry)) → Deed → Type 0
+Judges want deed = (l : List Entry) → deedOf deed l ≡ want l
 
--- it is what the definition wants, whatever the table
-abbrev pub Judges : (List Entry → List Event → Did (List Event)) → Deed → Type 0
-Judges want deed = (l : List Entry) (es : List Event) → deedOf deed l es ≡ want l es
-
--- it was done: this status was given, and the bytes are the table that its events leave
-pub record Does (bs : List ℕ) (l : List Entry) (want : Did (List Event)) (status : Status) : Type 0 where
-  pub is : status ≡ want .status
-  pub left : Carries bs (run room (want .state) l)
-
--- from these bytes on, and to those
-abbrev pub Settles : Deed → List ℕ → List ℕ → Status → Type 0
-Settles deed before after status = (l : List Entry) (es : List Event) → Carries before (run room es l) → Does after l (deedOf deed l es) status
+-- it was done in the bytes of a table, with this status: they are a table again, of the entries that it leaves
+pub record Settles (deed : Deed) (before after : List ℕ) (status : Status) : Type 0 where
+  pub table : isTable capacity after ≡ true
+  pub is : did status (tableIn after) ≡ deedOf deed (tableIn before)
 
 -- ---- the pass
 
@@ -71,20 +61,16 @@ pub record Took (s : List ℕ) (request : ZclHeader) (body : List ℕ) (at end d
   pub taken : ConfigureRecord
   pub is : configureAt body at ≡ item taken end
   pub named : (status : Status) → failure (statusCode status) direction id ≡ failing status taken
-  pub judged : Judges (λ l es. tried 8 room s request l es taken) deed
+  pub judged : Judges (λ l. tried 8 capacity s request l taken) deed
 
 abbrev pub Turns : List ℕ → ZclHeader → List ℕ → ℕ → Turn → Type 0
 Turns s request body at (Turn.Read end direction id deed) = Took s request body at end direction (id .0) deed
 Turns s request body at Turn.Cut = configureAt body at ≡ unread
 
--- every record was done, in a table of these entries and behind whatever head the buffer showed
-pub record Ran (s : List ℕ) (request : ZclHeader) (body : List ℕ) (start : ℕ) (l : List Entry) (d : List ℕ) (done : Pass) (bs after : List ℕ) : Type 0 where
-  pub events : List Event
-  pub left : Carries bs (run room events l)
-  pub passed : Passed (configuring 8 room s request l) (configures body) start [] d done events after
-
-abbrev pub Runs : List ℕ → ZclHeader → List ℕ → ℕ → List ℕ → List ℕ → Pass → List ℕ → List ℕ → Type 0
-Runs s request body start bs₀ d done bs after = (l : List Entry) → Carries bs₀ l → Ran s request body start l d done bs after
+-- every record was done in the bytes of a table, behind whatever head the buffer showed
+pub record Runs (s : List ℕ) (request : ZclHeader) (body : List ℕ) (start : ℕ) (bs₀ d : List ℕ) (done : Pass) (bs after : List ℕ) : Type 0 where
+  pub table : isTable capacity bs ≡ true
+  pub passed : Passed (configuring 8 capacity s request) (configures body) start (tableIn bs₀) d done (tableIn bs) after
 
 -- ---- 08
 

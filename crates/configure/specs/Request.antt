@@ -1,5 +1,4 @@
--- The records of the two requests: Configure Reporting (ZCL 2.5.7) and Read Reporting Configuration (2.5.9). Assumes nothing: these
--- are definitions.
+-- Definitions. The records of the two requests: Configure Reporting (ZCL 2.5.7) and Read Reporting Configuration (2.5.9).
 use Prim.Native.Nat.{ℕ, _+_}
 use mathlib.Core.Bool.{cond}
 use mathlib.Core.List.{List}

@@ -5,9 +5,9 @@ ghost use mathlib.Core.Option.{Option};
 ghost use lib.ListN.{length};
 ghost use Rattle.frame.specs.Status.{statusCode};
 ghost use Rattle.frame.specs.Answer.{seen, noState};
-ghost use Rattle.frame.specs.Reply.{putting, put};
+ghost use Rattle.frame.specs.Inside.Buffer.{putting, put};
 ghost use Rattle.reporting.specs.declared.entry.Entry.{Entry};
-ghost use Rattle.reporting.specs.Table.{room, holding, settingTold, settingO};
+ghost use Rattle.reporting.specs.Table.{capacity, holding, settingTold, settingO};
 ghost use Rattle.reporting.specs.Carried.{tableIn, isTable};
 ghost use Rattle.configure.specs.Request.{asked, askedAt};
 ghost use Rattle.configure.specs.Configuration.{setting, failure, encode, sentAs, settingBy, configurationOf};
@@ -133,7 +133,7 @@ fn configuration_turn(
     reply: &mut [u8],
     out: usize,
 ) -> Put
-    requires { ⌜ isTable room (now table) ≡ true ⌝ }
+    requires { ⌜ isTable capacity (now table) ≡ true ⌝ }
     ensures { λ r. ⌜ Answered (now (store .entry)) (tableIn (now (table .entry))) request direction (id .0) (now (reply .entry)) out r (now (reply .exit)) ⌝ }
 {
     let sought = seek(store, request, direction, id);
@@ -155,7 +155,7 @@ fn configuration_records(
     reply: &mut [u8],
     from: usize,
 ) -> Answer
-    requires { ⌜ isTable room (now table) ≡ true ⌝ }
+    requires { ⌜ isTable capacity (now table) ≡ true ⌝ }
     ensures { λ r. ⌜ AllAnswered (now (store .entry)) (tableIn (now (table .entry))) request (now (body .entry)) (now (reply .entry)) from r (now (reply .exit)) ⌝ }
 {
     let mut at: usize = 0;
@@ -183,7 +183,7 @@ pub fn read_reporting_configuration(
     body: &[u8],
     reply: &mut [u8],
 ) -> Answer
-    requires { ⌜ isTable room (now table) ≡ true ⌝ }
+    requires { ⌜ isTable capacity (now table) ≡ true ⌝ }
     ensures { λ r. ⌜ seen r (now (reply .exit)) noState ≡ configurationOf 8 (now (store .entry)) (holding (tableIn (now (table .entry)))) request (now (body .entry)) (length (now (reply .entry))) ⌝ }
 {
     clear(reply);

@@ -3,7 +3,7 @@ ghost use mathlib.Core.Path.{_≡_};
 ghost use mathlib.Core.Bool.{true};
 ghost use lib.ListN.{length};
 ghost use Rattle.frame.specs.Answer.{seen};
-ghost use Rattle.reporting.specs.Table.{room, holding};
+ghost use Rattle.reporting.specs.Table.{capacity, holding};
 ghost use Rattle.reporting.specs.Carried.{tableIn, isTable};
 ghost use Rattle.configure.specs.Configure.{configureOf};
 use super::pass::configure_records;
@@ -25,9 +25,9 @@ pub fn configure_reporting(
     body: &[u8],
     reply: &mut [u8],
 ) -> Answer
-    requires { ⌜ isTable room (now table) ≡ true ⌝ }
-    ensures { λ _. ⌜ isTable room (now (table .exit)) ≡ true ⌝ }
-    ensures { λ r. ⌜ seen r (now (reply .exit)) (holding (tableIn (now (table .exit)))) ≡ configureOf 8 room (now (store .entry)) (holding (tableIn (now (table .entry)))) request (now (body .entry)) (length (now (reply .entry))) ⌝ }
+    requires { ⌜ isTable capacity (now table) ≡ true ⌝ }
+    ensures { λ _. ⌜ isTable capacity (now (table .exit)) ≡ true ⌝ }
+    ensures { λ r. ⌜ seen r (now (reply .exit)) (holding (tableIn (now (table .exit)))) ≡ configureOf 8 capacity (now (store .entry)) (holding (tableIn (now (table .entry)))) request (now (body .entry)) (length (now (reply .entry))) ⌝ }
 {
     let begun = begin_reply(
         reply,

@@ -2,9 +2,9 @@
 ghost use mathlib.Core.Path.{_≡_};
 ghost use mathlib.Core.Bool.{true};
 ghost use Rattle.frame.specs.Status.{statusCode};
-ghost use Rattle.frame.specs.Reply.{putting};
-ghost use Rattle.frame.specs.Failures.{noting};
-ghost use Rattle.reporting.specs.Table.{room};
+ghost use Rattle.frame.specs.Inside.Buffer.{putting};
+ghost use Rattle.frame.specs.Inside.Failures.{noting};
+ghost use Rattle.reporting.specs.Table.{capacity};
 ghost use Rattle.reporting.specs.Carried.{isTable};
 ghost use Rattle.configure.specs.Configure.{failure, encode};
 ghost use Rattle.configure.specs.Inside.{Settles, Turns, Runs};
@@ -74,7 +74,7 @@ fn note(reply: &mut [u8], out: usize, status: Status, direction: u8, id: Attribu
 
 // A deed done in the table, and what it came to.
 fn done(table: &mut [u8], deed: Deed) -> Status
-    requires { ⌜ isTable room (now table) ≡ true ⌝ }
+    requires { ⌜ isTable capacity (now table) ≡ true ⌝ }
     ensures { λ r. ⌜ Settles deed (now (table .entry)) (now (table .exit)) r ⌝ }
 {
     match deed {
@@ -99,7 +99,7 @@ pub(crate) fn configure_records(
     reply: &mut [u8],
     start: usize,
 ) -> Pass
-    requires { ⌜ isTable room (now table) ≡ true ⌝ }
+    requires { ⌜ isTable capacity (now table) ≡ true ⌝ }
     ensures { λ r. ⌜ Runs (now (store .entry)) request (now (body .entry)) start (now (table .entry)) (now (reply .entry)) r (now (table .exit)) (now (reply .exit)) ⌝ }
 {
     let mut at: usize = 0;

@@ -1,8 +1,8 @@
 // One configuration: what is to be done with the table, judged without it.
 ghost use mathlib.Core.Path.{_≡_};
 ghost use Rattle.store.specs.Contents.{nameOf, findOf};
-ghost use Rattle.reporting.specs.Table.{room, changeTold};
-ghost use Rattle.reporting.specs.Events.{sets, statusW};
+ghost use Rattle.reporting.specs.Table.{capacity, changeTold};
+ghost use Rattle.reporting.specs.Wish.{toSet, statusW};
 ghost use Rattle.configure.specs.Request.{keyFor};
 ghost use Rattle.configure.specs.Configure.{checked, setting};
 ghost use Rattle.configure.specs.Inside.{Judges};
@@ -30,7 +30,7 @@ pub(crate) enum Deed {
 
 // By its intervals: maximum ffff, or maximum 0 with minimum ffff, clears; a maximum that is not 0 and below the minimum is wrong, 87.
 fn wished(key: Key, config: ReportingConfig) -> Deed
-    ensures { λ r. ⌜ Judges (λ l es. setting room l key config es) r ⌝ }
+    ensures { λ r. ⌜ Judges (setting capacity key config) r ⌝ }
 {
     let max = config.max_interval;
     let min = config.min_interval;
@@ -57,7 +57,7 @@ pub(crate) fn judge(
     type_id: TypeId,
     config: ReportingConfig,
 ) -> Deed
-    ensures { λ r. ⌜ Judges (λ l es. checked (findOf 8 (now (store .entry)) (nameOf (request .«manufacturer_code» .0) (id .0))) («type_id» .0) es (setting room l (keyFor (now (store .entry)) request (id .0)) config es)) r ⌝ }
+    ensures { λ r. ⌜ Judges (λ l. checked (findOf 8 (now (store .entry)) (nameOf (request .«manufacturer_code» .0) (id .0))) («type_id» .0) l (setting capacity (keyFor (now (store .entry)) request (id .0)) config l)) r ⌝ }
 {
     let name = name_of(request.manufacturer_code, id);
     let Found::At(a) = find(store, name) else {
@@ -76,7 +76,7 @@ pub(crate) fn judge(
 
 // What a configuration that was to be set came to: 89 where there was no room.
 pub(crate) fn status_of(answer: Change) -> Status
-    ensures { λ r. ⌜ r ≡ statusW sets (changeTold answer .accepted) ⌝ }
+    ensures { λ r. ⌜ r ≡ statusW toSet (changeTold answer .accepted) ⌝ }
 {
     let Change::Done = answer else {
         return Status::InsufficientSpace;

@@ -8,7 +8,8 @@ use lib.Seq.{append-snoc, set-at}
 use Rattle.types.specs.Number.{zeros}
 use Rattle.frame.specs.declared.reply.Put.{Put}
 use Rattle.frame.specs.declared.reply.Put.the-variants.{At, Full}
-use Rattle.frame.specs.Reply.{padded, putting, put, Shows}
+use Rattle.frame.specs.Reply.{padded}
+use Rattle.frame.specs.Inside.Buffer.{putting, put, Shows}
 use Rattle.frame.proofs.Buffer.{PutAt, shows-put, shows-full}
 use Rattle.store.specs.declared.lookup.Attribute.{Attribute}
 use Rattle.discover.specs.declared.attributes.Listing.{Listing}

@@ -5,7 +5,7 @@ use Prim.Native.Nat.{ℕ, suc, _+_, _-_, _≤_, _<_}
 use native.Mathlib.Omega.{arith}
 use lib.ListN.{length, take, length-append}
 use lib.Seq.{take-nil}
-use Rattle.frame.specs.Reply.{putting, put, Shows}
+use Rattle.frame.specs.Inside.Buffer.{putting, put, Shows}
 use Rattle.frame.specs.Encoded.{encodeAll}
 use Rattle.frame.specs.declared.reply.Put.{Put}
 use Rattle.frame.specs.declared.reply.Put.the-variants.{At, Full}

@@ -2,7 +2,7 @@
 use lib.ListN.{length}
 use Rattle.frame.proofs.Outcome.{only-answer}
 use Rattle.discover.specs.Discover.{discoverOf}
-use Rattle.discover.specs.Unique.{DiscoverAttributesOnce}
+use Rattle.discover.specs.Claims.Unique.{DiscoverAttributesOnce}
 
 -- src/attributes.rt
 

@@ -6,7 +6,7 @@ use native.Mathlib.Omega.{arith}
 use lib.ListN.{length, getD, take, length-append, length-replicate}
 use borrow.Author.Tests.{le-leb, lt-leb}
 use Rattle.types.specs.Number.{zeros, unsignedAt}
-use Rattle.frame.specs.Reply.{putting, put}
+use Rattle.frame.specs.Inside.Buffer.{putting, put}
 use Rattle.frame.specs.Header.{replyHead}
 use Rattle.frame.specs.Answer.{noState, seen, replied, refused}
 use Rattle.frame.specs.declared.header.ZclHeader.{ZclHeader}

@@ -1,10 +1,10 @@
--- What inner functions say; nothing that a caller of this crate must believe. Assumes nothing: these are definitions.
+-- Inside. What inner functions say; nothing that a caller must believe.
 use Prim.Native.Nat.{ℕ, _≤_, _<_}
 use mathlib.Core.List.{List, _∷_, _++_}
 use lib.ListN.{length, take}
 use Rattle.frame.specs.declared.reply.Put.{Put}
 use Rattle.frame.specs.declared.reply.Put.the-variants.{At, Full}
-use Rattle.frame.specs.Reply.{Shows}
+use Rattle.frame.specs.Inside.Buffer.{Shows}
 use Rattle.frame.specs.Encoded.{encodeAll}
 use Rattle.store.specs.declared.lookup.Attribute.{Attribute}
 use Rattle.store.specs.Contents.{attributesOf}

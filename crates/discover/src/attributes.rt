@@ -3,7 +3,7 @@ ghost use mathlib.Core.Path.{_≡_};
 ghost use Prim.Native.Nat.{_/_, min};
 ghost use lib.ListN.{length};
 ghost use Rattle.frame.specs.Answer.{seen, noState};
-ghost use Rattle.frame.specs.Reply.{putting, put};
+ghost use Rattle.frame.specs.Inside.Buffer.{putting, put};
 ghost use Rattle.discover.specs.Discover.{encode, discovered, discoverOf};
 ghost use Rattle.discover.specs.Inside.{Ends, Lists};
 use frame::answer::Answer;

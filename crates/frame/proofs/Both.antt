@@ -4,10 +4,11 @@ use mathlib.Core.List.{List, _++_}
 use Prim.Native.Nat.{ℕ, _+_, _≤_, _<_}
 use native.Mathlib.Omega.{arith}
 use lib.ListN.{length, length-append}
-use Rattle.frame.specs.Reply.{over, putting, put}
+use lib.Seq.{sets, length-sets}
+use Rattle.frame.specs.Inside.Buffer.{putting, put}
 use Rattle.frame.specs.declared.reply.Put.{Put}
 use Rattle.frame.specs.declared.reply.Put.the-variants.{At, Full}
-use Rattle.frame.proofs.Buffer.{length-over, over-append, put-fits, put-past, put-at, put-full}
+use Rattle.frame.proofs.Buffer.{sets-append, put-fits, put-past, put-at, put-full}
 
 -- a run put behind a run is the two put as one, if there is room for both
 put-two : (d : List ℕ) (at : ℕ) (a b : List ℕ) (r₁ : Put) (o : ℕ) (d₁ : List ℕ) (r₂ : Put) (d₂ : List ℕ) → at + length (a ++ b) ≤ length d
@@ -15,14 +16,14 @@ put-two : (d : List ℕ) (at : ℕ) (a b : List ℕ) (r₁ : Put) (o : ℕ) (d�
 put-two d at a b r₁ o d₁ r₂ d₂ h p q g =
     let n : length (a ++ b) ≡ length a + length b = length-append a b in
     let w = put-at d at a r₁ o d₁ p q in
-    let l : length (over d at a) ≡ length d = length-over d at a (w .0) in
+    let l : length (sets d at a) ≡ length d = length-sets d at a in
     let m : at + length a + length b ≡ at + length (a ++ b) = omega arith in
     g
     ∙ ap (λ (k : ℕ). put d₁ k b) (w .1 .0)
     ∙ ap (λ (x : List ℕ). put x (at + length a) b) (w .1 .1)
-    ∙ put-fits (over d at a) (at + length a) b (omega arith)
-    ∙ ap (λ (k : ℕ). putting (At k) (over (over d at a) (at + length a) b)) m
-    ∙ ap (putting (At (at + length (a ++ b)))) (over-append d at a b (w .0))
+    ∙ put-fits (sets d at a) (at + length a) b (omega arith)
+    ∙ ap (λ (k : ℕ). putting (At k) (sets (sets d at a) (at + length a) b)) m
+    ∙ ap (putting (At (at + length (a ++ b)))) (sets-append a b d at)
     ∙ sym (put-fits d at (a ++ b) h)
 
 module _ (d : List ℕ) (at : ℕ) (front back : List ℕ) where

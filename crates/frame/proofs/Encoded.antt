@@ -6,10 +6,10 @@ use Prim.Native.Nat.{ℕ, _+_, _≤_, _<_}
 use native.Mathlib.Omega.{arith}
 use lib.ListN.{length, length-append}
 use borrow.Author.Tests.{le-leb, lt-leb, leb-true}
-use Rattle.frame.specs.Reply.{putting, put, Shows}
+use Rattle.frame.specs.Inside.Buffer.{putting, put, Shows, Ways}
 use Rattle.frame.specs.declared.reply.Put.{Put}
 use Rattle.frame.specs.declared.reply.Put.the-variants.{At, Full}
-use Rattle.frame.specs.Encoded.{encodeAll, fits, Ways}
+use Rattle.frame.specs.Encoded.{encodeAll, fits}
 use Rattle.frame.proofs.Buffer.{shows-put, shows-full}
 
 module _ {R : Type 0} (encode : R → List ℕ) where

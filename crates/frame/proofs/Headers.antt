@@ -9,7 +9,8 @@ use lib.Dec.{leb}
 use borrow.Author.Tests.{leb-true, le-leb, lt-leb}
 use Rattle.types.specs.Number.{unsignedAt}
 use Rattle.types.proofs.Numbers.{two-bytes}
-use Rattle.frame.specs.Header.{hasCode, headerWith, headerOf, replyHead}
+use Rattle.frame.specs.Header.{hasCode, headerWith, headerOf, replyHead, headerTold}
+use Rattle.frame.specs.Claims.Headers.{HeaderTells}
 use Rattle.frame.specs.declared.command_identifier.CommandIdentifier.{CommandIdentifier}
 use Rattle.frame.specs.declared.header.ZclHeader.{ZclHeader}
 use Rattle.frame.specs.declared.header.HeaderRead.the-variants.{Header, Short}
@@ -31,6 +32,10 @@ header-long s h = rw (le-leb (codeBytes s + 3) (length s) h)
 pub header-cut : (s : List ℕ) → length s < codeBytes s + 3 → headerOf s ≡ Short
 unfolding headerOf
 header-cut s h = rw (lt-leb (codeBytes s + 3) (length s) h)
+
+-- and so of what is told
+pub header-tells : HeaderTells
+header-tells s r e = (λ h. ap headerTold (e ∙ header-long s h), λ h. ap headerTold (e ∙ header-cut s h))
 
 -- below three bytes there is no header
 pub header-short : (s : List ℕ) → length s < 3 → headerOf s ≡ Short

@@ -25,5 +25,9 @@ pub mod Listings
 pub mod Passes
 -- the state that a command leaves
 pub mod States
+-- what a pass over records that can all be read comes to; where none of them fails; which trouble counts
+pub mod Halts
+pub mod NoneFails
+pub mod Troubles
 -- no second answer fits a contract, function after function
 pub mod Unique

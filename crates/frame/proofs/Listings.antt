@@ -1,5 +1,5 @@
 -- Failures listed one behind the other, the buffer that shows them behind a head, and what is answered to a pass, for any state and any
--- failure (`specs/Failures.antt`). Assumes nothing.
+-- failure (`specs/Failures.antt`, `specs/Inside/Failures.antt`). Assumes nothing.
 use mathlib.Core.Path.{_≡_, refl, sym, ap, _∙_, subst}
 use mathlib.Core.Bool.{Bool, true, false, cond}
 use mathlib.Core.List.{List, [], _∷_, _++_, append-nil}
@@ -16,14 +16,15 @@ use Rattle.frame.specs.declared.answer.Answer.the-variants.{Reply}
 use Rattle.frame.specs.declared.answer.Refusal.the-variants.{ReplyTooLong}
 use Rattle.frame.specs.declared.failures.Pass.{Pass}
 use Rattle.frame.specs.Status.{statusCode}
-use Rattle.frame.specs.Reply.{Putting, putting, put, Shows}
-use Rattle.frame.specs.Answer.{noState, seen, replied, refused}
+use Rattle.frame.specs.Inside.Buffer.{Putting, putting, put, Shows, Ways}
+use Rattle.frame.specs.Answer.{noState, within, seen, replied, refused}
 use Rattle.frame.specs.Walk.{Way}
-use Rattle.frame.specs.Encoded.{encodeAll, fits, Ways}
-use Rattle.frame.specs.Failures.{Sofar, also, encodeFailures, answered, concluded, noting, sent, concludedAt}
-use Rattle.frame.specs.Passes.{Passes}
+use Rattle.frame.specs.Encoded.{encodeAll, fits}
+use Rattle.frame.specs.Failures.{Sofar, also, encodeFailures, answered, concluded}
+use Rattle.frame.specs.Inside.Failures.{noting, sent, concludedAt}
+use Rattle.frame.specs.Inside.Passes.{Passes}
 use Rattle.frame.proofs.Buffer.{shows-put, shows-full}
-use Rattle.frame.proofs.Outcome.{seen-reply, beside}
+use Rattle.frame.proofs.Outcome.{seen-reply}
 use Rattle.frame.proofs.Encoded.{put-record}
 
 -- ---- one failure
@@ -85,7 +86,7 @@ module _ {S : Type 0} (room : ℕ) (out : List ℕ) (s : S) where
 
 -- the one 00 behind a head
 one-more : {S : Type 0} (d : List ℕ) (out : ℕ) (head : List ℕ) (s : S) → Shows d out head → (r : Put) (after : List ℕ) → putting r after ≡ put d out (0 ∷ [])
-    → beside s (sent r after) ≡ answered (length d) (head ++ (0 ∷ [])) s
+    → within (λ u. s) (sent r after) ≡ answered (length d) (head ++ (0 ∷ [])) s
 one-more d out head s h (At n) after p =
     let w = shows-put d out head (0 ∷ []) (At n) n after h p refl in
     answered-shown (length d) (head ++ (0 ∷ [])) s after n (w .shows) (w .same)
@@ -120,17 +121,17 @@ module _ {F : Type 0} (bytes : F → List ℕ) (some : (f : F) → 0 < length (b
     head-shown h = subst (λ (n : ℕ). Shows d n head) (head-ends h) (shown-head h)
 
     finished : {S : Type 0} (s : S) (fs : List F) → Shows d out (head ++ encodeAll bytes fs)
-        → beside s (concludedAt d start (Pass.Through out)) ≡ answered (length d) (head ++ encodeFailures bytes fs) s
+        → within (λ u. s) (concludedAt d start (Pass.Through out)) ≡ answered (length d) (head ++ encodeFailures bytes fs) s
     unfolding encodeFailures
     finished s [] h =
         let x : Putting = put d out (0 ∷ []) in
-        ap (beside s) (sym (conclude-none d start out (head-ends h) 0 refl (x .answer) (x .buffer) refl))
+        ap (within (λ u. s)) (sym (conclude-none d start out (head-ends h) 0 refl (x .answer) (x .buffer) refl))
         ∙ one-more d out head s (shown-head h) (x .answer) (x .buffer) refl
     finished s (f ∷ fs) h =
-        ap (beside s) (sym (conclude-listed d start out (longer-than f fs h))) ∙ answered-shown (length d) (head ++ encodeAll bytes (f ∷ fs)) s d out h refl
+        ap (within (λ u. s)) (sym (conclude-listed d start out (longer-than f fs h))) ∙ answered-shown (length d) (head ++ encodeAll bytes (f ∷ fs)) s d out h refl
 
   concludes-by : {S : Type 0} (d : List ℕ) (start : ℕ) (head : List ℕ) → start ≡ length head → (way : Way (Sofar S F)) (s : S) (done : Pass) → Passes bytes way head done s d
-      → beside s (concludedAt d start done) ≡ concluded bytes (length d) head way
+      → within (λ u. s) (concludedAt d start done) ≡ concluded bytes (length d) head way
   unfolding concludedAt concluded
   concludes-by d start head k way s (Pass.Through out) w = finished d start out head k s (w .failures) (w .shows) ∙ sym (ap (concluded bytes (length d) head) (w .is))
   concludes-by d start head k way s Pass.Cut w = sym (ap (concluded bytes (length d) head) (w .is))
@@ -139,4 +140,4 @@ module _ {F : Type 0} (bytes : F → List ℕ) (some : (f : F) → 0 < length (b
   -- THE ANSWER TO A PASS is what its way concludes, behind every head and with every state
   pub concludes : {S : Type 0} (d : List ℕ) (start : ℕ) (done : Pass) (r : Answer) (after : List ℕ) → seen r after noState ≡ concludedAt d start done
       → (head : List ℕ) (way : Way (Sofar S F)) (s : S) → start ≡ length head → Passes bytes way head done s d → seen r after s ≡ concluded bytes (length d) head way
-  concludes d start done r after e head way s k p = ap (beside s) e ∙ concludes-by d start head k way s done p
+  concludes d start done r after e head way s k p = ap (within (λ u. s)) e ∙ concludes-by d start head k way s done p

@@ -5,8 +5,9 @@ use Prim.Native.Nat.{ℕ}
 use native.Mathlib.Omega.{arith}
 use lib.ListN.{length}
 use Rattle.types.specs.Number.{zeros}
-use Rattle.frame.specs.Reply.{padded, Putting, putting, Shows}
-use Rattle.frame.specs.Answer.{answerNumber, answerLength, Outcome, noState, seen, replied, refused}
+use Rattle.frame.specs.Reply.{padded}
+use Rattle.frame.specs.Inside.Buffer.{Putting, putting, Shows}
+use Rattle.frame.specs.Answer.{answerNumber, answerLength, Outcome, noState, within, seen, replied, refused}
 use Rattle.frame.specs.declared.reply.Put.{Put}
 use Rattle.frame.specs.declared.answer.Refusal.{Refusal}
 use Rattle.frame.specs.declared.answer.Answer.{Answer}
@@ -45,13 +46,9 @@ module _ {S : Type 0} where
 pub only-answer : (o : Outcome (Unit {0})) (a b : Answer) (d e : List ℕ) → seen a d noState ≡ o → seen b e noState ≡ o → (a ≡ b) × (d ≡ e)
 only-answer o a b d e p q = let w = only-one o a b d e noState noState p q in (w .0, w .1 .0)
 
--- what a call without a state left, with a state beside it
-abbrev pub beside : {S : Type 0} → S → Outcome (Unit {0}) → Outcome S
-beside s o = record { number = o .number; size = o .size; reply = o .reply; state = s }
-
 -- a refusal is one whatever the state
 pub refused-with : {S : Type 0} (r : Answer) (d : List ℕ) (room : ℕ) (why : Refusal) (s : S) → seen r d noState ≡ refused room why noState → seen r d s ≡ refused room why s
-refused-with r d room why s e = ap (beside s) e
+refused-with r d room why s e = ap (within (λ u. s)) e
 
 -- what a put leaves tells its answer and its buffer
 pub putting-same : (p q : Put) (d e : List ℕ) → putting p d ≡ putting q e → (p ≡ q) × (d ≡ e)

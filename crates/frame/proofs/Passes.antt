@@ -1,4 +1,4 @@
--- A pass over the records, whatever is done with each: one record, the loop, and the whole command (`specs/Passes.antt`). Assumes nothing.
+-- A pass over the records, whatever is done with each: one record, the loop, and the whole command (`specs/Inside/Passes.antt`). Assumes nothing.
 use mathlib.Core.Path.{_≡_, refl, sym, ap, _∙_, subst}
 use mathlib.Core.Bool.{Bool, true, false}
 use mathlib.Core.List.{List, [], _++_, append-nil}
@@ -16,12 +16,13 @@ use Rattle.frame.specs.declared.answer.Answer.{Answer}
 use Rattle.frame.specs.declared.answer.Refusal.the-variants.{ReplyTooLong}
 use Rattle.frame.specs.declared.failures.Pass.{Pass}
 use Rattle.frame.specs.Header.{replyHead}
-use Rattle.frame.specs.Reply.{putting, put, Shows}
+use Rattle.frame.specs.Inside.Buffer.{putting, put, Shows, Longer, Stays, Ways}
 use Rattle.frame.specs.Answer.{Outcome, noState, seen, refused}
 use Rattle.frame.specs.Walk.{Item, Records, recordsFrom, through, broken, stopped, walkOver}
-use Rattle.frame.specs.Encoded.{encodeAll, fits, Longer, Stays, Ways}
-use Rattle.frame.specs.Failures.{Doing, Sofar, sofar, also, turn, passFrom, pass, concluded, performed, headed, noting, concludedAt}
-use Rattle.frame.specs.Passes.{TookOne, TookNone, Passed, Performs}
+use Rattle.frame.specs.Encoded.{encodeAll, fits}
+use Rattle.frame.specs.Failures.{Doing, Sofar, sofar, also, doneWith, passFrom, pass, concluded, performed, headed}
+use Rattle.frame.specs.Inside.Failures.{noting, concludedAt}
+use Rattle.frame.specs.Inside.Passes.{TookOne, TookNone, Passed, Performs}
 use Rattle.frame.proofs.Buffer.{shows-none, shows-put, shows-full}
 use Rattle.frame.proofs.Outcome.{refused-with}
 use Rattle.frame.proofs.Walks.{Ahead, walk-done, walk-cut, walk-more, walk-stop}
@@ -32,8 +33,8 @@ use Rattle.frame.proofs.Listings.{note-ways, concludes}
 module _ {S R F : Type 0} {doing : Doing S R F} {next : ℕ → Item R} {s : S} {at end : ℕ} {status : Status} {f : F} {t : S}
     (ahead : Ahead next) (k : TookOne doing next s at end status f t) where
   -- what it leaves
-  turned : (fs : List F) → turn doing (sofar s fs) (k .taken) ≡ sofar t (also fs status f)
-  unfolding turn
+  turned : (fs : List F) → doneWith doing (sofar s fs) (k .taken) ≡ sofar t (also fs status f)
+  unfolding doneWith
   turned fs = rw (← k .does, ← k .named)
 
   -- the next one starts behind it
@@ -45,24 +46,24 @@ module _ {S R F : Type 0} {doing : Doing S R F} {next : ℕ → Item R} {s : S} 
         → passFrom doing fine (recordsFrom next len at) (sofar s fs) ≡ passFrom doing fine (recordsFrom next len end) (sofar t (also fs status f))
     unfolding passFrom
     more e =
-        walk-more next len (turn doing) (λ y. fine (y .failures)) (sofar s fs) at ahead (k .taken) end lt (k .is) (ap (λ (y : Sofar S F). fine (y .failures)) (turned fs) ∙ e)
-        ∙ ap (λ (x : Sofar S F). walkOver (turn doing) (λ y. fine (y .failures)) x (recordsFrom next len end)) (turned fs)
+        walk-more next len (doneWith doing) (λ y. fine (y .failures)) (sofar s fs) at ahead (k .taken) end lt (k .is) (ap (λ (y : Sofar S F). fine (y .failures)) (turned fs) ∙ e)
+        ∙ ap (λ (x : Sofar S F). walkOver (doneWith doing) (λ y. fine (y .failures)) x (recordsFrom next len end)) (turned fs)
 
     pub stop : fine (also fs status f) ≡ false → passFrom doing fine (recordsFrom next len at) (sofar s fs) ≡ stopped (sofar s fs) (sofar t (also fs status f))
     unfolding passFrom
     stop e =
-        walk-stop next len (turn doing) (λ y. fine (y .failures)) (sofar s fs) at ahead (k .taken) end lt (k .is) (ap (λ (y : Sofar S F). fine (y .failures)) (turned fs) ∙ e)
+        walk-stop next len (doneWith doing) (λ y. fine (y .failures)) (sofar s fs) at ahead (k .taken) end lt (k .is) (ap (λ (y : Sofar S F). fine (y .failures)) (turned fs) ∙ e)
         ∙ ap (stopped (sofar s fs)) (turned fs)
 
 module _ {S R F : Type 0} (doing : Doing S R F) (fine : List F → Bool) (next : ℕ → Item R) (len : ℕ) (s : S) (fs : List F) (at : ℕ) where
   pub cut-here : at < len → (t : S) → TookNone next s at t → passFrom doing fine (recordsFrom next len at) (sofar s fs) ≡ broken (sofar t fs)
   unfolding passFrom
   cut-here lt t k =
-      walk-cut next len (turn doing) (λ y. fine (y .failures)) (sofar s fs) at lt (k .is) ∙ ap (λ (x : S). broken (sofar x fs)) (sym (k .same))
+      walk-cut next len (doneWith doing) (λ y. fine (y .failures)) (sofar s fs) at lt (k .is) ∙ ap (λ (x : S). broken (sofar x fs)) (sym (k .same))
 
   pub done-here : len ≤ at → passFrom doing fine (recordsFrom next len at) (sofar s fs) ≡ through (sofar s fs)
   unfolding passFrom
-  done-here h = walk-done next len (turn doing) (λ y. fine (y .failures)) (sofar s fs) at h
+  done-here h = walk-done next len (doneWith doing) (λ y. fine (y .failures)) (sofar s fs) at h
 
 -- ---- the loop: where it stands behind a head, with the failures so far in the buffer, what is left is the whole
 

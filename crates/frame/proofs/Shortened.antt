@@ -9,11 +9,12 @@ use lib.Seq.{append-snoc}
 use lib.Dec.{leb}
 use borrow.Author.Tests.{le-leb, lt-leb, leb-true}
 use Rattle.types.specs.Number.{zeros}
-use Rattle.frame.specs.Reply.{putting, put, Shows}
+use Rattle.frame.specs.Inside.Buffer.{putting, put, Shows, Longer, Stays, Ways}
 use Rattle.frame.specs.Answer.{Outcome, noState, seen, refused}
 use Rattle.frame.specs.Walk.{Item, item, unread, Ending, done, cut, Records, recordsFrom, Way, through, broken, stopped, walk}
-use Rattle.frame.specs.Encoded.{encodeAll, fits, Longer, Stays, Ways}
-use Rattle.frame.specs.Shortened.{Making, turn, shortenedFrom, shortenedReply, shortened, Turned, Walked}
+use Rattle.frame.specs.Encoded.{encodeAll, fits}
+use Rattle.frame.specs.Shortened.{Making, withRecordFor, shortenedFrom, shortenedReply, shortened}
+use Rattle.frame.specs.Inside.Shortened.{Turned, Walked}
 use Rattle.frame.specs.declared.reply.Put.{Put}
 use Rattle.frame.specs.declared.reply.Put.the-variants.{At, Full}
 use Rattle.frame.specs.declared.answer.Answer.{Answer}
@@ -29,8 +30,8 @@ use Rattle.frame.proofs.Encoded.{fits-within, put-record}
 module _ {Q R : Type 0} (encode : R → List ℕ) (making : Making Q R) (q : Q) (d : List ℕ) (out : ℕ) where
   -- the turn, by the record that is made
   turned-as : (head : List ℕ) (rs : List R) (r : R) (p : Put) (after : List ℕ) → making (λ x. fits encode (length d) (length head) (rs ++ (x ∷ []))) q ≡ r
-      → Ways encode head (rs ++ (r ∷ [])) (length d) d p after → Ways encode head (turn encode making (length d) (length head) rs q) (length d) d p after
-  unfolding turn
+      → Ways encode head (rs ++ (r ∷ [])) (length d) d p after → Ways encode head (withRecordFor encode making (length d) (length head) rs q) (length d) d p after
+  unfolding withRecordFor
   turned-as head rs r p after e w = subst (λ (x : R). Ways encode head (rs ++ (x ∷ [])) (length d) d p after) (sym e) w
 
   -- the record does not depend on the room
@@ -85,23 +86,23 @@ module _ {Q R : Type 0} (encode : R → List ℕ) (making : Making Q R) (next : 
     unfolding shortenedFrom shortenedReply
     going-done h =
         seen-reply room reply out (head ++ encodeAll encode (g .records)) noState (g .shows) same
-        ∙ ends-as (through (g .records)) (walk-done next len (turn encode making room (length head)) (fits encode room (length head)) (g .records) at h)
+        ∙ ends-as (through (g .records)) (walk-done next len (withRecordFor encode making room (length head)) (fits encode room (length head)) (g .records) at h)
 
     -- a record cannot be read
     pub going-cut : at < len → unread ≡ next at → refused (length reply) RecordCut noState ≡ whole
     unfolding shortenedFrom shortenedReply
     going-cut h e =
         ap (λ (k : ℕ). refused k RecordCut noState) same
-        ∙ ends-as (broken (g .records)) (walk-cut next len (turn encode making room (length head)) (fits encode room (length head)) (g .records) at h (sym e))
+        ∙ ends-as (broken (g .records)) (walk-cut next len (withRecordFor encode making room (length head)) (fits encode room (length head)) (g .records) at h (sym e))
 
     module _ (ahead : Ahead next) (h : at < len) (q : Q) (to : ℕ) (e : item q to ≡ next at) (r : Put) (after : List ℕ) (turned : Turned encode making q reply out r after) where
       abbrev longer : List R
-      longer = turn encode making room (length head) (g .records) q
+      longer = withRecordFor encode making room (length head) (g .records) q
 
       way : (p : Put) → r ≡ p → Ways encode head longer room reply p after
       way p k =
           subst (λ (x : Put). Ways encode head longer room reply x after) k
-          (subst (λ (n : ℕ). Ways encode head (turn encode making n (length head) (g .records) q) n reply r after) same (turned head (g .records) (g .shows)))
+          (subst (λ (n : ℕ). Ways encode head (withRecordFor encode making n (length head) (g .records) q) n reply r after) same (turned head (g .records) (g .shows)))
 
       -- the next one's record fits
       pub going-more : (o : ℕ) → r ≡ At o → Going encode making next len room head after to o
@@ -111,7 +112,7 @@ module _ {Q R : Type 0} (encode : R → List ℕ) (making : Making Q R) (next : 
           record {
             records = longer;
             shows = w .shows;
-            same = sym (walk-more next len (turn encode making room (length head)) (fits encode room (length head)) (g .records) at ahead q to h (sym e) (w .fit)) ∙ g .same;
+            same = sym (walk-more next len (withRecordFor encode making room (length head)) (fits encode room (length head)) (g .records) at ahead q to h (sym e) (w .fit)) ∙ g .same;
           }
 
       -- it does not: the reply is without it
@@ -121,7 +122,7 @@ module _ {Q R : Type 0} (encode : R → List ℕ) (making : Making Q R) (next : 
           let w : Stays encode head longer room reply after = way Full k in
           ap (λ (l : List ℕ). seen (Reply out) l noState) (w .same)
           ∙ seen-reply room reply out (head ++ encodeAll encode (g .records)) noState (g .shows) same
-          ∙ ends-as (stopped (g .records) longer) (walk-stop next len (turn encode making room (length head)) (fits encode room (length head)) (g .records) at ahead q to h (sym e) (w .unfit))
+          ∙ ends-as (stopped (g .records) longer) (walk-stop next len (withRecordFor encode making room (length head)) (fits encode room (length head)) (g .records) at ahead q to h (sym e) (w .unfit))
 
 -- ---- the header first, then the loop
 
@@ -167,17 +168,17 @@ did (stopped rs more) = rs
 module _ {Q R : Type 0} (encode : R → List ℕ) (making : Making Q R) (room head : ℕ) where
   -- a walk stops before its records are longer than the room
   did-within : (e : Ending) (qs : List Q) (rs : List R) → head + length (encodeAll encode rs) ≤ room
-      → head + length (encodeAll encode (did (walk (turn encode making room head) (fits encode room head) rs e qs))) ≤ room
+      → head + length (encodeAll encode (did (walk (withRecordFor encode making room head) (fits encode room head) rs e qs))) ≤ room
   unfolding walk
   did-within done [] rs h = h
   did-within cut [] rs h = h
   did-within e (q ∷ qs) rs h = go (fits encode room head longer) refl (λ k. did-within e qs longer k)
     where
       longer : List R
-      longer = turn encode making room head rs q
+      longer = withRecordFor encode making room head rs q
 
       more : Way (List R)
-      more = walk (turn encode making room head) (fits encode room head) longer e qs
+      more = walk (withRecordFor encode making room head) (fits encode room head) longer e qs
 
       go : (b : Bool) → fits encode room head longer ≡ b → (head + length (encodeAll encode longer) ≤ room → head + length (encodeAll encode (did more)) ≤ room)
           → head + length (encodeAll encode (did (cond b more (stopped rs longer)))) ≤ room
@@ -213,25 +214,25 @@ pub record Prefix {A : Type 0} (some all : List A) : Type 0 where
 
 -- where the record made for one tells which one it is for
 module _ {Q R : Type 0} (encode : R → List ℕ) (making : Making Q R) (of : R → Q) (made-of : (fit : R → Bool) (q : Q) → of (making fit q) ≡ q) (room head : ℕ) where
-  turn-of : (rs : List R) (q : Q) (qs : List Q) → map of (turn encode making room head rs q) ++ qs ≡ map of rs ++ q ∷ qs
-  unfolding turn
+  turn-of : (rs : List R) (q : Q) (qs : List Q) → map of (withRecordFor encode making room head rs q) ++ qs ≡ map of rs ++ q ∷ qs
+  unfolding withRecordFor
   turn-of rs q qs =
       let fit : R → Bool = λ r. fits encode room head (rs ++ (r ∷ [])) in
       ap (λ (l : List Q). l ++ qs) (map-append of rs (making fit q ∷ []))
       ∙ append-snoc (map of rs) (of (making fit q)) qs
       ∙ ap (λ (k : Q). map of rs ++ k ∷ qs) (made-of fit q)
 
-  did-prefix : (e : Ending) (qs : List Q) (rs : List R) → Prefix (map of (did (walk (turn encode making room head) (fits encode room head) rs e qs))) (map of rs ++ qs)
+  did-prefix : (e : Ending) (qs : List Q) (rs : List R) → Prefix (map of (did (walk (withRecordFor encode making room head) (fits encode room head) rs e qs))) (map of rs ++ qs)
   unfolding walk
   did-prefix done [] rs = record { rest = []; is = refl }
   did-prefix cut [] rs = record { rest = []; is = refl }
   did-prefix e (q ∷ qs) rs = go (fits encode room head longer) (did-prefix e qs longer)
     where
       longer : List R
-      longer = turn encode making room head rs q
+      longer = withRecordFor encode making room head rs q
 
       more : Way (List R)
-      more = walk (turn encode making room head) (fits encode room head) longer e qs
+      more = walk (withRecordFor encode making room head) (fits encode room head) longer e qs
 
       go : (b : Bool) → Prefix (map of (did more)) (map of longer ++ qs) → Prefix (map of (did (cond b more (stopped rs longer)))) (map of rs ++ q ∷ qs)
       go true w = record { rest = w .rest; is = w .is ∙ turn-of rs q qs }

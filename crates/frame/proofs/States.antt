@@ -12,7 +12,7 @@ use Rattle.frame.specs.Header.{replyHead}
 use Rattle.frame.specs.Answer.{Outcome, replied, refused}
 use Rattle.frame.specs.Walk.{Ending, done, cut, Records, Way, through, broken, stopped, walk, reached, All}
 use Rattle.frame.specs.Encoded.{fits}
-use Rattle.frame.specs.Failures.{Doing, Sofar, sofar, turn, passFrom, pass, encodeFailures, answered, concluded, performed, headed}
+use Rattle.frame.specs.Failures.{Doing, Sofar, sofar, doneWith, passFrom, pass, encodeFailures, answered, concluded, performed, headed}
 use Rattle.frame.proofs.Walks.{walk-keeps}
 
 module _ {S : Type 0} (room : ℕ) where
@@ -44,8 +44,8 @@ headed-keeps P request command s room rest h k = go (leb (length (replyHead requ
 -- what every record keeps, a pass keeps
 module _ {S R F : Type 0} (doing : Doing S R F) (P : S → Type 0) (Q : R → Type 0) (keep : (s : S) (r : R) → P s → Q r → P (doing .does s r .state)) (rs : Records R) (all : All Q (rs .list)) where
   pub pass-keeps : (fine : List F → Bool) (s : S) → P s → P (reached (pass doing fine rs s) .state)
-  unfolding passFrom turn
-  pass-keeps fine s h = walk-keeps (turn doing) (λ y. fine (y .failures)) (λ x. P (x .state)) Q (λ x r k w. keep (x .state) r k w) _ _ (sofar s []) h all
+  unfolding passFrom doneWith
+  pass-keeps fine s h = walk-keeps (doneWith doing) (λ y. fine (y .failures)) (λ x. P (x .state)) Q (λ x r k w. keep (x .state) r k w) _ _ (sofar s []) h all
 
   pub concluded-keeps : (room : ℕ) (head : List ℕ) (way : Way (Sofar S F)) → P (reached way .state) → P (concluded (doing .bytes) room head way .state)
   concluded-keeps room head way h = subst P (sym (state-concluded room (doing .bytes) head way)) h
@@ -73,17 +73,17 @@ Unstopped (stopped x y) = ⊥
 
 module _ {S R F : Type 0} (doing : Doing S R F) (fine : List F → Bool) where
   abbrev goes : Sofar S F → Ending → List R → Way (Sofar S F)
-  goes x e rs = walk (turn doing) (λ y. fine (y .failures)) x e rs
+  goes x e rs = walk (doneWith doing) (λ y. fine (y .failures)) x e rs
 
   walk-folded : (e : Ending) (rs : List R) (x : Sofar S F) → Unstopped (goes x e rs) → reached (goes x e rs) .state ≡ folded doing (x .state) rs
-  unfolding walk turn
+  unfolding walk doneWith
   walk-folded done [] x u = refl
   walk-folded cut [] x u = refl
-  walk-folded e (r ∷ rs) x u = go (fine (turn doing x r .failures)) u (λ v. walk-folded e rs (turn doing x r) v)
+  walk-folded e (r ∷ rs) x u = go (fine (doneWith doing x r .failures)) u (λ v. walk-folded e rs (doneWith doing x r) v)
     where
-      go : (b : Bool) → Unstopped (cond b (goes (turn doing x r) e rs) (stopped x (turn doing x r)))
-          → (Unstopped (goes (turn doing x r) e rs) → reached (goes (turn doing x r) e rs) .state ≡ folded doing (doing .does (x .state) r .state) rs)
-          → reached (cond b (goes (turn doing x r) e rs) (stopped x (turn doing x r))) .state ≡ folded doing (doing .does (x .state) r .state) rs
+      go : (b : Bool) → Unstopped (cond b (goes (doneWith doing x r) e rs) (stopped x (doneWith doing x r)))
+          → (Unstopped (goes (doneWith doing x r) e rs) → reached (goes (doneWith doing x r) e rs) .state ≡ folded doing (doing .does (x .state) r .state) rs)
+          → reached (cond b (goes (doneWith doing x r) e rs) (stopped x (doneWith doing x r))) .state ≡ folded doing (doing .does (x .state) r .state) rs
       go true u rec = rec u
       go false u rec = absurd u
 
@@ -94,16 +94,21 @@ not-five bytes room head (through x) n = tt
 not-five bytes room head (broken x) n = tt
 not-five bytes room head (stopped x y) n = n refl
 
--- A COMMAND THAT IS NOT REFUSED BY 5 leaves what its records leave, one after the other
+-- A COMMAND THAT IS NOT REFUSED BY 5 leaves what its records leave, one after the other: behind a head, and with its header
+pub performed-folds : {S R F : Type 0} (doing : Doing S R F) (rs : Records R) (s : S) (room : ℕ) (head : List ℕ)
+    → (performed doing rs s room head .number ≡ 5 → ⊥) → performed doing rs s room head .state ≡ folded doing s (rs .list)
+unfolding performed passFrom
+performed-folds doing rs s room head n =
+    let way = pass doing (fits (doing .bytes) room (length head)) rs s in
+    state-concluded room (doing .bytes) head way
+    ∙ walk-folded doing (fits (doing .bytes) room (length head)) (rs .ending) (rs .list) (sofar s []) (not-five (doing .bytes) room head way n)
+
 pub performed-folded : {S R F : Type 0} (doing : Doing S R F) (rs : Records R) (request : ZclHeader) (command : CommandIdentifier) (s : S) (room : ℕ)
     → (headed request command s room (performed doing rs s room) .number ≡ 5 → ⊥) → headed request command s room (performed doing rs s room) .state ≡ folded doing s (rs .list)
-unfolding headed performed passFrom
+unfolding headed
 performed-folded doing rs request command s room n = go (leb (length (replyHead request command)) room) n
   where
     go : (b : Bool) → (cond b (performed doing rs s room (replyHead request command)) (refused room ReplyTooLong s) .number ≡ 5 → ⊥)
         → cond b (performed doing rs s room (replyHead request command)) (refused room ReplyTooLong s) .state ≡ folded doing s (rs .list)
-    go true n =
-        let way = pass doing (fits (doing .bytes) room (length (replyHead request command))) rs s in
-        state-concluded room (doing .bytes) (replyHead request command) way
-        ∙ walk-folded doing (fits (doing .bytes) room (length (replyHead request command))) (rs .ending) (rs .list) (sofar s []) (not-five (doing .bytes) room (replyHead request command) way n)
+    go true n = performed-folds doing rs s room (replyHead request command) n
     go false n = absurd (n refl)

@@ -1,9 +1,9 @@
 -- No second answer fits a contract: one theorem for each public function, of two results and exit buffers that meet it at the same
 -- entry values. Assumes nothing.
 use mathlib.Core.Path.{sym, _∙_}
-use Rattle.frame.specs.Unique.{RefusalNumberOnce, AnswerNumberOnce, ReplyLenOnce, RefuseOnce, FromBitsOnce, RawOnce, ListFailureOnce, ConcludeOnce}
-use Rattle.frame.specs.Unique.{FrameTypeOnce, IsManufacturerSpecificOnce, ReadHeaderOnce, WriteResponseHeaderOnce, BeginReplyOnce, ClearOnce, PutRunOnce, PutBothOnce}
-use Rattle.frame.specs.Unique.{PutByteOnce, PutU16Once, ToU8Once}
+use Rattle.frame.specs.Claims.Unique.{RefusalNumberOnce, AnswerNumberOnce, ReplyLenOnce, RefuseOnce, FromBitsOnce, RawOnce, ListFailureOnce, ConcludeOnce}
+use Rattle.frame.specs.Claims.Unique.{FrameTypeOnce, IsManufacturerSpecificOnce, ReadHeaderOnce, WriteResponseHeaderOnce, BeginReplyOnce, ClearOnce, PutRunOnce, PutBothOnce}
+use Rattle.frame.specs.Claims.Unique.{PutByteOnce, PutU16Once, ToU8Once}
 use Rattle.frame.proofs.Outcome.{only-answer, putting-same}
 
 -- src/answer.rt

@@ -1,32 +1,27 @@
--- A reply that lists a record for each record of the request, as long as they fit (document 01, "Commands, step by step": Read, "Stop
--- without error at the first record whose three bytes do not fit; the rest of the request is not read"; Read configuration, "Stops at a
--- record that does not fit"). Over the request's record Q, the reply's record R, its bytes, and which record is made for which.
--- Assumes nothing: these are definitions.
-use mathlib.Core.Path.{_≡_}
+-- Definitions. A reply that lists a record for each record of the request, as long as they fit (document 01, "Commands, step by step": Read, "Stop
+-- without error at the first record whose three bytes do not fit; the rest of the request is not read"; Read configuration, "Stops at a record that
+-- does not fit"). Over the request's record Q, the reply's record R, its bytes, and which record is made for which.
 use Prim.Native.Nat.{ℕ}
 use mathlib.Core.Bool.{Bool, cond}
 use mathlib.Core.List.{List, [], _∷_, _++_}
 use lib.ListN.{length}
 use lib.Dec.{leb}
-use Rattle.frame.specs.declared.reply.Put.{Put}
-use Rattle.frame.specs.declared.answer.Answer.{Answer}
 use Rattle.frame.specs.declared.answer.Refusal.the-variants.{RecordCut, ReplyTooLong}
-use Rattle.frame.specs.Reply.{Shows}
-use Rattle.frame.specs.Answer.{Outcome, noState, seen, replied, refused}
-use Rattle.frame.specs.Walk.{Item, Records, recordsFrom, Way, through, broken, stopped, walkOver}
-use Rattle.frame.specs.Encoded.{encodeAll, fits, Ways}
+use Rattle.frame.specs.Answer.{Outcome, noState, replied, refused}
+use Rattle.frame.specs.Walk.{Records, Way, through, broken, stopped, walkOver}
+use Rattle.frame.specs.Encoded.{encodeAll, fits}
 
 -- the record made for one of the request; it may ask whether a record fits behind those before it
 abbrev pub Making : Type 0 → Type 0 → Type 0
 Making Q R = (R → Bool) → Q → R
 
 -- one record of the request, with these of the reply before it
-unfoldable pub turn : {Q R : Type 0} → (R → List ℕ) → Making Q R → ℕ → ℕ → List R → Q → List R
-turn encode making room head rs q = rs ++ (making (λ r. fits encode room head (rs ++ (r ∷ []))) q ∷ [])
+unfoldable pub withRecordFor : {Q R : Type 0} → (R → List ℕ) → Making Q R → ℕ → ℕ → List R → Q → List R
+withRecordFor encode making room head rs q = rs ++ (making (λ r. fits encode room head (rs ++ (r ∷ []))) q ∷ [])
 
 -- the walk over records of the request, with these of the reply before it
 unfoldable pub shortenedFrom : {Q R : Type 0} → (R → List ℕ) → Making Q R → ℕ → ℕ → List R → Records Q → Way (List R)
-shortenedFrom encode making room head rs requests = walkOver (turn encode making room head) (fits encode room head) rs requests
+shortenedFrom encode making room head rs requests = walkOver (withRecordFor encode making room head) (fits encode room head) rs requests
 
 -- Stop without error at the first record that does not fit: the reply is without it, and the rest of the request is not read
 unfoldable pub shortenedReply : {R : Type 0} → (R → List ℕ) → ℕ → List ℕ → Way (List R) → Outcome (Unit {0})
@@ -40,16 +35,3 @@ shortened encode making head requests room =
     cond (leb (length head) room)
     (shortenedReply encode room head (shortenedFrom encode making room (length head) [] requests))
     (refused room ReplyTooLong noState)
-
--- ---- what inner functions say
-
--- one record of the request was done, whatever records the buffer showed before it, and behind whatever head
-abbrev pub Turned : {Q R : Type 0} → (R → List ℕ) → Making Q R → Q → List ℕ → ℕ → Put → List ℕ → Type 0
-Turned {Q} {R} encode making q d out r after =
-    (head : List ℕ) (rs : List R) → Shows d out (head ++ encodeAll encode rs) → Ways encode head (turn encode making (length d) (length head) rs q) (length d) d r after
-
--- every record of a body of len bytes was done, behind whatever head the buffer showed
-abbrev pub Walked : {Q R : Type 0} → (R → List ℕ) → Making Q R → (ℕ → Item Q) → ℕ → List ℕ → ℕ → Answer → List ℕ → Type 0
-Walked encode making next len d from r after =
-    (head : List ℕ) → Shows d from head
-    → seen r after noState ≡ shortenedReply encode (length d) head (shortenedFrom encode making (length d) (length head) [] (recordsFrom next len 0))

@@ -1,9 +1,9 @@
 // The reply of a command that lists its failures, or one SUCCESS if there is none.
 ghost use mathlib.Core.Path.{_≡_};
 ghost use Rattle.frame.specs.declared.failures.Pass.the-variants.{Through};
-ghost use Rattle.frame.specs.Reply.{putting};
+ghost use Rattle.frame.specs.Inside.Buffer.{putting};
 ghost use Rattle.frame.specs.Answer.{seen, noState};
-ghost use Rattle.frame.specs.Failures.{noting, concludedAt};
+ghost use Rattle.frame.specs.Inside.Failures.{noting, concludedAt};
 use super::answer::Answer;
 use super::answer::Refusal;
 use super::answer::refuse;

@@ -3,7 +3,7 @@ ghost use mathlib.Core.Path.{_≡_};
 ghost use lib.ListN.{length};
 ghost use Rattle.types.specs.Number.{zeros};
 ghost use Rattle.frame.specs.Header.{frameTypeOf, hasCode, headerOf, replyHead};
-ghost use Rattle.frame.specs.Reply.{putting, put};
+ghost use Rattle.frame.specs.Inside.Buffer.{putting, put};
 use super::command_identifier::CommandIdentifier;
 use super::reply::Put;
 use super::reply::clear;

@@ -3,8 +3,9 @@ ghost use mathlib.Core.Path.{_≡_};
 ghost use Prim.Native.Nat.{_+_, _≤_};
 ghost use mathlib.Core.List.{[], _∷_, _++_};
 ghost use lib.ListN.{length};
+ghost use lib.Seq.{sets};
 ghost use Rattle.types.specs.Number.{zeros, bytesOf};
-ghost use Rattle.frame.specs.Reply.{over, putting, put};
+ghost use Rattle.frame.specs.Inside.Buffer.{putting, put};
 
 // Where the next byte goes, or that the bytes did not fit.
 pub enum Put {
@@ -26,7 +27,7 @@ pub fn clear(buffer: &mut [u8])
 // The bytes stand at `at` afterwards; the rest is as it was. Not public: they must fit.
 fn copy_into(buffer: &mut [u8], at: usize, bytes: &[u8])
     requires { ⌜ at + length (now bytes) ≤ length (now buffer) ⌝ }
-    ensures { λ _. ⌜ now (buffer .exit) ≡ over (now (buffer .entry)) at (now (bytes .entry)) ⌝ }
+    ensures { λ _. ⌜ now (buffer .exit) ≡ sets (now (buffer .entry)) at (now (bytes .entry)) ⌝ }
 {
     let mut i = 0;
     while i < bytes.len() {

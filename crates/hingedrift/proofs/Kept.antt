@@ -2,7 +2,7 @@
 use mathlib.Core.List.{List, [], _∷_}
 use Prim.Native.Nat.{ℕ}
 use Rattle.reporting.specs.declared.entry.Entry.{Entry}
-use Rattle.reporting.specs.Events.{Event, configured, cleared, asked, marked, after, run}
+use Rattle.reporting.specs.Claims.Events.{Event, configured, cleared, asked, marked, after, run}
 use Rattle.reporting.proofs.Kept.{Kept, configure-keeps, clear-keeps, mark-keeps}
 use Rattle.server.proofs.Fitting.{Fits, AllFit}
 

@@ -10,21 +10,21 @@ use Rattle.types.specs.Number.{AllBytes}
 use Rattle.frame.specs.declared.answer.Refusal.{Refusal}
 use Rattle.frame.specs.declared.answer.Refusal.the-variants.{NotAStore, NotATable}
 use Rattle.frame.specs.Header.{frameTypeOf}
-use Rattle.frame.specs.Answer.{refusalNumber, Outcome, refused}
+use Rattle.frame.specs.Answer.{refusalNumber, Outcome, within, refused}
 use Rattle.frame.proofs.Codes.{refusal-nonzero}
 use Rattle.store.specs.Layout.{isStore}
-use Rattle.store.specs.Stays.{StoreLike}
+use Rattle.store.specs.Claims.Stays.{StoreLike}
 use Rattle.reporting.specs.declared.entry.Entry.{Entry}
-use Rattle.reporting.specs.Table.{room, holding}
+use Rattle.reporting.specs.Table.{capacity, holding}
 use Rattle.reporting.specs.Carried.{isTable, tableIn, tableBytes}
 use Rattle.reporting.specs.Lent.{bytesAfter}
 use Rattle.reporting.proofs.CarriageTable.{table-is, bytes-back, length-table, the-conditions, table-count, table-clean}
 use Rattle.reporting.proofs.Kept.{Kept}
-use Rattle.server.specs.Serve.{State, within, serve}
+use Rattle.server.specs.Serve.{State, serve}
 use Rattle.server.specs.Lent.{Lent, lent, carried, serveLent}
-use Rattle.server.specs.Left.{Clears, ThenZeros, AsLong, Early}
-use Rattle.server.specs.Starts.{Starts, answering}
-use Rattle.server.specs.History.{Request, requested, requestEvents}
+use Rattle.server.specs.Claims.Left.{Clears, ThenZeros, AsLong, Early}
+use Rattle.server.specs.Claims.Starts.{Starts, answering}
+use Rattle.server.specs.Claims.History.{Request, requested, requestEvents}
 use Rattle.server.proofs.Says.{Says, declines, says-clears, says-zeros, says-long}
 use Rattle.server.proofs.Refusals.{refusal-clears, reply-then-zeros, reply-length, untouched}
 use Rattle.server.proofs.Elsewhere.{responder-clears, responder-then-zeros, responder-length, report-clears, report-then-zeros, report-length}
@@ -33,25 +33,25 @@ use Rattle.server.proofs.Stays.{store-stays}
 use Rattle.server.proofs.Fitting.{request-fits}
 use Rattle.server.proofs.Histories.{request-is, request-holds}
 use Rattle.hingedrift.specs.Serving.{isUnicast, handleLeft}
-use Rattle.hingedrift.specs.Left.{HdHandleRequestClears, HdHandleRequestThenZeros, HdHandleRequestLength, HdHandleRequestStarts, HdUntouched, HdNoTableStays, HdStoreStays, HdTableStays, HdUnsupportedClusterClears, HdUnsupportedClusterThenZeros, HdUnsupportedClusterLength, HdUnsupportedClusterStarts, HdReportClears, HdReportThenZeros, HdReportLength, HdReportStarts}
+use Rattle.hingedrift.specs.Claims.Left.{HdHandleRequestClears, HdHandleRequestThenZeros, HdHandleRequestLength, HdHandleRequestStarts, HdUntouched, HdNoTableStays, HdStoreStays, HdTableStays, HdUnsupportedClusterClears, HdUnsupportedClusterThenZeros, HdUnsupportedClusterLength, HdUnsupportedClusterStarts, HdReportClears, HdReportThenZeros, HdReportLength, HdReportStarts}
 use Rattle.hingedrift.proofs.Kept.{run-keeps}
 
 -- ---- hd_handle_request
 
 module _ (s bs : List ℕ) (cluster unicast : ℕ) (frame : List ℕ) (size : ℕ) where
   abbrev served : Outcome State
-  served = serve 8 room s (holding (tableIn bs)) cluster (isUnicast unicast) frame size
+  served = serve 8 capacity s (holding (tableIn bs)) cluster (isUnicast unicast) frame size
 
   abbrev unserved : Outcome Lent
   unserved = refused size (cond (isStore 8 s) NotATable NotAStore) (lent s bs)
 
   -- the bytes are a table, and it is served; or they are none
-  handled : (P : Outcome Lent → Type 0) → (isTable room bs ≡ true → P (within (carried bs) served)) → (isTable room bs ≡ false → P unserved)
+  handled : (P : Outcome Lent → Type 0) → (isTable capacity bs ≡ true → P (within (carried bs) served)) → (isTable capacity bs ≡ false → P unserved)
       → P (handleLeft s bs cluster unicast frame size)
   unfolding serveLent
-  handled P one none = go (isTable room bs) refl
+  handled P one none = go (isTable capacity bs) refl
     where
-      go : (b : Bool) → isTable room bs ≡ b → P (cond b (within (carried bs) served) unserved)
+      go : (b : Bool) → isTable capacity bs ≡ b → P (cond b (within (carried bs) served) unserved)
       go true e = one e
       go false e = none e
 
@@ -60,70 +60,70 @@ module _ (s bs : List ℕ) (cluster unicast : ℕ) (frame : List ℕ) (size : �
 
 pub hd-handle-request-clears : HdHandleRequestClears
 hd-handle-request-clears s bs cluster unicast frame size =
-    handled s bs cluster unicast frame size (λ o. Clears size o) (λ e. refusal-clears 8 room s (holding (tableIn bs)) cluster (isUnicast unicast) frame size)
+    handled s bs cluster unicast frame size (λ o. Clears size o) (λ e. refusal-clears 8 capacity s (holding (tableIn bs)) cluster (isUnicast unicast) frame size)
     (λ e. says-clears [] size _ (unserved-says s bs cluster unicast frame size))
 
 pub hd-handle-request-then-zeros : HdHandleRequestThenZeros
 hd-handle-request-then-zeros s bs cluster unicast frame size =
-    handled s bs cluster unicast frame size (λ o. ThenZeros size o) (λ e. reply-then-zeros 8 room s (holding (tableIn bs)) cluster (isUnicast unicast) frame size)
+    handled s bs cluster unicast frame size (λ o. ThenZeros size o) (λ e. reply-then-zeros 8 capacity s (holding (tableIn bs)) cluster (isUnicast unicast) frame size)
     (λ e. says-zeros [] size _ (unserved-says s bs cluster unicast frame size))
 
 pub hd-handle-request-length : HdHandleRequestLength
 hd-handle-request-length s bs cluster unicast frame size =
-    handled s bs cluster unicast frame size (λ o. AsLong size o) (λ e. reply-length 8 room s (holding (tableIn bs)) cluster (isUnicast unicast) frame size)
+    handled s bs cluster unicast frame size (λ o. AsLong size o) (λ e. reply-length 8 capacity s (holding (tableIn bs)) cluster (isUnicast unicast) frame size)
     (λ e. says-long [] size _ (unserved-says s bs cluster unicast frame size))
 
 pub hd-untouched : HdUntouched
 hd-untouched s bs cluster unicast frame size =
     handled s bs cluster unicast frame size (λ o. (why : Refusal) → Early why → o .number ≡ refusalNumber why → (o .state .store ≡ s) × (AllBytes bs → o .state .table ≡ bs))
     (λ e why early k.
-    let same = untouched 8 room s (holding (tableIn bs)) cluster (isUnicast unicast) frame size why early k in
-    (ap (λ (x : State). x .store) same, λ b. ap (λ (x : State). bytesAfter bs (x .table)) same ∙ bytes-back room bs b e))
+    let same = untouched 8 capacity s (holding (tableIn bs)) cluster (isUnicast unicast) frame size why early k in
+    (ap (λ (x : State). x .store) same, λ b. ap (λ (x : State). bytesAfter bs (x .table)) same ∙ bytes-back capacity bs b e))
     (λ e why early k. (refl, λ b. refl))
 
 pub hd-no-table-stays : HdNoTableStays
 hd-no-table-stays s bs cluster unicast frame size =
-    handled s bs cluster unicast frame size (λ o. isTable room bs ≡ false → (o .number ≡ refusalNumber (cond (isStore 8 s) NotATable NotAStore)) × (o .state ≡ lent s bs))
+    handled s bs cluster unicast frame size (λ o. isTable capacity bs ≡ false → (o .number ≡ refusalNumber (cond (isStore 8 s) NotATable NotAStore)) × (o .state ≡ lent s bs))
     (λ e none. absurd (true≢false (sym e ∙ none)))
     (λ e none. (refl, refl))
 
 pub hd-store-stays : HdStoreStays
 hd-store-stays s bs cluster unicast frame size =
     handled s bs cluster unicast frame size (λ o. isStore 8 s ≡ true → StoreLike 8 s (o .state .store))
-    (λ e is. store-stays 8 room s (holding (tableIn bs)) cluster (isUnicast unicast) frame size (omega arith) is)
+    (λ e is. store-stays 8 capacity s (holding (tableIn bs)) cluster (isUnicast unicast) frame size (omega arith) is)
     (λ e is. record { still = is; same-length = refl; same-contents = refl })
 
-module _ (s bs : List ℕ) (cluster unicast : ℕ) (frame : List ℕ) (size : ℕ) (sb : AllBytes s) (tb : AllBytes bs) (fb : AllBytes frame) (is : isTable room bs ≡ true) where
+module _ (s bs : List ℕ) (cluster unicast : ℕ) (frame : List ℕ) (size : ℕ) (sb : AllBytes s) (tb : AllBytes bs) (fb : AllBytes frame) (is : isTable capacity bs ≡ true) where
   abbrev asked : Request
   asked = record { store = s; cluster = cluster; unicast = isUnicast unicast; frame = frame; room = size }
 
   abbrev after : List Entry
-  after = requested room asked (tableIn bs)
+  after = requested capacity asked (tableIn bs)
 
-  fits-before : Kept room (tableIn bs)
-  fits-before = record { small = omega (arith, table-count bs, the-conditions room bs is .count); clean = table-clean room bs tb is }
+  fits-before : Kept capacity (tableIn bs)
+  fits-before = record { small = omega (arith, table-count bs, the-conditions capacity bs is .count); clean = table-clean capacity bs tb is }
 
-  fits-after : Kept room after
+  fits-after : Kept capacity after
   fits-after =
-      subst (Kept room) (request-is room asked (tableIn bs) .table)
-      (run-keeps room (requestEvents room asked (tableIn bs)) (tableIn bs) (request-fits room asked (tableIn bs) sb fb) fits-before)
+      subst (Kept capacity) (request-is capacity asked (tableIn bs) .table)
+      (run-keeps capacity (requestEvents capacity asked (tableIn bs)) (tableIn bs) (request-fits capacity asked (tableIn bs) sb fb) fits-before)
 
-  bytes-after : bytesAfter bs (served s bs cluster unicast frame size .state .table) ≡ tableBytes room after
-  bytes-after = ap (bytesAfter bs) (request-holds room asked (tableIn bs))
+  bytes-after : bytesAfter bs (served s bs cluster unicast frame size .state .table) ≡ tableBytes capacity after
+  bytes-after = ap (bytesAfter bs) (request-holds capacity asked (tableIn bs))
 
 pub hd-table-stays : HdTableStays
 hd-table-stays s bs cluster unicast frame size sb tb fb is =
-    handled s bs cluster unicast frame size (λ o. (isTable room (o .state .table) ≡ true) × (length (o .state .table) ≡ length bs))
+    handled s bs cluster unicast frame size (λ o. (isTable capacity (o .state .table) ≡ true) × (length (o .state .table) ≡ length bs))
     (λ e.
     let kept = fits-after s bs cluster unicast frame size sb tb fb is in
     let same = bytes-after s bs cluster unicast frame size sb tb fb is in
-    (ap (isTable room) same ∙ table-is room _ (kept .small) (kept .clean), ap length same ∙ length-table room _ (kept .small) ∙ sym (the-conditions room bs is .size)))
+    (ap (isTable capacity) same ∙ table-is capacity _ (kept .small) (kept .clean), ap length same ∙ length-table capacity _ (kept .small) ∙ sym (the-conditions capacity bs is .size)))
     (λ none. absurd (true≢false (sym is ∙ none)))
 
 pub hd-handle-request-starts : HdHandleRequestStarts
 hd-handle-request-starts s bs cluster unicast frame size h e =
     handled s bs cluster unicast frame size (λ o. Starts (h .«sequence_number») (answering (frameTypeOf (h .«frame_control» .0)) (h .«command_identifier» .0)) o)
-    (λ is. replies-start 8 room s (holding (tableIn bs)) cluster (isUnicast unicast) frame size h e)
+    (λ is. replies-start 8 capacity s (holding (tableIn bs)) cluster (isUnicast unicast) frame size h e)
     (λ none k. absurd (omega (arith, refusal-nonzero (cond (isStore 8 s) NotATable NotAStore), k)))
 
 -- ---- hd_unsupported_cluster

@@ -1,4 +1,4 @@
--- A log of the functions towards C (specs/LogExample.antt), computed: it meets all that demand 3 of the bytes supposes. Assumes nothing.
+-- A log of the functions towards C (specs/Claims/LogExample.antt), computed: it meets all that demand 3 of the bytes supposes. Assumes nothing.
 use mathlib.Core.Path.{_≡_, refl, sym, subst}
 use mathlib.Core.Bool.{Bool, true, false, cond}
 use mathlib.Core.List.{List, [], _∷_}
@@ -7,32 +7,34 @@ use native.Mathlib.Omega.{arith}
 use lib.Dec.{ltb}
 use borrow.Author.Tests.{ltb-true}
 use Rattle.types.specs.Number.{AllBytes, allZero, le, bytesOf, unsignedAt, signedOf, signedAt, residue}
-use Rattle.types.specs.Ids.{sizeOf, formOf, isAnalog, isSigned, isFloat}
+use Rattle.types.specs.Ids.{sizeOf, shapeOf, isAnalog, isSigned, isFloat}
 use Rattle.types.specs.Value.{changeAt}
 use Rattle.types.specs.Extent.{upto, count}
 use Rattle.frame.specs.Header.{frameTypeOf, headerOf, replyHead}
 use Rattle.frame.specs.CommandIdentifier.{commandOf}
 use Rattle.frame.specs.Reply.{padded}
-use Rattle.frame.specs.Walk.{recordsIn, recordsFrom, walk}
+use Rattle.frame.specs.Walk.{recordsIn, recordsFrom, walk, taken}
 use Rattle.frame.specs.Encoded.{encodeAll, fits}
-use Rattle.frame.specs.Failures.{turn, passFrom, encodeFailures, answered, concluded, performed, headed}
+use Rattle.frame.specs.Failures.{doneWith, passFrom, encodeFailures, answered, concluded, performed, headed}
 use Rattle.store.specs.Contents.{attributeAt, attributesFrom, attributesOf, findIn, findOf}
 use Rattle.store.specs.Layout.{each, ascending, roomOk, isText, lengthOk, followOn, endFrom, unusedOk, isStore}
 use Rattle.reporting.specs.Due.{movedBy}
-use Rattle.reporting.specs.Carried.{total, laid, numbersIn, rowsLaid, rowsIn, numbersOf, entryOf, inForm, tableBytes, slotsIn, tableIn, allInForm, isTable}
-use Rattle.reporting.specs.Events.{Event}
+use Rattle.reporting.specs.Carried.{total, laid, numbersIn, rowsLaid, rowsIn, numbersOf, entryOf, isSlot, tableBytes, slotsIn, tableIn, areSlots, isTable}
+use Rattle.reporting.specs.Lent.{onLent, askLent, markLent}
+use Rattle.reporting.specs.Claims.Events.{Event}
 use Rattle.reporting.specs.Demand3.{asksOf, Supposed, Promised}
 use Rattle.configure.specs.Request.{changeWidth, configureAt}
-use Rattle.configure.specs.Configure.{setting, tried, configureEvents, configureOf}
+use Rattle.configure.specs.Configure.{setting, tried, configureEntries, configureOf}
+use Rattle.configure.specs.Claims.History.{recordEvents, allEvents, recordsDone, configureEvents}
 use Rattle.server.specs.Serve.{commanded, typed, byHeader, tabled, serve}
 use Rattle.server.specs.Lent.{serveLent}
-use Rattle.server.specs.History.{requestEvents}
-use Rattle.server.specs.Bench.{T, key}
-use Rattle.server.specs.ServedHistory.{g}
-use Rattle.server.specs.LogExample.{configuring, crossed, told}
+use Rattle.server.specs.Claims.History.{requestEvents}
+use Rattle.server.specs.Claims.Bench.{T, key}
+use Rattle.server.specs.Claims.ServedHistory.{g}
+use Rattle.server.specs.Claims.LogExample.{configuring, crossed, told}
 use Rattle.server.proofs.LogExample as served
-use Rattle.hingedrift.specs.Tables.{onTable, newLeft, markLeft, askLeft}
-use Rattle.hingedrift.specs.LogExample.{was, new, first, after, LogStands, LogEvents, LogSupposed}
+use Rattle.hingedrift.specs.Tables.{newLeft}
+use Rattle.hingedrift.specs.Claims.LogExample.{was, new, first, after, LogStands, LogEvents, LogSupposed}
 use Rattle.hingedrift.proofs.Logged.{demand-3-of-bytes}
 
 -- ---- bytes, by a test
@@ -59,7 +61,7 @@ store-bytes = bytes-small (T 0x07) refl
 -- ---- the log
 
 pub log-stands : LogStands
-unfolding allZero le bytesOf unsignedAt signedOf signedAt residue sizeOf formOf isAnalog isSigned isFloat changeAt upto count frameTypeOf headerOf replyHead commandOf padded recordsIn recordsFrom walk encodeAll fits turn passFrom encodeFailures answered concluded performed headed attributeAt attributesFrom attributesOf findIn findOf each ascending roomOk isText lengthOk followOn endFrom unusedOk isStore movedBy total laid numbersIn rowsLaid rowsIn numbersOf entryOf inForm tableBytes slotsIn tableIn allInForm isTable changeWidth configureAt setting tried configureEvents configureOf commanded typed byHeader tabled serve serveLent onTable newLeft markLeft askLeft
+unfolding allZero le bytesOf unsignedAt signedOf signedAt residue sizeOf shapeOf isAnalog isSigned isFloat changeAt upto count frameTypeOf headerOf replyHead commandOf padded recordsIn recordsFrom walk encodeAll fits doneWith passFrom encodeFailures answered concluded performed headed attributeAt attributesFrom attributesOf findIn findOf each ascending roomOk isText lengthOk followOn endFrom unusedOk isStore movedBy total laid numbersIn rowsLaid rowsIn numbersOf entryOf isSlot tableBytes slotsIn tableIn areSlots isTable changeWidth configureAt setting tried configureEntries configureOf commanded typed byHeader tabled serve serveLent newLeft onLent markLent askLent
 log-stands = (
   refl,
   (
@@ -70,7 +72,7 @@ log-stands = (
 )
 
 pub log-events : LogEvents
-unfolding allZero le bytesOf unsignedAt signedOf signedAt residue sizeOf formOf isAnalog isSigned isFloat changeAt upto count frameTypeOf headerOf replyHead commandOf padded recordsIn recordsFrom walk encodeAll fits turn passFrom encodeFailures answered concluded performed headed attributeAt attributesFrom attributesOf findIn findOf each ascending roomOk isText lengthOk followOn endFrom unusedOk isStore total laid numbersIn rowsLaid rowsIn numbersOf entryOf tableBytes slotsIn tableIn changeWidth configureAt setting tried configureEvents requestEvents
+unfolding allZero le bytesOf unsignedAt signedOf signedAt residue sizeOf shapeOf isAnalog isSigned isFloat changeAt upto count frameTypeOf headerOf replyHead commandOf padded recordsIn recordsFrom taken encodeAll fits doneWith attributeAt attributesFrom attributesOf findIn findOf each ascending roomOk isText lengthOk followOn endFrom unusedOk isStore total laid numbersIn rowsLaid rowsIn numbersOf entryOf tableBytes slotsIn tableIn changeWidth configureAt setting tried recordEvents allEvents recordsDone configureEvents requestEvents
 log-events = (refl, refl)
 
 pub log-supposed : LogSupposed

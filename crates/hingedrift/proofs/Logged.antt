@@ -7,60 +7,65 @@ use Prim.Native.Nat.{ℕ}
 use native.Mathlib.Omega.{arith}
 use lib.Dec.{eqb}
 use Rattle.frame.specs.declared.answer.Refusal.the-variants.{NotAStore, NotATable}
-use Rattle.frame.specs.Answer.{Outcome, refusalNumber, refused}
+use Rattle.frame.specs.Answer.{Outcome, within, refusalNumber, refused}
 use Rattle.store.specs.Layout.{isStore}
 use Rattle.reporting.specs.declared.entry.Entry.{Entry}
+use Rattle.reporting.specs.declared.table.Change.the-variants as ChangeV
 use Rattle.reporting.specs.Entries.{acceptsL}
-use Rattle.reporting.specs.Table.{room, holding}
-use Rattle.reporting.specs.Carried.{sized, isTable, tableIn, tableBytes}
-use Rattle.reporting.specs.Lent.{bytesAfter}
-use Rattle.reporting.specs.Events.{Event, configured, cleared, asked, marked}
-use Rattle.reporting.specs.Events as Event
+use Rattle.reporting.specs.Table.{capacity, holding, changeTold, ReportTold}
+use Rattle.reporting.specs.Carried.{sizeOk, isTable, tableIn, tableBytes, Written}
+use Rattle.reporting.specs.Lent.{onLent, askLent, markLent, clearLent, ChangeLeft, configureLent, bytesAfter, tableNumber}
+use Rattle.reporting.specs.Claims.Events.{Event, configured, cleared, asked, marked}
+use Rattle.reporting.specs.Claims.Events as Event
 use Rattle.reporting.specs.Demand3.{Supposed, Promised, asksOf}
 use Rattle.reporting.proofs.CarriageTable.{table-is, table-back}
 use Rattle.reporting.proofs.Histories as direct-call
 use Rattle.reporting.proofs.Kept.{Kept}
-use Rattle.server.specs.Serve.{within, serve}
-use Rattle.server.specs.History.{requested, requestEvents, Use, direct, used, useEvents, uses, served}
-use Rattle.server.specs.History as History
+use Rattle.server.specs.Serve.{serve}
+use Rattle.server.specs.Claims.History.{requested, requestEvents, Use, direct, used, useEvents, uses, usesEvents}
+use Rattle.server.specs.Claims.History as History
 use Rattle.server.proofs.Fitting.{AllFit, fit-either, request-fits}
 use Rattle.server.proofs.Frames.{demand-3-of-frames}
-use Rattle.server.proofs.Histories.{request-is}
-use Rattle.server.proofs.Logged.{serve-tight}
-use Rattle.hingedrift.specs.Tables.{bit, Left, left, onTable, noResult, newLeft, configureLeft, clearLeft, markLeft, askLeft}
+use Rattle.server.proofs.Histories.{request-is, request-holds}
+use Rattle.hingedrift.specs.Tables.{bit, Left, left, noResult, newLeft}
 use Rattle.server.specs.Lent.{Lent, lent, carried, serveLent}
 use Rattle.hingedrift.specs.Serving.{isUnicast, handleLeft}
-use Rattle.hingedrift.specs.Log.{Handled, Made, configure, clear, mark, ask, configuration, handle, keyAt, configAs, Contract, Typed, next, last, Log, requestOf, eventsOf, allEventsOf, Demand3OfBytes}
+use Rattle.hingedrift.specs.Claims.Log.{Handled, Made, configure, clear, mark, ask, configuration, handle, keyAt, configAs, Contract, Typed, next, last, Log, requestOf, eventsOf, allEventsOf, Demand3OfBytes}
 use Rattle.hingedrift.proofs.Kept.{run-keeps}
 
 -- ---- bytes that are those of a table with these entries
 
 record Held (bs : List ℕ) (l : List Entry) : Type 0 where
-  bytes : bs ≡ tableBytes room l
-  kept : Kept room l
+  bytes : bs ≡ tableBytes capacity l
+  kept : Kept capacity l
 
 module _ (bs : List ℕ) (l : List Entry) (h : Held bs l) where
-  is-one : isTable room bs ≡ true
-  is-one = ap (isTable room) (h .bytes) ∙ table-is room l (h .kept .small) (h .kept .clean)
+  is-one : isTable capacity bs ≡ true
+  is-one = ap (isTable capacity) (h .bytes) ∙ table-is capacity l (h .kept .small) (h .kept .clean)
 
   are-back : tableIn bs ≡ l
-  are-back = ap tableIn (h .bytes) ∙ table-back room l (h .kept .small) (h .kept .clean)
+  are-back = ap tableIn (h .bytes) ∙ table-back capacity l (h .kept .small) (h .kept .clean)
 
-  on-table : {R : Type 0} (nothing : R) (rest : List Entry → Left R) → onTable bs nothing rest ≡ rest l
-  unfolding onTable
-  on-table nothing rest = ap (λ (b : Bool). cond b (rest (tableIn bs)) (left (refusalNumber NotATable) bs nothing)) is-one ∙ ap rest are-back
+  on-lent : {R : Type 0} (refusal : R) (rest : List Entry → R) → onLent bs refusal rest ≡ rest l
+  unfolding onLent
+  on-lent refusal rest = ap (λ (b : Bool). cond b (rest (tableIn bs)) refusal) is-one ∙ ap rest are-back
 
   on-request : (q : Handled)
       → handleLeft (q .store) bs (q .cluster) (q .unicast) (q .frame) (q .size)
-      ≡ within (carried bs) (serve 8 room (q .store) (holding l) (q .cluster) (isUnicast (q .unicast)) (q .frame) (q .size))
+      ≡ within (carried bs) (serve 8 capacity (q .store) (holding l) (q .cluster) (isUnicast (q .unicast)) (q .frame) (q .size))
   unfolding serveLent
   on-request q =
       ap
       (λ (b : Bool).
-      cond b (within (carried bs) (serve 8 room (q .store) (holding (tableIn bs)) (q .cluster) (isUnicast (q .unicast)) (q .frame) (q .size)))
+      cond b (within (carried bs) (serve 8 capacity (q .store) (holding (tableIn bs)) (q .cluster) (isUnicast (q .unicast)) (q .frame) (q .size)))
       (refused (q .size) (cond (isStore 8 (q .store)) NotATable NotAStore) (lent (q .store) bs)))
       is-one
-      ∙ ap (λ (m : List Entry). within (carried bs) (serve 8 room (q .store) (holding m) (q .cluster) (isUnicast (q .unicast)) (q .frame) (q .size))) are-back
+      ∙ ap (λ (m : List Entry). within (carried bs) (serve 8 capacity (q .store) (holding m) (q .cluster) (isUnicast (q .unicast)) (q .frame) (q .size))) are-back
+
+-- what configuring says of whether it was accepted
+accepted-back : (b : Bool) → eqb (bit (changeTold (cond b ChangeV.Done ChangeV.Full) .accepted)) 1 ≡ b
+accepted-back true = refl
+accepted-back false = refl
 
 bit-back : (b : Bool) → eqb (bit b) 1 ≡ b
 bit-back true = refl
@@ -77,10 +82,10 @@ useOf (configuration a number found) = direct (Event.configuration (keyAt a))
 useOf (handle h) = History.request (requestOf h)
 
 -- what it puts into the table fits the bytes
-use-fits : (c : Made) (l : List Entry) → Typed c → AllFit (useEvents room (useOf c) l)
+use-fits : (c : Made) (l : List Entry) → Typed c → AllFit (useEvents capacity (useOf c) l)
 unfolding useOf
 use-fits (configure a g number accepted table) l d =
-    fit-either (acceptsL room (keyAt a) l) (configured (keyAt a) (configAs g) ∷ []) (
+    fit-either (acceptsL capacity (keyAt a) l) (configured (keyAt a) (configAs g) ∷ []) (
       record {
         cluster = d .0;
         attribute = d .1;
@@ -97,40 +102,40 @@ use-fits (clear a number table) l d = (tt, tt)
 use-fits (mark a x number table) l d = (d, tt)
 use-fits (ask a x number due) l d = (tt, tt)
 use-fits (configuration a number found) l d = tt
-use-fits (handle h) l d = request-fits room (requestOf h) l (d .0) (d .1)
+use-fits (handle h) l d = request-fits capacity (requestOf h) l (d .0) (d .1)
 
-used-keeps : (u : Use) (l : List Entry) → AllFit (useEvents room u l) → Kept room l → Kept room (used room u l)
-used-keeps (History.request r) l f h = subst (Kept room) (request-is room r l .table) (run-keeps room (requestEvents room r l) l f h)
-used-keeps (direct c) l f h = subst (Kept room) (direct-call.call-is room c l .table) (run-keeps room (Event.events room c l) l f h)
+used-keeps : (u : Use) (l : List Entry) → AllFit (useEvents capacity u l) → Kept capacity l → Kept capacity (used capacity u l)
+used-keeps (History.request r) l f h = subst (Kept capacity) (request-is capacity r l .table) (run-keeps capacity (requestEvents capacity r l) l f h)
+used-keeps (direct c) l f h = subst (Kept capacity) (direct-call.call-is capacity c l .table) (run-keeps capacity (Event.events capacity c l) l f h)
 
 record Is (u : Use) (l : List Entry) (es : List Event) (bs : List ℕ) : Type 0 where
-  events : es ≡ useEvents room u l
-  table : bs ≡ tableBytes room (used room u l)
+  events : es ≡ useEvents capacity u l
+  table : bs ≡ tableBytes capacity (used capacity u l)
 
 call-is : (c : Made) (bs : List ℕ) (l : List Entry) → Held bs l → Contract c bs → Is (useOf c) l (eventsOf c bs) (next c bs)
-unfolding useOf configureLeft clearLeft markLeft askLeft requested
+unfolding useOf configureLent clearLent markLent askLent requested
 call-is (configure a g number accepted table) bs l h p =
-    let o = p ∙ on-table bs l h _ _ in
+    let o = p ∙ ap (λ (x : ChangeLeft). left (x .told .number) (x .bytes) (bit (x .told .accepted))) (on-lent bs l h _ _) in
     record {
       events =
           ap (λ (x : Left ℕ). cond (eqb (x .result) 1) (configured (keyAt a) (configAs g) ∷ []) []) o
-          ∙ ap (λ (b : Bool). cond b (configured (keyAt a) (configAs g) ∷ []) []) (bit-back (acceptsL room (keyAt a) l));
+          ∙ ap (λ (b : Bool). cond b (configured (keyAt a) (configAs g) ∷ []) []) (accepted-back (acceptsL capacity (keyAt a) l));
       table = ap (λ (x : Left ℕ). x .table) o;
     }
 call-is (clear a number table) bs l h p =
-    let o = p ∙ on-table bs l h _ _ in
+    let o = p ∙ ap (λ (x : Written). left (tableNumber (x .done)) (x .bytes) noResult) (on-lent bs l h _ _) in
     record {
       events = ap (λ (x : Left (Unit {0})). cond (eqb (x .number) 0) (cleared (keyAt a) ∷ []) []) o;
       table = ap (λ (x : Left (Unit {0})). x .table) o;
     }
 call-is (mark a x number table) bs l h p =
-    let o = p ∙ on-table bs l h _ _ in
+    let o = p ∙ ap (λ (y : Written). left (tableNumber (y .done)) (y .bytes) noResult) (on-lent bs l h _ _) in
     record {
       events = ap (λ (y : Left (Unit {0})). cond (eqb (y .number) 0) (marked (keyAt a) (x .now) (x .value) ∷ []) []) o;
       table = ap (λ (y : Left (Unit {0})). y .table) o;
     }
 call-is (ask a x number due) bs l h p =
-    let o = p ∙ on-table bs l h _ _ in
+    let o = p ∙ ap (λ (y : ReportTold). left (y .number) bs (bit (y .due))) (on-lent bs l h _ _) in
     record {
       events =
           ap (λ (y : Left ℕ). cond (eqb (y .number) 0) (asked (keyAt a) (x .now) (x .value) (eqb (y .result) 1) ∷ []) []) o
@@ -140,26 +145,26 @@ call-is (ask a x number due) bs l h p =
 call-is (configuration a number found) bs l h p = record { events = refl; table = h .bytes }
 call-is (handle q) bs l h p =
     record {
-      events = ap (requestEvents room (requestOf q)) (are-back bs l h);
+      events = ap (requestEvents capacity (requestOf q)) (are-back bs l h);
       table =
           ap (λ (x : Outcome Lent). x .state .table) (p ∙ on-request bs l h q)
-          ∙ ap (bytesAfter bs) (serve-tight (q .store) (isUnicast (q .unicast)) (q .size) (q .cluster) (q .frame) (holding l) refl);
+          ∙ ap (bytesAfter bs) (request-holds capacity (requestOf q) l);
     }
 
-call-held : (c : Made) (bs : List ℕ) (l : List Entry) → Held bs l → Typed c → Contract c bs → Held (next c bs) (used room (useOf c) l)
+call-held : (c : Made) (bs : List ℕ) (l : List Entry) → Held bs l → Typed c → Contract c bs → Held (next c bs) (used capacity (useOf c) l)
 call-held c bs l h d p = record { bytes = call-is c bs l h p .table; kept = used-keeps (useOf c) l (use-fits c l d) (h .kept) }
 
 -- ---- and so a log is uses
 
 record AllIs (us : List Use) (l : List Entry) (es : List Event) (bs : List ℕ) : Type 0 where
-  events : es ≡ served room us l
-  held : Held bs (uses room us l)
+  events : es ≡ usesEvents capacity us l
+  held : Held bs (uses capacity us l)
 
 log-is : (log : List Made) (bs : List ℕ) (l : List Entry) → Held bs l → Log bs log → AllIs (map useOf log) l (allEventsOf log bs) (last log bs)
 log-is [] bs l h p = record { events = refl; held = h }
 log-is (c ∷ log) bs l h p =
     let one = call-is c bs l h (p .1) in
-    let more = log-is log (next c bs) (used room (useOf c) l) (call-held c bs l h (p .0) (p .1)) (p .2) in
+    let more = log-is log (next c bs) (used capacity (useOf c) l) (call-held c bs l h (p .0) (p .1)) (p .2) in
     record { events = λ i. one .events i ++ more .events i; held = more .held }
 
 -- a log cut in two
@@ -170,9 +175,9 @@ log-cut (c ∷ before) after bs p = let w = log-cut before after (next c bs) (p 
 -- the bytes that hd_table_new left, where it gave 0
 new-held : (was bs : List ℕ) → left 0 bs noResult ≡ newLeft was → Held bs []
 unfolding newLeft
-new-held was bs p = record { bytes = go (sized room was) p; kept = record { small = omega arith; clean = tt } }
+new-held was bs p = record { bytes = go (sizeOk capacity was) p; kept = record { small = omega arith; clean = tt } }
   where
-    go : (b : Bool) → left 0 bs noResult ≡ cond b (left 0 (tableBytes room []) noResult) (left (refusalNumber NotATable) was noResult) → bs ≡ tableBytes room []
+    go : (b : Bool) → left 0 bs noResult ≡ cond b (left 0 (tableBytes capacity []) noResult) (left (refusalNumber NotATable) was noResult) → bs ≡ tableBytes capacity []
     go true q = ap (λ (x : Left (Unit {0})). x .table) q
     go false q = let z : _≡_ {A = ℕ} 0 8 = ap (λ (x : Left (Unit {0})). x .number) q in absurd (omega (arith, z))
 
@@ -180,10 +185,10 @@ pub demand-3-of-bytes : Demand3OfBytes
 unfolding useOf
 demand-3-of-bytes was bs before h after earlier k g rest G new p q low high s =
     let cut = log-cut before (handle h ∷ after) bs p in
-    let l : List Entry = uses room (map useOf before) [] in
+    let l : List Entry = uses capacity (map useOf before) [] in
     let held : Held (last before bs) l = log-is before bs [] (new-held was bs new) (cut .0) .held in
     let this = call-is (handle h) (last before bs) l held (cut .1 .1) in
-    let more = log-is after (h .table-after) (requested room (requestOf h) l) (call-held (handle h) (last before bs) l held (cut .1 .0) (cut .1 .1)) (cut .1 .2) in
+    let more = log-is after (h .table-after) (requested capacity (requestOf h) l) (call-held (handle h) (last before bs) l held (cut .1 .0) (cut .1 .1)) (cut .1 .2) in
     subst (λ (es : List Event). Promised g G (asksOf k (rest ++ es))) (sym (more .events))
-    (demand-3-of-frames room (map useOf before) (requestOf h) k g earlier rest G (map useOf after) (sym (this .events) ∙ q) low high
+    (demand-3-of-frames capacity (map useOf before) (requestOf h) k g earlier rest G (map useOf after) (sym (this .events) ∙ q) low high
     (subst (λ (es : List Event). Supposed k G (rest ++ es)) (more .events) s))

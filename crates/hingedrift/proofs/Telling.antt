@@ -4,7 +4,7 @@ use mathlib.Core.Path.{_≡_, sym, ap, _∙_}
 use Rattle.frame.specs.declared.answer.Refusal.{Refusal}
 use Rattle.frame.specs.Answer.{refusalNumber}
 use Rattle.readers.specs.Reading.{Read, unreadable}
-use Rattle.hingedrift.specs.Reading.{told, toldBy}
+use Rattle.readers.specs.Told.{told, toldBy}
 
 -- `is` says what an answer tells of the frame; the answer was `one`
 module _ {E A R : Type 0} (zeros : R) (says : A → R) (is : E → Read A) {answer one : E} {frame : Read A} (contract : is answer ≡ frame) (e : answer ≡ one) where

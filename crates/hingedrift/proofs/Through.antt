@@ -1,4 +1,4 @@
--- The number that is read of what was served is the store's (`specs/Numbers.antt`): from crate `readers`, where the same is proved of a served reply and of
+-- The number that is read of what was served is the store's (`specs/Claims/Numbers.antt`): from crate `readers`, where the same is proved of a served reply and of
 -- a report. Assumes nothing.
 use mathlib.Core.Path.{_≡_, refl, sym, ap, _∙_}
 use mathlib.Core.Bool.{Bool, true, false, cond}
@@ -13,27 +13,28 @@ use Rattle.types.specs.declared.value.Number.{Number}
 use Rattle.types.specs.declared.value.Number.the-variants.{Value, None}
 use Rattle.frame.specs.declared.answer.Refusal.the-variants.{NotAStore, NotATable}
 use Rattle.frame.specs.declared.answer.Answer.the-variants.{Reply}
-use Rattle.frame.specs.Answer.{Outcome, seen, refused}
+use Rattle.frame.specs.Answer.{Outcome, within, seen, refused}
 use Rattle.frame.specs.Walk.{All}
 use Rattle.frame.proofs.Codes.{refusal-nonzero}
 use Rattle.store.specs.Layout.{isStore}
 use Rattle.store.specs.Value.{telling, numberedBy}
 use Rattle.reporting.specs.declared.entry.Entry.{Entry}
-use Rattle.reporting.specs.Table.{room as limit, holding}
-use Rattle.reporting.specs.Carried.{AllClean, isTable, tableIn}
+use Rattle.reporting.specs.Table.{capacity, holding}
+use Rattle.reporting.specs.Carried.{isTable, tableIn}
+use Rattle.reporting.specs.Claims.RoundTrip.{AllClean}
 use Rattle.reporting.proofs.CarriageTable.{table-clean}
 use Rattle.read.specs.Read.{ReadRecord, value}
-use Rattle.server.specs.Serve.{State, within, serve}
+use Rattle.server.specs.Serve.{State, serve}
 use Rattle.server.specs.Report.{ReportRecord}
 use Rattle.readers.specs.declared.value.ValueIn.{ValueIn}
 use Rattle.readers.specs.Reading.{Read, read, unreadable, kth}
 use Rattle.readers.specs.Values.{Held, held, readReplyHeld, reportFrameHeld}
-use Rattle.readers.specs.Served.{Typed}
+use Rattle.readers.specs.Claims.Served.{Typed}
 use Rattle.readers.proofs.Through.{Valued, Failed, read-number, report-number, read-ways, report-held}
 use Rattle.server.specs.Lent.{Lent, lent, carried, serveLent}
 use Rattle.hingedrift.specs.Serving.{handed, isUnicast, numberLeft, handleLeft}
-use Rattle.hingedrift.specs.Reading.{told, recordTold, ValueFields, valueAs, noValue, numberFields, valueFields, valueOr, ReadFields, readAs, readFields, ReportFields, reportAs, reportFields}
-use Rattle.hingedrift.specs.Numbers.{numberSaid, HdReadNumber, HdReportNumber}
+use Rattle.readers.specs.Told.{told, recordTold, ValueFields, valueAs, noValue, numberFields, valueFields, valueOr, ReadFields, readAs, readFields, ReportFields, reportAs, reportFields}
+use Rattle.hingedrift.specs.Claims.Numbers.{numberSaid, HdReadNumber, HdReportNumber}
 
 -- ---- an answer with number 0 was served
 
@@ -51,15 +52,15 @@ seen-of f o size reply after e =
 module _ (s bs : List ℕ) (cluster unicast : ℕ) (frame : List ℕ) (room size : ℕ) (reply : List ℕ) (after : Lent)
     (e : handed 0 size reply after ≡ handleLeft s bs cluster unicast frame room) where
   abbrev served : Outcome State
-  served = serve 8 limit s (holding (tableIn bs)) cluster (isUnicast unicast) frame room
+  served = serve 8 capacity s (holding (tableIn bs)) cluster (isUnicast unicast) frame room
 
   -- the bytes were a table
-  was-served : (isTable limit bs ≡ true) × (seen (Reply size) reply (served .state) ≡ served)
+  was-served : (isTable capacity bs ≡ true) × (seen (Reply size) reply (served .state) ≡ served)
   unfolding serveLent
-  was-served = go (isTable limit bs) refl e
+  was-served = go (isTable capacity bs) refl e
     where
-      go : (b : Bool) → isTable limit bs ≡ b → handed 0 size reply after ≡ cond b (within (carried bs) served) (refused room (cond (isStore 8 s) NotATable NotAStore) (lent s bs))
-          → (isTable limit bs ≡ true) × (seen (Reply size) reply (served .state) ≡ served)
+      go : (b : Bool) → isTable capacity bs ≡ b → handed 0 size reply after ≡ cond b (within (carried bs) served) (refused room (cond (isStore 8 s) NotATable NotAStore) (lent s bs))
+          → (isTable capacity bs ≡ true) × (seen (Reply size) reply (served .state) ≡ served)
       go true t g = (t, seen-of (carried bs) served size reply after g)
       go false t g = absurd (omega (arith, refusal-nonzero (cond (isStore 8 s) NotATable NotAStore), ap (λ x. x .number) g))
 
@@ -101,10 +102,10 @@ hd-read-number s bs cluster unicast frame room h sb tb fb asks size reply after 
         → numberSaid n z ≡ numberLeft s id
     valued y p r v =
         let was = was-served s bs cluster unicast frame room size reply after e in
-        let typed : Typed s frame (tableIn bs) = (sb, fb, intervals (tableIn bs) (table-clean limit bs tb (was .0))) in
+        let typed : Typed s frame (tableIn bs) = (sb, fb, intervals (tableIn bs) (table-clean capacity bs tb (was .0))) in
         let same : readAs 1 id 0 (valueAs t start len n z) ≡ readAs 1 (v .0) 0 (valueFields (v .3)) = r ∙ ap readFields (v .4) in
         said (v .3) t start len n z (ap (λ (q : ReadFields). q .value) same)
-        ∙ ap telling (read-number 8 limit s _ (tableIn bs) cluster (isUnicast unicast) frame room h typed asks size reply _ (was .1) k (v .0) (v .1) (v .2) (v .3) (p ∙ ap (λ (q : Held ReadRecord). read (some q)) (v .4)))
+        ∙ ap telling (read-number 8 capacity s (tableIn bs) cluster (isUnicast unicast) frame room h typed asks size reply _ (was .1) k (v .0) (v .1) (v .2) (v .3) (p ∙ ap (λ (q : Held ReadRecord). read (some q)) (v .4)))
         ∙ ap (λ (i : ℕ). numberLeft s i) (sym (ap (λ (q : ReadFields). q .id) same))
 
 -- ---- a report

@@ -6,15 +6,15 @@ use mathlib.Core.List.{List}
 use lib.ListN.{length}
 use Rattle.frame.specs.Answer.{Outcome, noState}
 use Rattle.store.specs.Value.{Telling}
-use Rattle.hingedrift.specs.Tables.{keyOf, configOf, Left, left, noResult, Configuration, configurationAs, newLeft, configureLeft, clearLeft, markLeft, askLeft, configurationLeft}
+use Rattle.hingedrift.specs.Tables.{keyAs, configOf, Left, left, noResult, Configuration, configurationAs, newLeft, configureLeft, clearLeft, markLeft, askLeft, configurationLeft}
 use Rattle.server.specs.Lent.{Lent, lent}
 use Rattle.hingedrift.specs.Serving.{handed, unsupportedLeft, reportLeft, handleLeft}
-use Rattle.hingedrift.specs.Reading.{Told, told, ValueFields, SettingFields}
-use Rattle.hingedrift.specs.Unique.{HdNumberOnce, HdHandleRequestOnce, HdUnsupportedClusterOnce, HdReportOnce, HdTableNewOnce, HdConfigureOnce}
-use Rattle.hingedrift.specs.Unique.{HdClearOnce, HdConfigurationOnce, HdAskOnce, HdMarkOnce}
-use Rattle.hingedrift.specs.Unique.{HdReadCheckOnce, HdReadRecordOnce, HdWriteCheckOnce, HdWriteRecordOnce, HdConfigureCheckOnce, HdConfigureRecordOnce}
-use Rattle.hingedrift.specs.Unique.{HdConfigurationCheckOnce, HdConfigurationRecordOnce, HdDiscoverCheckOnce, HdDiscoverRecordOnce}
-use Rattle.hingedrift.specs.Unique.{HdDefaultResponseOnce, HdReportCheckOnce, HdReportRecordOnce}
+use Rattle.readers.specs.Told.{Told, told, ValueFields, SettingFields}
+use Rattle.hingedrift.specs.Claims.Unique.{HdNumberOnce, HdHandleRequestOnce, HdUnsupportedClusterOnce, HdReportOnce, HdTableNewOnce, HdConfigureOnce}
+use Rattle.hingedrift.specs.Claims.Unique.{HdClearOnce, HdConfigurationOnce, HdAskOnce, HdMarkOnce}
+use Rattle.hingedrift.specs.Claims.Unique.{HdReadCheckOnce, HdReadRecordOnce, HdWriteCheckOnce, HdWriteRecordOnce, HdConfigureCheckOnce, HdConfigureRecordOnce}
+use Rattle.hingedrift.specs.Claims.Unique.{HdConfigurationCheckOnce, HdConfigurationRecordOnce, HdDiscoverCheckOnce, HdDiscoverRecordOnce}
+use Rattle.hingedrift.specs.Claims.Unique.{HdDefaultResponseOnce, HdReportCheckOnce, HdReportRecordOnce}
 
 -- ---- what is seen of a call tells all that it left
 
@@ -69,22 +69,22 @@ pub hd-table-new-once : HdTableNewOnce
 hd-table-new-once table r q bs cs e f = one-table (newLeft table) r q bs cs e f
 
 pub hd-configure-once : HdConfigureOnce
-hd-configure-once table cluster attribute minimum maximum change r q bs cs x y e f = one-outcome (configureLeft table (keyOf cluster attribute) (configOf minimum maximum change)) r q bs cs x y e f
+hd-configure-once table cluster attribute minimum maximum change r q bs cs x y e f = one-outcome (configureLeft table (keyAs cluster attribute) (configOf minimum maximum change)) r q bs cs x y e f
 
 pub hd-clear-once : HdClearOnce
-hd-clear-once table cluster attribute r q bs cs e f = one-table (clearLeft table (keyOf cluster attribute)) r q bs cs e f
+hd-clear-once table cluster attribute r q bs cs e f = one-table (clearLeft table (keyAs cluster attribute)) r q bs cs e f
 
 pub hd-configuration-once : HdConfigurationOnce
 hd-configuration-once table cluster attribute r q a b k l m n x y e f =
-    let w = one-outcome (configurationLeft table (keyOf cluster attribute)) r q table table (configurationAs a k m x) (configurationAs b l n y) e f in
+    let w = one-outcome (configurationLeft table (keyAs cluster attribute)) r q table table (configurationAs a k m x) (configurationAs b l n y) e f in
     let c = w .1 .1 in
     (w .0, (ap (λ (z : Configuration). z .found) c, (ap (λ (z : Configuration). z .minimum) c, (ap (λ (z : Configuration). z .maximum) c, ap (λ (z : Configuration). z .change) c))))
 
 pub hd-ask-once : HdAskOnce
-hd-ask-once table cluster attribute now value r q x y e f = let w = one-outcome (askLeft table (keyOf cluster attribute) now value) r q table table x y e f in (w .0, w .1 .1)
+hd-ask-once table cluster attribute now value r q x y e f = let w = one-outcome (askLeft table (keyAs cluster attribute) now value) r q table table x y e f in (w .0, w .1 .1)
 
 pub hd-mark-once : HdMarkOnce
-hd-mark-once table cluster attribute now value r q bs cs e f = one-table (markLeft table (keyOf cluster attribute) now value) r q bs cs e f
+hd-mark-once table cluster attribute now value r q bs cs e f = one-table (markLeft table (keyAs cluster attribute) now value) r q bs cs e f
 
 -- src/reading.rt
 

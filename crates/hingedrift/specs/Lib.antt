@@ -1,9 +1,8 @@
 -- What a reader must believe of this crate, a file for an idea.
+
+-- definitions that decide an answer, in the order to read them
 pub mod Tables  -- the reporting table through its bytes
 pub mod Serving  -- the server, a number and a report frame
-pub mod Left  -- what every call of these leaves
 pub mod Reading  -- the readers' functions
-pub mod Log  -- what the functions left, and demand 3 of it
-pub mod LogExample  -- a log that meets what demand 3 supposes
-pub mod Numbers  -- the number of a value, from the store to the head-end
-pub mod Unique  -- no second answer fits a contract
+-- what is claimed of them
+pub mod Claims

@@ -1,5 +1,5 @@
--- The server's functions towards C: those of crates `store` and `server`, with a table as its bytes and `unicast` as a number, 0 or
--- anything else. Assumes nothing: these are definitions.
+-- Definitions. The server's functions towards C: those of crates `store` and `server`, with a table as its bytes and `unicast` as a number, 0 or
+-- anything else.
 use Prim.Native.Nat.{ℕ}
 use mathlib.Core.Bool.{Bool, not}
 use mathlib.Core.List.{List}

@@ -1,23 +1,20 @@
--- The table functions towards C: the operations of crate `reporting`, on a table's bytes. Each gives document 01's number, the bytes
--- afterwards, and results; bytes that are no table get 8, stay as they are, and every result is 0. Assumes nothing: these are definitions.
+-- Definitions. The table functions towards C: what crate `reporting` says of its operations on a table's bytes (specs/Lent.antt), in numbers. Each
+-- gives document 01's number, the bytes afterwards, and results; bytes that are no table get 8, stay as they are, and every result is 0.
 use Prim.Native.Nat.{ℕ}
 use mathlib.Core.Bool.{Bool, cond}
 use mathlib.Core.List.{List, []}
-use mathlib.Core.Option.{Option, none, some}
 use lib.IntN.{ℤ}
 use Rattle.frame.specs.Answer.{refusalNumber}
 use Rattle.frame.specs.declared.answer.Refusal.the-variants.{NotATable}
 use Rattle.reporting.specs.declared.entry.Key.{Key}
 use Rattle.reporting.specs.declared.entry.ReportingConfig.{ReportingConfig}
-use Rattle.reporting.specs.declared.entry.Entry.{Entry}
-use Rattle.reporting.specs.Entries.{lookupL, acceptsL, configureL, clearL, markL}
-use Rattle.reporting.specs.Due.{dueL}
-use Rattle.reporting.specs.Table.{room}
-use Rattle.reporting.specs.Carried.{sized, isTable, tableIn, tableBytes}
+use Rattle.reporting.specs.Table.{capacity}
+use Rattle.reporting.specs.Carried.{sizeOk, tableBytes}
+use Rattle.reporting.specs.Lent.{tableNumber, askLent, configurationLent, markLent, clearLent, configureLent}
 
 -- a cluster and an attribute, as C hands them over
-abbrev pub keyOf : ℕ → ℕ → Key
-keyOf cluster attribute = record { cluster = record { 0 = cluster }; attribute = record { 0 = attribute } }
+abbrev pub keyAs : ℕ → ℕ → Key
+keyAs cluster attribute = record { cluster = record { 0 = cluster }; attribute = record { 0 = attribute } }
 
 abbrev pub configOf : ℕ → ℕ → ℕ → ReportingConfig
 configOf minimum maximum change = record { «min_interval» = minimum; «max_interval» = maximum; «reportable_change» = change }
@@ -34,33 +31,29 @@ pub record Left (R : Type 0) : Type 0 where
 abbrev pub left : {R : Type 0} → ℕ → List ℕ → R → Left R
 left n bs r = record { number = n; table = bs; result = r }
 
--- for a table's entries, as `rest` says; else 8
-unfoldable pub onTable : {R : Type 0} → List ℕ → R → (List Entry → Left R) → Left R
-onTable bs nothing rest = cond (isTable room bs) (rest (tableIn bs)) (left (refusalNumber NotATable) bs nothing)
-
 -- no result
 abbrev pub noResult : Unit {0}
 noResult = tt
 
 -- hd_table_new: the bytes of an empty table, where they have its size
 unfoldable pub newLeft : List ℕ → Left (Unit {0})
-newLeft bs = cond (sized room bs) (left 0 (tableBytes room []) noResult) (left (refusalNumber NotATable) bs noResult)
+newLeft bs = cond (sizeOk capacity bs) (left 0 (tableBytes capacity []) noResult) (left (refusalNumber NotATable) bs noResult)
 
 -- hd_configure: whether it was accepted
-unfoldable pub configureLeft : List ℕ → Key → ReportingConfig → Left ℕ
-configureLeft bs k g = onTable bs 0 (λ l. left 0 (tableBytes room (configureL room k g l)) (bit (acceptsL room k l)))
+abbrev pub configureLeft : List ℕ → Key → ReportingConfig → Left ℕ
+configureLeft bs k g = let x = configureLent k g bs in left (x .told .number) (x .bytes) (bit (x .told .accepted))
 
 -- hd_clear
-unfoldable pub clearLeft : List ℕ → Key → Left (Unit {0})
-clearLeft bs k = onTable bs noResult (λ l. left 0 (tableBytes room (clearL k l)) noResult)
+abbrev pub clearLeft : List ℕ → Key → Left (Unit {0})
+clearLeft bs k = let x = clearLent k bs in left (tableNumber (x .done)) (x .bytes) noResult
 
 -- hd_mark
-unfoldable pub markLeft : List ℕ → Key → ℕ → ℤ → Left (Unit {0})
-markLeft bs k now v = onTable bs noResult (λ l. left 0 (tableBytes room (markL k now v l)) noResult)
+abbrev pub markLeft : List ℕ → Key → ℕ → ℤ → Left (Unit {0})
+markLeft bs k now v = let x = markLent k now v bs in left (tableNumber (x .done)) (x .bytes) noResult
 
 -- hd_ask: whether a report is due
-unfoldable pub askLeft : List ℕ → Key → ℕ → ℤ → Left ℕ
-askLeft bs k now v = onTable bs 0 (λ l. left 0 bs (bit (dueL k now v l)))
+abbrev pub askLeft : List ℕ → Key → ℕ → ℤ → Left ℕ
+askLeft bs k now v = let x = askLent k now v bs in left (x .number) bs (bit (x .due))
 
 -- hd_configuration: whether there is one, and its three numbers
 pub record Configuration : Type 0 where
@@ -72,12 +65,8 @@ pub record Configuration : Type 0 where
 abbrev pub configurationAs : ℕ → ℕ → ℕ → ℕ → Configuration
 configurationAs found minimum maximum change = record { found = found; minimum = minimum; maximum = maximum; change = change }
 
-abbrev pub noConfiguration : Configuration
-noConfiguration = configurationAs 0 0 0 0
+abbrev pub configurationBy : Bool → ReportingConfig → Configuration
+configurationBy found g = configurationAs (bit found) (g .«min_interval») (g .«max_interval») (g .«reportable_change»)
 
-abbrev pub configurationBy : Option Entry → Configuration
-configurationBy none = noConfiguration
-configurationBy (some e) = configurationAs 1 (e .config .«min_interval») (e .config .«max_interval») (e .config .«reportable_change»)
-
-unfoldable pub configurationLeft : List ℕ → Key → Left Configuration
-configurationLeft bs k = onTable bs noConfiguration (λ l. left 0 bs (configurationBy (lookupL k l)))
+abbrev pub configurationLeft : List ℕ → Key → Left Configuration
+configurationLeft bs k = let x = configurationLent k bs in left (x .number) bs (configurationBy (x .found) (x .configuration))

@@ -1,8 +1,9 @@
 // The readers' functions: for each reply, a check of the whole frame and record k of a frame that passes it. Results are set to 0 first,
 // so that a refusal leaves zeros, and a frame without a record k as well.
 ghost use mathlib.Core.Path.{_≡_};
-ghost use Rattle.readers.specs.Inside.{countIs};
-ghost use Rattle.hingedrift.specs.Reading.{told, countTold, readChecked, writeChecked, configureChecked, configurationChecked, reportChecked, discoverChecked, valueAs, valueFields, readAs, readRecorded, reportAs, reportRecorded, writeAs, writeRecorded, configureAs, configureRecorded, settingAs, configurationRecorded, sizedAs, discoverAs, discoverRecorded, responseAs, responseTold};
+ghost use Rattle.readers.specs.Answers.{countIs};
+ghost use Rattle.readers.specs.Told.{told, countTold, valueAs, valueFields, readAs, reportAs, writeAs, configureAs, settingAs, sizedAs, discoverAs, responseAs};
+ghost use Rattle.hingedrift.specs.Reading.{readChecked, writeChecked, configureChecked, configurationChecked, reportChecked, discoverChecked, readRecorded, reportRecorded, writeRecorded, configureRecorded, configurationRecorded, discoverRecorded, responseTold};
 use readers::configuration_reply::ConfigurationReplyRecord;
 use readers::configuration_reply::check_configuration_reply;
 use readers::configuration_reply::configuration_reply_record;

@@ -1,6 +1,6 @@
 // The reporting table's functions, on the table's bytes. Results are set to 0 first, so that a refusal leaves zeros.
 ghost use mathlib.Core.Path.{_≡_};
-ghost use Rattle.hingedrift.specs.Tables.{keyOf, configOf, left, noResult, configurationAs, newLeft, configureLeft, clearLeft, markLeft, askLeft, configurationLeft};
+ghost use Rattle.hingedrift.specs.Tables.{keyAs, configOf, left, noResult, configurationAs, newLeft, configureLeft, clearLeft, markLeft, askLeft, configurationLeft};
 use frame::answer::Refusal;
 use reporting::carried::write_table;
 use reporting::entry::Key;
@@ -19,7 +19,7 @@ use types::ids::ClusterId;
 
 // The key of a cluster and an attribute, as C hands them over.
 fn key_of(cluster: u16, attribute: u16) -> Key
-    ensures { λ r. ⌜ r ≡ keyOf cluster attribute ⌝ }
+    ensures { λ r. ⌜ r ≡ keyAs cluster attribute ⌝ }
 {
     Key {
         cluster: ClusterId(cluster),
@@ -49,7 +49,7 @@ pub extern "C" fn hd_configure(
     change: u64,
     accepted: &mut u8,
 ) -> u8
-    ensures { λ r. ⌜ left r (now (table .exit)) (now (accepted .exit)) ≡ configureLeft (now (table .entry)) (keyOf cluster attribute) (configOf minimum maximum change) ⌝ }
+    ensures { λ r. ⌜ left r (now (table .exit)) (now (accepted .exit)) ≡ configureLeft (now (table .entry)) (keyAs cluster attribute) (configOf minimum maximum change) ⌝ }
 {
     *accepted = 0;
     let config = ReportingConfig {
@@ -70,7 +70,7 @@ pub extern "C" fn hd_configure(
 // Takes an attribute's configuration out of the table.
 #[no_mangle]
 pub extern "C" fn hd_clear(table: &mut [u8], cluster: u16, attribute: u16) -> u8
-    ensures { λ r. ⌜ left r (now (table .exit)) noResult ≡ clearLeft (now (table .entry)) (keyOf cluster attribute) ⌝ }
+    ensures { λ r. ⌜ left r (now (table .exit)) noResult ≡ clearLeft (now (table .entry)) (keyAs cluster attribute) ⌝ }
 {
     if clear_lent(table, key_of(cluster, attribute)) {
         return 0;
@@ -89,7 +89,7 @@ pub extern "C" fn hd_configuration(
     maximum: &mut u16,
     change: &mut u64,
 ) -> u8
-    ensures { λ r. ⌜ left r (now (table .entry)) (configurationAs (now (found .exit)) (now (minimum .exit)) (now (maximum .exit)) (now (change .exit))) ≡ configurationLeft (now (table .entry)) (keyOf cluster attribute) ⌝ }
+    ensures { λ r. ⌜ left r (now (table .entry)) (configurationAs (now (found .exit)) (now (minimum .exit)) (now (maximum .exit)) (now (change .exit))) ≡ configurationLeft (now (table .entry)) (keyAs cluster attribute) ⌝ }
 {
     *found = 0;
     *minimum = 0;
@@ -118,7 +118,7 @@ pub extern "C" fn hd_ask(
     value: i64,
     due: &mut u8,
 ) -> u8
-    ensures { λ r. ⌜ left r (table .entry .now) (due .exit .now) ≡ askLeft (table .entry .now) (keyOf cluster attribute) now value ⌝ }
+    ensures { λ r. ⌜ left r (table .entry .now) (due .exit .now) ≡ askLeft (table .entry .now) (keyAs cluster attribute) now value ⌝ }
 {
     *due = 0;
     match ask_lent(table, key_of(cluster, attribute), now, value) {
@@ -140,7 +140,7 @@ pub extern "C" fn hd_mark(
     now: u32,
     value: i64,
 ) -> u8
-    ensures { λ r. ⌜ left r (table .exit .now) noResult ≡ markLeft (table .entry .now) (keyOf cluster attribute) now value ⌝ }
+    ensures { λ r. ⌜ left r (table .exit .now) noResult ≡ markLeft (table .entry .now) (keyAs cluster attribute) now value ⌝ }
 {
     if mark_lent(table, key_of(cluster, attribute), now, value) {
         return 0;

@@ -2,7 +2,7 @@
 use lib.ListN.{length}
 use Rattle.frame.proofs.Outcome.{only-answer}
 use Rattle.read.specs.Read.{readOf}
-use Rattle.read.specs.Unique.{ReadAttributesOnce}
+use Rattle.read.specs.Claims.Unique.{ReadAttributesOnce}
 
 -- src/attributes.rt
 

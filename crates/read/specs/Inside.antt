@@ -1,4 +1,4 @@
--- What inner functions say; nothing that a caller of this crate must believe. Assumes nothing: these are definitions.
+-- Inside. What inner functions say; nothing that a caller must believe.
 use Prim.Native.Nat.{ℕ}
 use Rattle.frame.specs.Walk.{Item, item, unread}
 use Rattle.read.specs.declared.attributes.NextId.{NextId}

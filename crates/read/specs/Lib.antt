@@ -1,4 +1,8 @@
 -- What a reader must believe of this crate.
+
+-- definitions that decide an answer, in the order to read them
 pub mod Read  -- Read Attributes
-pub mod Unique  -- no second answer fits a contract
-pub mod Inside  -- what only inner functions say
+-- what is claimed of them
+pub mod Claims
+-- what only inner functions say
+pub mod Inside

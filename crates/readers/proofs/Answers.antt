@@ -13,11 +13,12 @@ use Rattle.frame.specs.Header.{replyHead}
 use Rattle.frame.specs.Answer.{Outcome, seen}
 use Rattle.store.specs.Layout.{isStore}
 use Rattle.reporting.specs.declared.entry.Entry.{Entry}
-use Rattle.reporting.specs.Table.{sound}
+use Rattle.reporting.specs.Table.{holding}
 use Rattle.server.specs.Serve.{State, commanded, serve}
+use Rattle.server.specs.Claims.Asks.{Asks}
 use Rattle.readers.specs.Reading.{Read, read}
-use Rattle.readers.specs.Back.{ReadsBack}
-use Rattle.readers.specs.Served.{Made, Asks, Typed, Answered, Serves}
+use Rattle.readers.specs.Claims.Back.{ReadsBack}
+use Rattle.readers.specs.Claims.Served.{OfRequest, Typed, Answered, Serves}
 use Rattle.readers.proofs.Reaching.{Reached, by-command}
 use Rattle.readers.proofs.Outs.{outOf, Sends}
 
@@ -38,19 +39,19 @@ module _ {A : Type 0} (reply : CommandIdentifier) (bytes : A → List ℕ) (Send
     pub sends : Sends o (replyHead h reply ++ bytes x)
 
   -- by a command, for every store, table, request and room
-  abbrev pub Commands : CommandIdentifier → Made A → Type 0
+  abbrev pub Commands : CommandIdentifier → OfRequest A → Type 0
   Commands command made =
-      (form limit : ℕ) (s : List ℕ) (n : ℕ) (l : List Entry) (unicast : Bool) (h : ZclHeader) (body : List ℕ) (room : ℕ)
+      (form limit : ℕ) (s : List ℕ) (l : List Entry) (unicast : Bool) (h : ZclHeader) (body : List ℕ) (room : ℕ)
       → Typed s body l → isStore form s ≡ true
-      → Sent h (commanded form limit s (sound n l) unicast h body room command) (made form limit s l h body room)
+      → Sent h (commanded form limit s (holding l) unicast h body room command) (made form limit s l h body room)
 
 -- every frame that asks so, and is answered, reached a command
 abbrev pub Reaches : CommandIdentifier → (List ℕ → ZclHeader → Type 0) → Type 0
 Reaches command Asking =
-    (form limit : ℕ) (s : List ℕ) (n : ℕ) (l : List Entry) (cluster : ℕ) (unicast : Bool) (frame : List ℕ) (room : ℕ) (h : ZclHeader)
-    → Asking frame h → serve form limit s (sound n l) cluster unicast frame room .number ≡ 0
-    → Reached form s (serve form limit s (sound n l) cluster unicast frame room)
-    (commanded form limit s (sound n l) unicast h (drop (h .body) frame) room command)
+    (form limit : ℕ) (s : List ℕ) (l : List Entry) (cluster : ℕ) (unicast : Bool) (frame : List ℕ) (room : ℕ) (h : ZclHeader)
+    → Asking frame h → serve form limit s (holding l) cluster unicast frame room .number ≡ 0
+    → Reached form s (serve form limit s (holding l) cluster unicast frame room)
+    (commanded form limit s (holding l) unicast h (drop (h .body) frame) room command)
 
 -- ---- what is read of it
 
@@ -61,17 +62,17 @@ module _ {A : Type 0} (reader : List ℕ → Read A) (reply : CommandIdentifier)
   read-sent h o x w size d after e =
       ap reader (seen-out o size d after e ∙ w .sends (seen-zero o size d after e)) ∙ back h x (w .sendable)
 
-  pub answered-by : (command : CommandIdentifier) (Asking : List ℕ → ZclHeader → Type 0) (made : Made A)
+  pub answered-by : (command : CommandIdentifier) (Asking : List ℕ → ZclHeader → Type 0) (made : OfRequest A)
       → Reaches command Asking → Commands reply bytes Sendable command made → Answered Asking reader made
-  answered-by command Asking made reaching k form limit s n l cluster unicast frame room h t a size d after e =
-      let o : Outcome State = serve form limit s (sound n l) cluster unicast frame room in
+  answered-by command Asking made reaching k form limit s l cluster unicast frame room h t a size d after e =
+      let o : Outcome State = serve form limit s (holding l) cluster unicast frame room in
       let body : List ℕ = drop (h .body) frame in
-      let r = reaching form limit s n l cluster unicast frame room h a (seen-zero o size d after e) in
+      let r = reaching form limit s l cluster unicast frame room h a (seen-zero o size d after e) in
       let typed : Typed s body l = (t .0, bytes-drop frame (h .body) (t .1), t .2) in
-      read-sent h (commanded form limit s (sound n l) unicast h body room command) (made form limit s l h body room)
-      (k form limit s n l unicast h body room typed (r .store)) size d after (e ∙ r .is)
+      read-sent h (commanded form limit s (holding l) unicast h body room command) (made form limit s l h body room)
+      (k form limit s l unicast h body room typed (r .store)) size d after (e ∙ r .is)
 
-  pub serves-by : (command : CommandIdentifier) (made : Made A) → Commands reply bytes Sendable command made → Serves command reader made
+  pub serves-by : (command : CommandIdentifier) (made : OfRequest A) → Commands reply bytes Sendable command made → Serves command reader made
   serves-by command made =
-      answered-by command (λ frame h. Asks frame h command) made
-      (λ form limit s n l cluster unicast frame room h. by-command form limit s n l cluster unicast frame room h command)
+      answered-by command (Asks command) made
+      (λ form limit s l cluster unicast frame room h. by-command form limit s l cluster unicast frame room h command)

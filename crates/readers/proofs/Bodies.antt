@@ -10,7 +10,7 @@ use types.Run.{OneOf, miss}
 use denote.Enum.Declared.{tagOf}
 use Rattle.frame.proofs.header.FrameType as frame-type
 use Rattle.frame.specs.CommandIdentifier.{commandCode}
-use Rattle.frame.specs.Header.{frameTypeOf, headerOf}
+use Rattle.frame.specs.Header.{frameTypeOf, isGlobal, headerOf}
 use Rattle.frame.specs.declared.answer.Refusal.{Refusal}
 use Rattle.frame.specs.declared.answer.Refusal.the-variants.{HeaderShort, RecordCut, NotSuchAReply}
 use Rattle.frame.specs.declared.command_identifier.CommandIdentifier.{CommandIdentifier}
@@ -23,9 +23,9 @@ use Rattle.frame.specs.declared.header.ZclHeader.{ZclHeader}
 use Rattle.readers.specs.declared.body.Body.{Body}
 use Rattle.readers.specs.declared.layout.Layout.{Layout}
 use Rattle.readers.specs.Layout.{lengthOf}
-use Rattle.readers.specs.Reading.{Read, read, unreadable, andThen, isGlobal, bodyBy, bodyOf, spansFrom}
+use Rattle.readers.specs.Reading.{Read, read, unreadable, andThen, bodyBy, bodyOf, spansFrom}
 use Rattle.readers.specs.Replies.{spansOf, failuresFrom, failuresOf, responseAt, defaultResponseOf}
-use Rattle.readers.specs.Inside.{bodyIs}
+use Rattle.readers.specs.Answers.{bodyIs}
 
 -- the other types are not global
 other : (t : FrameType) → OneOf (1 ∷ 2 ∷ []) (tagOf frame-type.the-type t) → (b : Bool) → (isGlobal t && b) ≡ false

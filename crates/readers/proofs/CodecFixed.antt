@@ -13,7 +13,7 @@ use Rattle.readers.specs.declared.layout.Layout.the-variants.{WriteFailu
 use Rattle.readers.specs.declared.layout.Length.the-variants.{Bytes}
 use Rattle.readers.specs.Layout.{lengthOf}
 use Rattle.readers.specs.Replies.{writeFailure, configureFailure, discoveredRecord}
-use Rattle.readers.specs.Sendable.{Failed, WriteSendable, ConfigureSendable}
+use Rattle.readers.specs.Claims.Sendable.{Failed, WriteSendable, ConfigureSendable}
 use Rattle.readers.proofs.Lengths.{advancing}
 use Rattle.readers.proofs.Codec.{Codec, Wrote}
 use Rattle.readers.proofs.Fields.{two-back, two-below, two-there, behind, by-firsts, up-to-bytes, up-to-is, failing-bytes, failing-is}

@@ -15,7 +15,7 @@ use Rattle.readers.specs.declared.layout.Layout.the-variants.{ReadStatus
 use Rattle.readers.specs.declared.layout.Length.the-variants.{Bytes, Refused}
 use Rattle.readers.specs.Layout.{valued, lengthOf}
 use Rattle.readers.specs.Replies.{readRecord}
-use Rattle.readers.specs.Sendable.{Whole, Failed, ReadSendable}
+use Rattle.readers.specs.Claims.Sendable.{Whole, Failed, ReadSendable}
 use Rattle.readers.proofs.Lengths.{advancing, bytes-is, refused-not}
 use Rattle.readers.proofs.Codec.{Codec, Wrote}
 use Rattle.readers.proofs.Fields.{two-back, two-below, two-there, behind, by-firsts}

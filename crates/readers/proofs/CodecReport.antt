@@ -11,7 +11,7 @@ use Rattle.readers.specs.declared.layout.Layout.the-variants.{Report}
 use Rattle.readers.specs.declared.layout.Length.the-variants.{Bytes}
 use Rattle.readers.specs.Layout.{valued, lengthOf}
 use Rattle.readers.specs.Replies.{reportedRecord}
-use Rattle.readers.specs.Sendable.{Whole, ReportSendable}
+use Rattle.readers.specs.Claims.Sendable.{Whole, ReportSendable}
 use Rattle.readers.proofs.Lengths.{advancing}
 use Rattle.readers.proofs.Codec.{Codec, Wrote}
 use Rattle.readers.proofs.Fields.{two-back, two-below, two-there, behind, by-firsts}

@@ -19,7 +19,7 @@ use Rattle.readers.specs.declared.layout.Layout.the-variants.{Setting}
 use Rattle.readers.specs.declared.layout.Length.the-variants.{Bytes, Refused}
 use Rattle.readers.specs.Layout.{upTo, lengthOf}
 use Rattle.readers.specs.Replies.{settingRecord}
-use Rattle.readers.specs.Sendable.{Failed, SettingSendable}
+use Rattle.readers.specs.Claims.Sendable.{Failed, SettingSendable}
 use Rattle.readers.proofs.Lengths.{advancing, bytes-is, refused-not}
 use Rattle.readers.proofs.Codec.{Codec, Wrote}
 use Rattle.readers.proofs.Fields.{number-back, two-back, two-below, two-there, bytes-take, behind, by-firsts, up-to-bytes, up-to-is}

@@ -1,7 +1,7 @@
 -- Reading the reply to a Configure Reporting gives the failures that were listed. Assumes nothing.
 use mathlib.Core.Path.{_≡_, subst}
 use mathlib.Core.Bool.{Bool, true, false, cond}
-use mathlib.Core.List.{List, []}
+use mathlib.Core.List.{List}
 use Prim.Native.Nat.{ℕ, _+_, _<_, _^_}
 use lib.ListN.{length, getD}
 use lib.Dec.{eqb}
@@ -16,14 +16,14 @@ use Rattle.frame.specs.Sized.{upTo}
 use Rattle.frame.specs.Encoded.{fits}
 use Rattle.frame.specs.Failures.{Doing, encodeFailures, performed}
 use Rattle.frame.proofs.Sized.{up-to-is}
-use Rattle.reporting.specs.Events.{Event}
+use Rattle.reporting.specs.declared.entry.Entry.{Entry}
 use Rattle.configure.specs.Request.{ConfigureRecord, received, reported, configAt, changeWidth, configureAt, configures}
-use Rattle.configure.specs.Configure.{Failure, failing, encode, configuring, configureEvents, configureOf}
+use Rattle.configure.specs.Configure.{Failure, failing, encode, configuring, configureEntries, configureOf}
 use Rattle.server.specs.Serve.{commanded}
 use Rattle.readers.specs.Replies.{configureReplyOf}
-use Rattle.readers.specs.Sendable.{Failed, ConfigureSendable}
-use Rattle.readers.specs.Back.{ConfigureReplies}
-use Rattle.readers.specs.Served.{configureMade, ConfigureServed}
+use Rattle.readers.specs.Claims.Sendable.{Failed, ConfigureSendable}
+use Rattle.readers.specs.Claims.Back.{ConfigureReplies}
+use Rattle.readers.specs.Claims.Served.{configureMade, ConfigureServed}
 use Rattle.readers.proofs.Outs.{performed-sends, headed-sends}
 use Rattle.readers.proofs.Keeping.{every-read, keeps-failures}
 use Rattle.readers.proofs.Answers.{Commands, serves-by}
@@ -63,13 +63,13 @@ module _ (body : List ℕ) (bytes : AllBytes body) where
   named-all = every-read (configureAt body) (length body) Named named-at
 
 sent : Commands ConfigureReportingResponse (encodeFailures encode) (All ConfigureSendable) ConfigureReporting configureMade
-unfolding commanded configureOf configureEvents replyHead
-sent form limit s n l unicast h body room t store =
-    let doing : Doing (List Event) ConfigureRecord Failure = configuring form limit s h l in
+unfolding commanded configureOf configureEntries replyHead
+sent form limit s l unicast h body room t store =
+    let doing : Doing (List Entry) ConfigureRecord Failure = configuring form limit s h in
     record {
-      sendable = keeps-failures doing ConfigureSendable Named listed-good (fits encode room 3) (configures body) [] (named-all body (t .1));
-      sends = headed-sends h ConfigureReportingResponse [] room (performed doing (configures body) [] room) _
-          (performed-sends doing (configures body) [] room (replyHead h ConfigureReportingResponse));
+      sendable = keeps-failures doing ConfigureSendable Named listed-good (fits encode room 3) (configures body) l (named-all body (t .1));
+      sends = headed-sends h ConfigureReportingResponse l room (performed doing (configures body) l room) _
+          (performed-sends doing (configures body) l room (replyHead h ConfigureReportingResponse));
     }
 
 -- THE PROMISE

@@ -13,7 +13,8 @@ use Rattle.readers.specs.declared.pass.Swept.{Swept}
 use Rattle.readers.specs.Layout.{lengthOf}
 use Rattle.readers.specs.Reading.{Read, read, unreadable, mapped, andThen, counted, kth, bodyOf, Span, spansFrom, recordsOf}
 use Rattle.readers.specs.Replies.{discoveredRecord, discoveredFrom, discovery, discoveryAt, discoverReplyOf}
-use Rattle.readers.specs.Inside.{Sized, Sweeps, sized, attributesIn, countIs, countBy}
+use Rattle.readers.specs.Inside.{Sweeps, countBy}
+use Rattle.readers.specs.Answers.{Sized, sized, attributesIn, countIs}
 use Rattle.readers.proofs.Records.{record-counts}
 
 -- ---- the complete byte

@@ -20,8 +20,8 @@ use Rattle.readers.specs.declared.layout.Layout.the-variants.{Discovered
 use Rattle.readers.specs.Layout.{lengthOf}
 use Rattle.readers.specs.Reading.{Read, read, unreadable, mapped, andThen, bodyOf, spansFrom, recordsOf}
 use Rattle.readers.specs.Replies.{Discovery, discoveredRecord, discovery, discoveryAt, discoveredFrom, discoverReplyOf}
-use Rattle.readers.specs.Sendable.{DiscoverySendable}
-use Rattle.readers.specs.Back.{discoveryBytes}
+use Rattle.readers.specs.Claims.Sendable.{DiscoverySendable}
+use Rattle.readers.specs.Claims.Back.{discoveryBytes}
 use Rattle.readers.proofs.Codec.{read-is, unread-not, records-back, records-only}
 use Rattle.readers.proofs.Heads.{body-at, body-is, from-body}
 use Rattle.readers.proofs.Fields.{first-at}

@@ -17,9 +17,9 @@ use Rattle.store.specs.Contents.{attributeAt, attributesFrom, attributesOf}
 use Rattle.discover.specs.Discover.{Discovered, atOrAfter, listed, completeByte, discoveredAll, discoverReply, discoverOf}
 use Rattle.server.specs.Serve.{commanded}
 use Rattle.readers.specs.Replies.{Discovery, discovery, discoverReplyOf}
-use Rattle.readers.specs.Sendable.{DiscoverySendable}
-use Rattle.readers.specs.Back.{discoveryBytes, DiscoverReplies}
-use Rattle.readers.specs.Served.{discoveryMade, DiscoverServed}
+use Rattle.readers.specs.Claims.Sendable.{DiscoverySendable}
+use Rattle.readers.specs.Claims.Back.{discoveryBytes, DiscoverReplies}
+use Rattle.readers.specs.Claims.Served.{discoveryMade, DiscoverServed}
 use Rattle.readers.proofs.Outs.{Sends, sends-replied, sends-tested}
 use Rattle.readers.proofs.Answers.{Commands, serves-by}
 
@@ -89,7 +89,7 @@ reply-sends room head all maximum = sends-tested room (leb (length head + 1) roo
 
 sent : Commands DiscoverAttributesResponse discoveryBytes DiscoverySendable DiscoverAttributes discoveryMade
 unfolding commanded discoverOf replyHead
-sent form limit s n l unicast h body room t store =
+sent form limit s l unicast h body room t store =
     record {
       sendable = made-good (room - 4) (getD body 2 0) (unsignedAt body 0 2) (attributesOf form s) (named-all form s (t .0));
       sends = sends-tested room (leb 3 (length body)) _ RecordCut noState _

@@ -20,8 +20,8 @@ use Rattle.readers.specs.declared.layout.Layout.{Layout}
 use Rattle.readers.specs.Layout.{lengthOf}
 use Rattle.readers.specs.Reading.{Read, read, unreadable, andThen, bodyOf, spansFrom, recordsOf}
 use Rattle.readers.specs.Replies.{failuresFrom, failuresOf}
-use Rattle.readers.specs.Sendable.{Failed}
-use Rattle.readers.specs.Back.{BothWays}
+use Rattle.readers.specs.Claims.Sendable.{Failed}
+use Rattle.readers.specs.Claims.Back.{BothWays}
 use Rattle.readers.proofs.Codec.{Codec, read-is, unread-not, records-back, records-only}
 use Rattle.readers.proofs.Fields.{first-at}
 use Rattle.readers.proofs.Plain.{records-from}

@@ -13,8 +13,8 @@ use Rattle.types.specs.Number.{le, bytesOf, unsignedAt, AllBytes}
 use Rattle.types.proofs.Numbers.{le-bytes, length-bytes}
 use Rattle.frame.specs.declared.answer.Refusal.the-variants.{RecordCut, NotSuchAReply}
 use Rattle.readers.specs.declared.layout.Length.the-variants.{Bytes, Refused}
-use Rattle.readers.specs.Layout.{upTo, failing}
-use Rattle.readers.specs.Sendable.{Failed}
+use Rattle.readers.specs.Layout.{upTo, failureLength}
+use Rattle.readers.specs.Claims.Sendable.{Failed}
 use Rattle.readers.proofs.Lengths.{bytes-is, refused-not}
 
 -- ---- a number
@@ -83,12 +83,12 @@ up-to-is n l m e = go (leb n (length l)) refl e
     go true b e = (sym (bytes-is n m e), leb-true n (length l) b)
     go false b e = refused-not RecordCut m e
 
-pub failing-bytes : (n : ℕ) (l : List ℕ) → Failed (getD l 0 0) → n ≤ length l → failing n l ≡ Bytes n
-unfolding failing
+pub failing-bytes : (n : ℕ) (l : List ℕ) → Failed (getD l 0 0) → n ≤ length l → failureLength n l ≡ Bytes n
+unfolding failureLength
 failing-bytes n l k h = rw (ne-eqb (getD l 0 0) 0 k) (up-to-bytes n l h)
 
-pub failing-is : (n : ℕ) (l : List ℕ) (m : ℕ) → failing n l ≡ Bytes m → Failed (getD l 0 0) × (m ≡ n) × (n ≤ length l)
-unfolding failing
+pub failing-is : (n : ℕ) (l : List ℕ) (m : ℕ) → failureLength n l ≡ Bytes m → Failed (getD l 0 0) × (m ≡ n) × (n ≤ length l)
+unfolding failureLength
 failing-is n l m e = go (eqb (getD l 0 0) 0) refl e
   where
     go : (b : Bool) → eqb (getD l 0 0) 0 ≡ b → cond b (Refused NotSuchAReply) (upTo n l) ≡ Bytes m → Failed (getD l 0 0) × (m ≡ n) × (n ≤ length l)

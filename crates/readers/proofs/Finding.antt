@@ -9,17 +9,17 @@ use Rattle.frame.specs.declared.header.ZclHeader.{ZclHeader}
 use Rattle.frame.specs.declared.status.Status.the-variants.{UnsupportedAttribute, InsufficientSpace}
 use Rattle.frame.specs.declared.answer.Refusal.the-variants.{ReplyTooLong, NotReportable}
 use Rattle.frame.specs.Status.{statusCode}
-use Rattle.frame.specs.Walk.{All}
+use Rattle.frame.specs.Walk.{done, All}
 use Rattle.frame.specs.Encoded.{fits}
-use Rattle.frame.proofs.Walks.{all-snoc}
+use Rattle.frame.proofs.Walks.{all-snoc, walk-keeps}
 use Rattle.store.specs.declared.lookup.Attribute.{Attribute}
 use Rattle.store.specs.declared.lookup.Found.{Found}
 use Rattle.store.specs.declared.lookup.Found.the-variants.{At, Nothing}
 use Rattle.store.specs.Contents.{nameOf, findOf, reportable}
 use Rattle.store.specs.Value.{valueOf}
 use Rattle.read.specs.Read.{ReadRecord, value, failure, recordBy, recordFor}
-use Rattle.server.specs.Report.{ReportRecord, encode, recordOf, Reported, all, trouble, reportBy, reportFrom}
-use Rattle.readers.specs.Sendable.{Failed}
+use Rattle.server.specs.Report.{ReportRecord, encode, recordOf, Reported, all, trouble, reportBy, reportOne, goesOn, reportFrom}
+use Rattle.readers.specs.Claims.Sendable.{Failed}
 
 -- ---- a read: the record of an id is a value that was found, or a failure
 
@@ -47,26 +47,22 @@ Reports Good (trouble why) = Unit {0}
 
 module _ (form : ℕ) (s : List ℕ) (room head : ℕ) (Good : ReportRecord → Type 0) (Fine : ℕ → Type 0)
     (finds : (id : ℕ) → Fine id → (a : Attribute) → findOf form s (nameOf 0 id) ≡ At a → Good (recordOf s id a)) where
-  reports-by : (id : ℕ) → Fine id → (rs : List ReportRecord) → All Good rs → (rest : List ReportRecord → Reported)
-      → ((longer : List ReportRecord) → All Good longer → Reports Good (rest longer))
-      → (f : Found) → findOf form s (nameOf 0 id) ≡ f → Reports Good (reportBy s room head id rs rest f)
-  reports-by id b rs h rest k (At a) e = go (reportable a) (fits encode room head longer)
+  reports-by : (rs : List ReportRecord) (id : ℕ) → All Good rs → Fine id → (f : Found) → findOf form s (nameOf 0 id) ≡ f → Reports Good (reportBy s room head rs id f)
+  reports-by rs id h b (At a) e = go (reportable a) (fits encode room head longer)
     where
       longer : List ReportRecord
       longer = rs ++ (recordOf s id a ∷ [])
 
-      go : (x y : Bool) → Reports Good (cond x (cond y (rest longer) (trouble ReplyTooLong)) (trouble NotReportable))
-      go true true = k longer (all-snoc Good rs (recordOf s id a) h (finds id b a e))
+      go : (x y : Bool) → Reports Good (cond x (cond y (all longer) (trouble ReplyTooLong)) (trouble NotReportable))
+      go true true = all-snoc Good rs (recordOf s id a) h (finds id b a e)
       go true false = tt
       go false y = tt
-  reports-by id b rs h rest k Nothing e = tt
+  reports-by rs id h b Nothing e = tt
 
-  reports-from : (ids : List ℕ) → All Fine ids → (rs : List ReportRecord) → All Good rs → Reports Good (reportFrom form s room head rs ids)
-  unfolding reportFrom
-  reports-from [] t rs h = h
-  reports-from (id ∷ ids) t rs h =
-      reports-by id (t .0) rs h (λ longer. reportFrom form s room head longer ids) (λ longer w. reports-from ids (t .1) longer w)
-      (findOf form s (nameOf 0 id)) refl
+  reports-turn : (y : Reported) (id : ℕ) → Reports Good y → Fine id → Reports Good (reportOne form s room head y id)
+  reports-turn (all rs) id h b = reports-by rs id h b (findOf form s (nameOf 0 id)) refl
+  reports-turn (trouble why) id h b = tt
 
   pub made-report : (ids : List ℕ) → All Fine ids → Reports Good (reportFrom form s room head [] ids)
-  made-report ids t = reports-from ids t [] tt
+  unfolding reportFrom
+  made-report ids t = walk-keeps (reportOne form s room head) goesOn (Reports Good) Fine reports-turn done ids (all []) tt t

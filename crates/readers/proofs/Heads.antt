@@ -1,11 +1,10 @@
 -- The body of a frame: behind a reply's three bytes, and what follows from there. Assumes nothing.
 use mathlib.Core.Path.{_≡_, refl, ap, _∙_, subst}
-use mathlib.Core.Bool.{Bool, true, false, cond, _&&_}
+use mathlib.Core.Bool.{Bool, true, false, cond}
 use mathlib.Core.List.{List, _++_}
 use Prim.Native.Nat.{ℕ, _≤_}
 use native.Mathlib.Omega.{arith}
 use lib.ListN.{length, getD, drop}
-use lib.Dec.{eqb}
 use borrow.Author.Tests.{eq-eqb}
 use Rattle.frame.specs.declared.header.ZclHeader.{ZclHeader}
 use Rattle.frame.specs.declared.command_identifier.CommandIdentifier.{CommandIdentifier}
@@ -13,9 +12,9 @@ use Rattle.frame.specs.declared.header.HeaderRead.{HeaderRead}
 use Rattle.frame.specs.declared.header.HeaderRead.the-variants.{Header, Short}
 use Rattle.frame.specs.declared.answer.Refusal.the-variants.{HeaderShort, NotSuchAReply}
 use Rattle.frame.specs.CommandIdentifier.{commandCode}
-use Rattle.frame.specs.Header.{hasCode, headerOf, replyHead, frameTypeOf}
+use Rattle.frame.specs.Header.{hasCode, isCommand, headerOf, replyHead, frameTypeOf}
 use Rattle.frame.proofs.Headers.{header-plain, header-body}
-use Rattle.readers.specs.Reading.{Read, read, unreadable, andThen, isGlobal, bodyBy, bodyOf}
+use Rattle.readers.specs.Reading.{Read, read, unreadable, andThen, bodyBy, bodyOf}
 use Rattle.readers.proofs.Codec.{read-is, unread-not}
 
 -- a body may start at p
@@ -35,8 +34,7 @@ module _ (request : ZclHeader) (command : CommandIdentifier) (l : List ℕ) wher
   body-is = refl
 
 body-of-header : (command : CommandIdentifier) (f : List ℕ) (x : HeaderRead) → headerOf f ≡ x → (p : ℕ) → bodyBy command x ≡ read p → Starts f p
-body-of-header command f (Header h) e p g =
-    go (isGlobal (frameTypeOf (h .«frame_control» .0)) && eqb (h .«command_identifier» .0) (commandCode command)) g
+body-of-header command f (Header h) e p g = go (isCommand command h) g
   where
     go : (b : Bool) → cond b (read (h .body)) (unreadable NotSuchAReply) ≡ read p → Starts f p
     go true g = subst (Starts f) (read-is (h .body) p g) (header-body f h e)

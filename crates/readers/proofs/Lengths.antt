@@ -18,7 +18,7 @@ use Rattle.readers.specs.declared.layout.Layout.{Layout}
 use Rattle.readers.specs.declared.layout.Layout.the-variants.{ReadStatus, Report, WriteFailure, ConfigureFailure, Setting, Discovered}
 use Rattle.readers.specs.declared.layout.Length.{Length}
 use Rattle.readers.specs.declared.layout.Length.the-variants.{Bytes, Refused}
-use Rattle.readers.specs.Layout.{upTo, byExtent, valued, failing, lengthOf}
+use Rattle.readers.specs.Layout.{upTo, byExtent, valued, failureLength, lengthOf}
 use Rattle.readers.proofs.Spans.{Advancing}
 
 pub bytes-is : (m n : ℕ) → Bytes m ≡ Bytes n → m ≡ n
@@ -47,8 +47,8 @@ up-to-moves : (m : ℕ) → 0 < m → Advancing (upTo m)
 unfolding upTo
 up-to-moves m h l = moves-if l m (Bytes m) (leb m (length l)) refl (moves-bytes l m h)
 
-failing-moves : (m : ℕ) → 0 < m → Advancing (failing m)
-unfolding failing
+failing-moves : (m : ℕ) → 0 < m → Advancing (failureLength m)
+unfolding failureLength
 failing-moves m h l = moves-cond l (eqb (getD l 0 0) 0) _ (upTo m l) (λ n. refused-not _ n) (up-to-moves m h l)
 
 by-extent : (l : List ℕ) (p : ℕ) (x : Extent) → ((q : ℕ) → x ≡ End q → (p + 1 ≤ q) × (q ≤ length l)) → Moves l (byExtent x)

@@ -45,5 +45,6 @@ pub mod Through  -- the number that is read is the number in the store
 pub mod WorkedNumbers  -- over store T, by computing
 -- No second answer, and the bench replies.
 pub mod Views  -- what an answer says tells the answer
+pub mod Cases  -- each answer tells what its contract says
 pub mod Unique  -- no second answer fits
 pub mod Worked  -- the bench replies, read

@@ -16,7 +16,7 @@ use Rattle.readers.specs.declared.layout.Layout.{Layout}
 use Rattle.readers.specs.declared.layout.Layout.the-variants.{ReadStatus, Report, WriteFailure, ConfigureFailure, Setting, Discovered}
 use Rattle.readers.specs.declared.layout.Length.{Length}
 use Rattle.readers.specs.declared.layout.Length.the-variants.{Bytes, Refused}
-use Rattle.readers.specs.Layout.{upTo, byExtent, valued, failing, lengthOf}
+use Rattle.readers.specs.Layout.{upTo, byExtent, valued, failureLength, lengthOf}
 
 -- a value that does not end is cut
 by-trouble : (x : Extent) → Trouble x → Refused RecordCut ≡ byExtent x
@@ -63,12 +63,12 @@ module _ (l : List ℕ) where
 
   -- a failure, by the byte that was read as its status
   module _ (n b : ℕ) (e : b ≡ getD l 0 0) where
-    pub failure-zero : b ≡ 0 → Refused NotSuchAReply ≡ failing n l
-    unfolding failing
+    pub failure-zero : b ≡ 0 → Refused NotSuchAReply ≡ failureLength n l
+    unfolding failureLength
     failure-zero h = rw (eq-eqb (getD l 0 0) 0 (sym e ∙ h))
 
-    pub failure-bytes : (x : Length) → (b ≡ 0 → ⊥) → x ≡ upTo n l → x ≡ failing n l
-    unfolding failing
+    pub failure-bytes : (x : Length) → (b ≡ 0 → ⊥) → x ≡ upTo n l → x ≡ failureLength n l
+    unfolding failureLength
     failure-bytes x h k = k ∙ rw (ne-eqb (getD l 0 0) 0 (λ z. h (e ∙ z)))
 
   -- a record of a read configuration reply
@@ -93,11 +93,11 @@ module _ (l : List ℕ) where
     unfolding lengthOf
     by-report e h = by-layout Report e h
 
-    pub by-write : y ≡ WriteFailure → x ≡ failing 3 l → x ≡ lengthOf y l
+    pub by-write : y ≡ WriteFailure → x ≡ failureLength 3 l → x ≡ lengthOf y l
     unfolding lengthOf
     by-write e h = by-layout WriteFailure e h
 
-    pub by-configure : y ≡ ConfigureFailure → x ≡ failing 4 l → x ≡ lengthOf y l
+    pub by-configure : y ≡ ConfigureFailure → x ≡ failureLength 4 l → x ≡ lengthOf y l
     unfolding lengthOf
     by-configure e h = by-layout ConfigureFailure e h
 

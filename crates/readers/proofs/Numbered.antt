@@ -23,7 +23,7 @@ use Rattle.store.specs.declared.lookup.Found.the-variants.{At}
 use Rattle.store.specs.Contents.{findOf}
 use Rattle.store.specs.Layout.{isStore}
 use Rattle.store.specs.Value.{usedOf, valueOf, numberedBy, numberIn, numberOf}
-use Rattle.readers.specs.Sendable.{Whole}
+use Rattle.readers.specs.Claims.Sendable.{Whole}
 use Rattle.readers.proofs.Wholes.{found-whole}
 
 -- n bytes at a place, and what they say alone

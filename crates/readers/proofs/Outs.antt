@@ -18,7 +18,7 @@ use Rattle.frame.specs.Shortened.{Making, shortenedFrom, shortenedReply, shorte
 use Rattle.frame.specs.Failures.{Doing, Sofar, pass, encodeFailures, answered, concluded, performed, headed}
 use Rattle.frame.proofs.Buffer.{take-padded}
 use Rattle.frame.proofs.Codes.{refusal-nonzero}
-use Rattle.readers.specs.Served.{kept}
+use Rattle.readers.specs.Claims.Served.{kept}
 
 -- the bytes of a reply: as many of the buffer as its size says
 abbrev pub outOf : {S : Type 0} → Outcome S → List ℕ

@@ -13,7 +13,7 @@ use Rattle.readers.specs.declared.layout.Layout.{Layout}
 use Rattle.readers.specs.Layout.{lengthOf}
 use Rattle.readers.specs.Reading.{Read, read, unreadable, andThen, bodyOf, Span, spansFrom, recordsOf}
 use Rattle.readers.specs.Replies.{spansOf}
-use Rattle.readers.specs.Back.{BothWays}
+use Rattle.readers.specs.Claims.Back.{BothWays}
 use Rattle.readers.proofs.Codec.{Codec, records-back, records-only}
 use Rattle.readers.proofs.Heads.{body-at, body-is, from-body}
 

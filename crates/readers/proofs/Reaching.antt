@@ -20,9 +20,9 @@ use Rattle.frame.proofs.Codes.{refusal-nonzero}
 use Rattle.store.specs.Contents.{clusterOf}
 use Rattle.store.specs.Layout.{isStore}
 use Rattle.reporting.specs.declared.entry.Entry.{Entry}
-use Rattle.reporting.specs.Table.{sound}
+use Rattle.reporting.specs.Table.{holding}
 use Rattle.server.specs.Serve.{State, state, commanded, typed, byHeader, tabled, serve}
-use Rattle.readers.specs.Served.{Asks, AsksCluster}
+use Rattle.server.specs.Claims.Asks.{Asks, AsksCluster}
 
 -- an outcome that is a refusal where a test fails: with the number 0 the test passed, and it is the other one
 pub passed : {S : Type 0} (room : ℕ) (b : Bool) (x : Outcome S) (why : Refusal) (s : S) → cond b x (refused room why s) .number ≡ 0
@@ -35,33 +35,33 @@ pub record Reached (form : ℕ) (s : List ℕ) (served there : Outcome State) : 
   pub store : isStore form s ≡ true
   pub is : served ≡ there
 
-module _ (form limit : ℕ) (s : List ℕ) (n : ℕ) (l : List Entry) (cluster : ℕ) (unicast : Bool) (frame : List ℕ) (room : ℕ) (h : ZclHeader) where
+module _ (form limit : ℕ) (s : List ℕ) (l : List Entry) (cluster : ℕ) (unicast : Bool) (frame : List ℕ) (room : ℕ) (h : ZclHeader) where
   abbrev served : Outcome State
-  served = serve form limit s (sound n l) cluster unicast frame room
+  served = serve form limit s (holding l) cluster unicast frame room
 
   abbrev reaches : FrameType → Outcome State
-  reaches k = typed form limit s (sound n l) unicast h (drop (h .body) frame) room k
+  reaches k = typed form limit s (holding l) unicast h (drop (h .body) frame) room k
 
   abbrev commands : CommandIdentifier → Outcome State
-  commands c = commanded form limit s (sound n l) unicast h (drop (h .body) frame) room c
+  commands c = commanded form limit s (holding l) unicast h (drop (h .body) frame) room c
 
   -- through the store, the table and the cluster to the header
   by-type : headerOf frame ≡ Header h → served .number ≡ 0 → Reached form s served (reaches (frameTypeOf (h .«frame_control» .0)))
   unfolding serve tabled byHeader
   by-type e z =
-      let x : HeaderRead → Outcome State = byHeader form limit s (sound n l) unicast frame room in
-      let t : Outcome State = cond (eqb cluster (clusterOf s)) (x (headerOf frame)) (refused room OtherCluster (state s (sound n l))) in
-      let p = passed room (isStore form s) t NotAStore (state s (sound n l)) z in
-      let q = passed room (eqb cluster (clusterOf s)) (x (headerOf frame)) OtherCluster (state s (sound n l))
+      let x : HeaderRead → Outcome State = byHeader form limit s (holding l) unicast frame room in
+      let t : Outcome State = cond (eqb cluster (clusterOf s)) (x (headerOf frame)) (refused room OtherCluster (state s (holding l))) in
+      let p = passed room (isStore form s) t NotAStore (state s (holding l)) z in
+      let q = passed room (eqb cluster (clusterOf s)) (x (headerOf frame)) OtherCluster (state s (holding l))
       (ap (λ (o : Outcome State). o .number) (sym (p .1)) ∙ z) in
       record { store = p .0; is = p .1 ∙ q .1 ∙ ap x e }
 
   -- a global command is done
-  pub by-command : (c : CommandIdentifier) → Asks frame h c → served .number ≡ 0 → Reached form s served (commands c)
+  pub by-command : (c : CommandIdentifier) → Asks c frame h → served .number ≡ 0 → Reached form s served (commands c)
   unfolding typed
   by-command c a z =
       let r = by-type (a .header) z in
-      record { store = r .store; is = r .is ∙ ap reaches (a .global) ∙ ap commands (a .command-is) }
+      record { store = r .store; is = r .is ∙ ap reaches (a .global) ∙ ap commands (a .command) }
 
   -- a cluster command is answered as one that is not supported
   pub by-cluster : AsksCluster frame h → served .number ≡ 0 → Reached form s served (commands ReadAttributesResponse)

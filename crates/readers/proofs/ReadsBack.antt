@@ -1,4 +1,4 @@
--- THE READERS' PROMISE (specs/Back.antt), reply by reply: what was written is read back, and nothing else is accepted. Assumes nothing.
+-- THE READERS' PROMISE (specs/Claims/Back.antt), reply by reply: what was written is read back, and nothing else is accepted. Assumes nothing.
 use mathlib.Core.List.{List, _++_}
 use Prim.Native.Nat.{ℕ}
 use lib.ListN.{getD}
@@ -10,8 +10,8 @@ use Rattle.configure.specs.Configuration as Configuration
 use Rattle.server.specs.Report as Report
 use Rattle.readers.specs.declared.layout.Layout.the-variants as Layout
 use Rattle.readers.specs.Replies.{readRecord, writeFailure, configureFailure, settingRecord, reportedRecord, readReplyOf, writeReplyOf, configureReplyOf, configurationReplyOf, reportFrameOf}
-use Rattle.readers.specs.Sendable.{Failed, ReadSendable, WriteSendable, ConfigureSendable, SettingSendable, ReportSendable}
-use Rattle.readers.specs.Back.{ReadReplies, WriteReplies, ConfigureReplies, ConfigurationReplies, ReportFrames, DiscoverReplies, DefaultResponsesBack, DefaultResponsesOnly}
+use Rattle.readers.specs.Claims.Sendable.{Failed, ReadSendable, WriteSendable, ConfigureSendable, SettingSendable, ReportSendable}
+use Rattle.readers.specs.Claims.Back.{ReadReplies, WriteReplies, ConfigureReplies, ConfigurationReplies, ReportFrames, DiscoverReplies, DefaultResponsesBack, DefaultResponsesOnly}
 use Rattle.readers.proofs.Plain.{plain-both}
 use Rattle.readers.proofs.Failing.{failing-both}
 use Rattle.readers.proofs.Discovering.{discover-back, discover-only}

@@ -17,9 +17,9 @@ use Rattle.store.specs.Layout.{isStore}
 use Rattle.read.specs.Read.{ReadRecord, encode, idAt, idsFrom, recordFor, readOf}
 use Rattle.server.specs.Serve.{commanded}
 use Rattle.readers.specs.Replies.{readReplyOf}
-use Rattle.readers.specs.Sendable.{ReadSendable}
-use Rattle.readers.specs.Back.{ReadReplies}
-use Rattle.readers.specs.Served.{readMade, ReadServed}
+use Rattle.readers.specs.Claims.Sendable.{ReadSendable}
+use Rattle.readers.specs.Claims.Back.{ReadReplies}
+use Rattle.readers.specs.Claims.Served.{readMade, ReadServed}
 use Rattle.readers.proofs.Wholes.{found-whole}
 use Rattle.readers.proofs.Outs.{shortened-sends}
 use Rattle.readers.proofs.Finding.{made-read}
@@ -40,7 +40,7 @@ makes form s h store fit id b =
 
 sent : Commands ReadAttributesResponse (encodeAll encode) (All ReadSendable) ReadAttributes readMade
 unfolding commanded readOf replyHead
-sent form limit s n l unicast h body room t store =
+sent form limit s l unicast h body room t store =
     record {
       sendable = keeps-shortened encode (recordFor form s h) room 3 ReadSendable (λ id. id < 2 ^ 16) (makes form s h store) (idsFrom body 0)
           (every-read (idAt body) (length body) (λ id. id < 2 ^ 16) (id-below body (t .1)));

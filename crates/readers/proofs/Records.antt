@@ -8,7 +8,8 @@ use lib.ListN.{length, take, drop, getElem?, length-map}
 use Rattle.frame.specs.declared.answer.Refusal.{Refusal}
 use Rattle.readers.specs.declared.pass.Swept.{Swept}
 use Rattle.readers.specs.Reading.{Read, read, unreadable, mapped, counted, kth, Span, span, cutOut, recordsOf}
-use Rattle.readers.specs.Inside.{Stand, Sweeps, countIs, countBy}
+use Rattle.readers.specs.Inside.{Stand, Sweeps, countBy}
+use Rattle.readers.specs.Answers.{countIs}
 
 -- ---- lists
 

@@ -1,11 +1,11 @@
 -- Reading a report that was made gives the records of its list of ids. Assumes nothing.
 use mathlib.Core.Path.{_≡_, refl, ap, _∙_}
 use mathlib.Core.Bool.{cond}
-use mathlib.Core.List.{List, [], _∷_, _++_}
+use mathlib.Core.List.{List, [], _++_}
 use Prim.Native.Nat.{ℕ, _<_, _^_}
 use native.Mathlib.Omega.{arith}
-use lib.ListN.{take}
-use lib.Dec.{leb}
+use lib.ListN.{length, take}
+use lib.Dec.{leb, ltb}
 use Rattle.frame.specs.Walk.{All}
 use Rattle.frame.specs.declared.command_identifier.CommandIdentifier.the-variants.{ReportAttributes}
 use Rattle.frame.specs.declared.answer.Answer.the-variants.{Reply}
@@ -16,12 +16,12 @@ use Rattle.frame.specs.Encoded.{encodeAll}
 use Rattle.frame.proofs.Codes.{refusal-nonzero}
 use Rattle.store.specs.Contents.{nameOf}
 use Rattle.store.specs.Layout.{isStore}
-use Rattle.server.specs.Report.{ReportRecord, encode, Reported, all, trouble, reportFrom, reportReply, unasked, listed, reportOf}
+use Rattle.server.specs.Report.{ReportRecord, encode, Reported, all, trouble, reportFrom, reportReply, unasked, reportOf}
 use Rattle.readers.specs.Reading.{read}
 use Rattle.readers.specs.Replies.{reportFrameOf}
-use Rattle.readers.specs.Sendable.{ReportSendable}
-use Rattle.readers.specs.Back.{ReportFrames}
-use Rattle.readers.specs.Served.{ReportSent}
+use Rattle.readers.specs.Claims.Sendable.{ReportSendable}
+use Rattle.readers.specs.Claims.Back.{ReportFrames}
+use Rattle.readers.specs.Claims.Served.{ReportSent}
 use Rattle.readers.proofs.Reaching.{passed}
 use Rattle.readers.proofs.Wholes.{found-whole}
 use Rattle.readers.proofs.Outs.{sends-replied}
@@ -29,11 +29,6 @@ use Rattle.readers.proofs.Finding.{Reports, made-report}
 use Rattle.readers.proofs.Answers.{seen-zero, read-sent}
 
 -- ---- THE PROMISE
-
--- a list with no id is refused
-listed-is : (ids : List ℕ) (room : ℕ) (rest : Outcome (Unit {0})) → listed ids room rest .number ≡ 0 → listed ids room rest ≡ rest
-listed-is [] room rest z = absurd (omega (arith, refusal-nonzero EmptyReport))
-listed-is (id ∷ ids) room rest z = refl
 
 module _ (back : ReportFrames) (room sequence size : ℕ) (reply : List ℕ) where
   -- what was sent is all records, and they are read
@@ -54,12 +49,13 @@ unfolding reportOf replyHead
 report-sent back form s sequence ids room short size reply e =
     let head : List ℕ = replyHead (unasked sequence) ReportAttributes in
     let y : Reported = reportFrom form s room 3 [] ids in
-    let one : Outcome (Unit {0}) = listed ids room (reportReply room head y) in
+    let one : Outcome (Unit {0}) = cond (ltb 0 (length ids)) (reportReply room head y) (refused room EmptyReport noState) in
     let two : Outcome (Unit {0}) = cond (leb 3 room) one (refused room ReplyTooLong noState) in
     let p = passed room (isStore form s) two NotAStore noState (seen-zero _ size reply noState e) in
     let e₂ : seen (Reply size) reply noState ≡ two = e ∙ p .1 in
     let q = passed room (leb 3 room) one ReplyTooLong noState (seen-zero two size reply noState e₂) in
     let e₃ : seen (Reply size) reply noState ≡ one = e₂ ∙ q .1 in
+    let n = passed room (ltb 0 (length ids)) (reportReply room head y) EmptyReport noState (seen-zero one size reply noState e₃) in
     by-report back room sequence size reply y
     (made-report form s room 3 ReportSendable (λ id. id < 2 ^ 16) (λ id b a f. (b, found-whole form s (nameOf 0 id) a (p .0) f)) ids short)
-    (e₃ ∙ listed-is ids room (reportReply room head y) (seen-zero one size reply noState e₃))
+    (e₃ ∙ n .1)

@@ -15,7 +15,7 @@ use Rattle.frame.specs.declared.header.ZclHeader.{ZclHeader}
 use Rattle.frame.specs.Header.{replyHead}
 use Rattle.readers.specs.Reading.{Read, read, unreadable, andThen, bodyOf}
 use Rattle.readers.specs.Replies.{Response, responseAt, defaultResponseOf}
-use Rattle.readers.specs.Back.{responseBytes}
+use Rattle.readers.specs.Claims.Back.{responseBytes}
 use Rattle.readers.proofs.Codec.{read-is, unread-not}
 use Rattle.readers.proofs.Heads.{body-at, from-body}
 

@@ -17,13 +17,14 @@ use Rattle.frame.specs.declared.answer.Refusal.the-variants.{ReplyTooLong, Noth
 use Rattle.frame.specs.Status.{statusCode}
 use Rattle.frame.specs.Header.{replyHead, headerOf}
 use Rattle.frame.specs.Answer.{Outcome, noState, refused}
-use Rattle.reporting.specs.Table.{Table, sound}
+use Rattle.reporting.specs.Table.{Table, holding}
 use Rattle.server.specs.DefaultResponse.{silences, defaultReply, defaultResponse}
 use Rattle.server.specs.Serve.{State, commanded}
-use Rattle.server.specs.UnsupportedCluster.{among, isDefaultResponse, respond, unsupportedCluster}
+use Rattle.server.specs.Claims.Asks.{AsksCluster}
+use Rattle.server.specs.UnsupportedCluster.{isServed, isDefaultResponse, respond, unsupportedCluster}
 use Rattle.readers.specs.Replies.{Response, defaultResponseOf}
-use Rattle.readers.specs.Back.{ReadsBack, responseBytes, DefaultResponsesBack}
-use Rattle.readers.specs.Served.{responseMade, AsksCluster, ClusterServed, IsOther, OtherServed, UnsupportedClusterServed}
+use Rattle.readers.specs.Claims.Back.{ReadsBack, responseBytes, DefaultResponsesBack}
+use Rattle.readers.specs.Claims.Served.{responseMade, ClusterServed, IsOther, OtherServed, UnsupportedClusterServed}
 use Rattle.readers.proofs.Reaching.{by-cluster}
 use Rattle.readers.proofs.Outs.{Sends, sends-replied, sends-refused, sends-either, sends-tested}
 use Rattle.readers.proofs.Answers.{Commands, read-sent, answered-by, serves-by}
@@ -80,7 +81,7 @@ module _ (form limit : ℕ) (s : List ℕ) (t : Table) (unicast : Bool) (h : Zcl
   other-sends c o = subst (λ (x : Outcome State). Sends x (sentBy h UnsupCommand)) (other-is c o) unsupported-sends
 
 commands : (c : CommandIdentifier) → IsOther c → Commands DefaultResponse responseBytes Anything c responseMade
-commands c o form limit s n l unicast h body room t store = record { sendable = tt; sends = other-sends form limit s (sound n l) unicast h body room c o }
+commands c o form limit s l unicast h body room t store = record { sendable = tt; sends = other-sends form limit s (holding l) unicast h body room c o }
 
 cluster-sends : (served : List ℕ) (cluster : ℕ) (unicast : Bool) (frame : List ℕ) (room : ℕ) (h : ZclHeader) → headerOf frame ≡ Header h
     → Sends (unsupportedCluster served cluster unicast frame room) (sentBy h UnsupportedCluster)
@@ -90,7 +91,7 @@ cluster-sends served cluster unicast frame room h e =
     let none : Outcome (Unit {0}) = refused room NothingToSend noState in
     let one : Sends (respond unicast room (Header h)) out =
     sends-either (isDefaultResponse h) none _ out (sends-refused room NothingToSend noState out) (default-sends h unicast UnsupportedCluster room) in
-    sends-either (among cluster served) none _ out (sends-refused room NothingToSend noState out)
+    sends-either (isServed cluster served) none _ out (sends-refused room NothingToSend noState out)
     (subst (λ (r : HeaderRead). Sends (respond unicast room r) out) (sym e) one)
 
 -- ---- THE PROMISES

@@ -1,5 +1,5 @@
 -- Reading what was served gives the records that were made: each claim from what was written being read back. Assumes nothing.
-use Rattle.readers.specs.Served.{ReadServed, WriteServed, UndividedServed, ConfigureServed, ConfigurationServed, DiscoverServed, ClusterServed, OtherServed, UnsupportedClusterServed, ReportSent}
+use Rattle.readers.specs.Claims.Served.{ReadServed, WriteServed, UndividedServed, ConfigureServed, ConfigurationServed, DiscoverServed, ClusterServed, OtherServed, UnsupportedClusterServed, ReportSent}
 use Rattle.readers.proofs.ReadsBack.{read-replies, write-replies, configure-replies, configuration-replies, report-frames, discover-replies, default-responses-back}
 use Rattle.readers.proofs.ReadsServed as Reads
 use Rattle.readers.proofs.WritesServed as Writes

@@ -30,9 +30,9 @@ use Rattle.configure.specs.Request.{changeWidth, Asked, asked, askedAt, askedFr
 use Rattle.configure.specs.Configuration.{SettingRecord, failure, encode, settingBy, recordBy, recordFor, configurationOf}
 use Rattle.server.specs.Serve.{commanded}
 use Rattle.readers.specs.Replies.{configurationReplyOf}
-use Rattle.readers.specs.Sendable.{SettingSendable}
-use Rattle.readers.specs.Back.{ConfigurationReplies}
-use Rattle.readers.specs.Served.{settingsMade, ConfigurationServed}
+use Rattle.readers.specs.Claims.Sendable.{SettingSendable}
+use Rattle.readers.specs.Claims.Back.{ConfigurationReplies}
+use Rattle.readers.specs.Claims.Served.{settingsMade, ConfigurationServed}
 use Rattle.readers.proofs.Outs.{shortened-sends}
 use Rattle.readers.proofs.Keeping.{every-read, keeps-shortened}
 use Rattle.readers.proofs.Answers.{Commands, serves-by}
@@ -88,7 +88,7 @@ module _ (l : List Entry) (short : All Short l) (r : Asked) (n : Named r) where
 
 sent : Commands ReadReportingConfigurationResponse (encodeAll encode) (All SettingSendable) ReadReportingConfiguration settingsMade
 unfolding commanded configurationOf replyHead
-sent form limit s n l unicast h body room t store =
+sent form limit s l unicast h body room t store =
     let making : Making Asked SettingRecord = λ fit. recordFor form s l h in
     record {
       sendable = keeps-shortened encode making room 3 SettingSendable Named (λ fit r k. makes l (t .2) r k form s h) (askedFrom body 0)

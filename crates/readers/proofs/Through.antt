@@ -7,7 +7,7 @@ use mathlib.Core.Option.{none, some}
 use mathlib.Core.Logic.{_⊎_, inl, inr}
 use Prim.Native.Nat.{ℕ, zero, suc, _+_, _-_, _<_, _^_}
 use native.Mathlib.Omega.{arith}
-use lib.ListN.{length, take, drop, getD, getElem?}
+use lib.ListN.{take, drop, getD, getElem?}
 use lib.Dec.{eqb}
 use borrow.Author.Tests.{eqb-false}
 use Rattle.types.specs.Number.{unsignedAt}
@@ -17,27 +17,28 @@ use Rattle.frame.specs.declared.command_identifier.CommandIdentifier.the-varian
 use Rattle.frame.specs.declared.answer.Refusal.the-variants.{NotAStore}
 use Rattle.frame.specs.Answer.{noState}
 use Rattle.frame.specs.Walk.{All}
+use Rattle.frame.proofs.Walks.{any}
 use Rattle.store.specs.declared.lookup.Attribute.{Attribute}
 use Rattle.store.specs.declared.lookup.Found.the-variants.{At}
 use Rattle.store.specs.Contents.{nameOf, findOf}
 use Rattle.store.specs.Layout.{isStore}
 use Rattle.store.specs.Value.{valueOf, numberedBy, numberOf}
 use Rattle.reporting.specs.declared.entry.Entry.{Entry}
-use Rattle.read.specs.Read.{ReadRecord, value, failure, encode, idAt, idsFrom, recordFor}
+use Rattle.read.specs.Read.{ReadRecord, value, failure, encode, idsFrom, recordFor}
 use Rattle.server.specs.Report.{ReportRecord, reportRecord, all, reportFrom, reportOf}
 use Rattle.readers.specs.declared.layout.Layout.the-variants.{ReadStatus, Report}
 use Rattle.readers.specs.declared.value.ValueIn.{ValueIn}
 use Rattle.readers.specs.Reading.{Read, read, unreadable, mapped, kth, Span, cutOut, recordsOf}
 use Rattle.readers.specs.Replies.{spansOf, readRecord, readReplyOf, reportedRecord, reportFrameOf}
 use Rattle.readers.specs.Values.{valueIn, Held, held, readHeld, readReplyHeld, reportHeld, reportFrameHeld}
-use Rattle.readers.specs.Sendable.{Whole}
-use Rattle.readers.specs.Served.{readMade}
-use Rattle.readers.specs.Numbers.{ReadNumber, ReportNumber}
+use Rattle.readers.specs.Claims.Sendable.{Whole}
+use Rattle.readers.specs.Claims.Served.{readMade}
+use Rattle.readers.specs.Claims.Numbers.{ReadNumber, ReportNumber}
 use Rattle.readers.proofs.Values.{behind}
 use Rattle.readers.proofs.Wholes.{found-whole}
 use Rattle.readers.proofs.Numbered.{number-alone, found-number}
 use Rattle.readers.proofs.Finding.{Reports, made-read, made-report}
-use Rattle.readers.proofs.Keeping.{every-read, keeps-shortened}
+use Rattle.readers.proofs.Keeping.{keeps-shortened}
 use Rattle.readers.proofs.Reaching.{passed, by-command}
 use Rattle.readers.proofs.Answers.{seen-zero}
 use Rattle.readers.proofs.ServesBack.{read-served, report-sent}
@@ -137,15 +138,15 @@ read-made-tells form limit s l h body room store =
     (λ fit id u. made-read form s h (ReadTells form s (h .«manufacturer_code» .0)) id
     (found-tells form s store (nameOf (h .«manufacturer_code» .0) id)) (λ status k. tt) fit)
     (idsFrom body 0)
-    (every-read (idAt body) (length body) (λ id. Unit {0}) (λ p id q e. tt))
+    (any (idsFrom body 0 .list))
 
 pub read-number : ReadNumber
 unfolding readReplyOf recordsOf readReplyHeld
-read-number form limit s n l cluster unicast frame room h typed asks size reply after e k id t v w i =
+read-number form limit s l cluster unicast frame room h typed asks size reply after e k id t v w i =
     let f : List ℕ = take size reply in
     let code : ℕ = h .«manufacturer_code» .0 in
-    let made = read-served form limit s n l cluster unicast frame room h typed asks size reply after e in
-    let reached = by-command form limit s n l cluster unicast frame room h ReadAttributes asks (seen-zero _ size reply after e) in
+    let made = read-served form limit s l cluster unicast frame room h typed asks size reply after e in
+    let reached = by-command form limit s l cluster unicast frame room h ReadAttributes asks (seen-zero _ size reply after e) in
     let good = read-made-tells form limit s l h (drop (h .body) frame) room (reached .store) in
     let y = in-reply (λ (x : Span). readRecord (cutOut f x)) (readHeld f) (ReadTells form s code) (spansOf ReadAttributesResponse ReadStatus f) _ made good k _ i in
     read-tells form s code f (y .0) id t v w (y .1) (y .2)

@@ -3,12 +3,9 @@
 use Rattle.readers.specs.Reading.{counted, kth}
 use Rattle.readers.specs.Replies.{readReplyOf, writeReplyOf, configureReplyOf, configurationReplyOf, reportFrameOf, discoverReplyOf, defaultResponseOf}
 use Rattle.readers.specs.Values.{readReplyHeld, reportFrameHeld}
-use Rattle.readers.specs.Inside.{sized, attributesIn}
-use Rattle.readers.specs.Unique.{CheckConfigurationReplyOnce, ConfigurationReplyRecordOnce, CheckConfigureReplyOnce, ConfigureReplyRecordOnce}
-use Rattle.readers.specs.Unique.{ReadDefaultResponseOnce, CheckDiscoverReplyOnce, DiscoverReplyRecordOnce, CheckReadReplyOnce, ReadReplyRecordOnce}
-use Rattle.readers.specs.Unique.{CheckReportFrameOnce, ReportFrameRecordOnce, CheckWriteReplyOnce, WriteReplyRecordOnce}
-use Rattle.readers.proofs.Views.{one-count, one-discovery, one-response, one-write-record, one-configure-record, one-configuration-record}
-use Rattle.readers.proofs.Views.{one-discover-record, one-read-record, one-report-record}
+use Rattle.readers.specs.Answers.{sized, attributesIn}
+use Rattle.readers.specs.Claims.Unique.{CheckConfigurationReplyOnce, ConfigurationReplyRecordOnce, CheckConfigureReplyOnce, ConfigureReplyRecordOnce, ReadDefaultResponseOnce, CheckDiscoverReplyOnce, DiscoverReplyRecordOnce, CheckReadReplyOnce, ReadReplyRecordOnce, CheckReportFrameOnce, ReportFrameRecordOnce, CheckWriteReplyOnce, WriteReplyRecordOnce}
+use Rattle.readers.proofs.Views.{one-count, one-discovery, one-response, one-write-record, one-configure-record, one-configuration-record, one-discover-record, one-read-record, one-report-record}
 
 -- src/configuration_reply.rt
 pub check-configuration-reply-once : CheckConfigurationReplyOnce

@@ -17,7 +17,7 @@ use Rattle.types.proofs.Back.{extent-back}
 use Rattle.frame.specs.declared.answer.Refusal.the-variants.{RecordCut}
 use Rattle.readers.specs.declared.layout.Length.the-variants.{Bytes, Refused}
 use Rattle.readers.specs.Layout.{byExtent, valued}
-use Rattle.readers.specs.Sendable.{Whole}
+use Rattle.readers.specs.Claims.Sendable.{Whole}
 use Rattle.readers.proofs.Lengths.{bytes-is, refused-not}
 
 -- a record with a type at p has it

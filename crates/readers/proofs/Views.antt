@@ -24,9 +24,8 @@ use Rattle.readers.specs.declared.default_reply.DefaultReply.{DefaultRep
 use Rattle.readers.specs.Reading.{Read, read, unreadable}
 use Rattle.readers.specs.Replies.{Response}
 use Rattle.readers.specs.Values.{Held}
-use Rattle.readers.specs.Inside.{countIs, readRecordIs, reportRecordIs, writeRecordIs, configureRecordIs, configurationRecordIs}
-use Rattle.readers.specs.Inside.{Sized, discoveryIs, discoverRecordIs, responseIs}
-use Rattle.readers.specs.Unique.{OneSays}
+use Rattle.readers.specs.Answers.{countIs, readRecordIs, reportRecordIs, writeRecordIs, configureRecordIs, configurationRecordIs, Sized, discoveryIs, discoverRecordIs, responseIs}
+use Rattle.readers.specs.Claims.Unique.{OneSays}
 
 -- what can be read back is said by one answer only
 by-back : {A B : Type 0} (says : A → B) (back : B → A) → ((a : A) → back (says a) ≡ a) → (x : B) → OneSays says x

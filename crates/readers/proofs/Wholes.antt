@@ -8,12 +8,12 @@ use native.Mathlib.Omega.{arith}
 use lib.ListN.{length, drop, length-drop}
 use lib.Seq.{length-take-le, take-take}
 use Rattle.types.specs.Number.{le, unsignedAt}
-use Rattle.types.specs.Ids.{formOf}
-use Rattle.types.specs.Extent.{byForm, seriesAt, structureAt, text, countBy, count, extentOf}
-use Rattle.types.specs.declared.ids.Form.{Form}
-use Rattle.types.specs.declared.ids.Form.the-variants.{Fixed, Text}
+use Rattle.types.specs.Ids.{shapeOf}
+use Rattle.types.specs.Extent.{byShape, seriesAt, structureAt, text, countBy, count, extentOf}
+use Rattle.types.specs.declared.ids.Shape.{Shape}
+use Rattle.types.specs.declared.ids.Shape.the-variants.{Fixed, Text}
 use Rattle.types.specs.declared.extent.Extent.the-variants.{End}
-use Rattle.types.proofs.Extents.{upto-in, valueAt-form, fixed-value, text-from}
+use Rattle.types.proofs.Extents.{upto-in, valueAt-shape, fixed-value, text-from}
 use Rattle.store.specs.declared.lookup.Attribute.{Attribute}
 use Rattle.store.specs.declared.lookup.Found.the-variants.{At}
 use Rattle.store.specs.Contents.{findOf}
@@ -22,7 +22,7 @@ use Rattle.store.specs.Value.{usedOf, valueOf}
 use Rattle.store.proofs.Contents.{found-in}
 use Rattle.store.proofs.Placed.{Placed, placed}
 use Rattle.store.proofs.Stored.{room-kinds, used-within}
-use Rattle.readers.specs.Sendable.{Whole}
+use Rattle.readers.specs.Claims.Sendable.{Whole}
 
 module _ (form : ℕ) (s : List ℕ) (a : Attribute) (p : Placed form s a) where
   -- all of its bytes are there
@@ -33,11 +33,11 @@ module _ (form : ℕ) (s : List ℕ) (a : Attribute) (p : Placed form s a) where
       let d : length (drop (a .offset) s) ≡ length s - a .offset = length-drop (a .offset) s in
       length-take-le (usedOf s a) (drop (a .offset) s) (omega (arith, p .within))
 
-  used-as : (f : Form) → formOf (a .«type_id» .0) ≡ f → usedOf s a ≡ cond (textBy f) (1 + textLength s a) (a .room)
+  used-as : (f : Shape) → shapeOf (a .«type_id» .0) ≡ f → usedOf s a ≡ cond (textBy f) (1 + textLength s a) (a .room)
   unfolding usedOf isText
-  used-as f k = ap (λ (x : Form). cond (textBy x) (1 + textLength s a) (a .room)) k
+  used-as f k = ap (λ (x : Shape). cond (textBy x) (1 + textLength s a) (a .room)) k
 
-  fixed-whole : formOf (a .«type_id» .0) ≡ Fixed (a .room) → Whole (a .«type_id» .0) (valueOf s a)
+  fixed-whole : shapeOf (a .«type_id» .0) ≡ Fixed (a .room) → Whole (a .«type_id» .0) (valueOf s a)
   fixed-whole k =
       let n : length (valueOf s a) ≡ a .room = value-length ∙ used-as (Fixed (a .room)) k in
       fixed-value 15 (valueOf s a) (a .«type_id» .0) (a .room) k 0 ∙ upto-in (valueOf s a) 0 (a .room) (omega arith) ∙ ap End (omega arith)
@@ -47,11 +47,11 @@ module _ (form : ℕ) (s : List ℕ) (a : Attribute) (p : Placed form s a) where
   unfolding count unsignedAt valueOf
   text-count h = ap (λ (l : List ℕ). countBy 1 (le l)) (sym (take-take 1 (usedOf s a) (drop (a .offset) s) h))
 
-  by-text : (v : List ℕ) (t : ℕ) → formOf t ≡ Text → text 1 v 0 ≡ extentOf v 0 t
-  unfolding byForm
-  by-text v t k = sym (valueAt-form 15 v t 0 ∙ ap (λ (f : Form). byForm v 0 f (seriesAt 15 v 0) (structureAt 15 v 0)) k)
+  by-text : (v : List ℕ) (t : ℕ) → shapeOf t ≡ Text → text 1 v 0 ≡ extentOf v 0 t
+  unfolding byShape
+  by-text v t k = sym (valueAt-shape 15 v t 0 ∙ ap (λ (f : Shape). byShape v 0 f (seriesAt 15 v 0) (structureAt 15 v 0)) k)
 
-  text-whole : formOf (a .«type_id» .0) ≡ Text → Whole (a .«type_id» .0) (valueOf s a)
+  text-whole : shapeOf (a .«type_id» .0) ≡ Text → Whole (a .«type_id» .0) (valueOf s a)
   text-whole k =
       let v : List ℕ = valueOf s a in
       let m : ℕ = textLength s a in

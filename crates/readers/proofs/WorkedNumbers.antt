@@ -6,22 +6,22 @@ use mathlib.Core.Option.{Option, none, some}
 use Prim.Native.Nat.{ℕ}
 use lib.IntN.{ℤ, pos, negsuc}
 use Rattle.types.specs.Number.{allZero, le, bytesOf, unsignedAt, signedOf, signedAt}
-use Rattle.types.specs.Ids.{sizeOf, formOf, isSigned}
+use Rattle.types.specs.Ids.{sizeOf, shapeOf, isSigned}
 use Rattle.types.specs.Value.{numberAt}
-use Rattle.types.specs.Extent.{upto, count, byForm, valueAt}
+use Rattle.types.specs.Extent.{upto, count, byShape, valueAt}
 use Rattle.types.specs.declared.value.Number.the-variants.{Value}
 use Rattle.frame.specs.Header.{frameTypeOf, headerOf, replyHead}
 use Rattle.frame.specs.CommandIdentifier.{commandOf}
 use Rattle.frame.specs.Reply.{padded}
 use Rattle.frame.specs.Walk.{recordsIn, recordsFrom, walk}
 use Rattle.frame.specs.Encoded.{encodeAll, fits}
-use Rattle.frame.specs.Shortened.{turn, shortenedFrom, shortenedReply, shortened}
+use Rattle.frame.specs.Shortened.{withRecordFor, shortenedFrom, shortenedReply, shortened}
 use Rattle.store.specs.Contents.{attributeAt, attributesFrom, attributesOf, findIn, findOf}
 use Rattle.store.specs.Layout.{each, ascending, roomOk, isText, lengthOk, followOn, endFrom, unusedOk, isStore}
 use Rattle.store.specs.Value.{usedOf, valueOf}
 use Rattle.read.specs.Read.{idAt, encode, recordBy, recordFor, readOf}
 use Rattle.server.specs.Serve.{commanded, typed, byHeader, tabled, serve}
-use Rattle.server.specs.Bench.{T, served}
+use Rattle.server.specs.Claims.Bench.{T, benchAnswer}
 use Rattle.server.specs.Report.{encode as encodeReport, reportFrom, reportReply, reportOf}
 use Rattle.readers.specs.declared.value.ValueIn.{ValueIn}
 use Rattle.readers.specs.Reading.{Read, read, unreadable, kth, bodyOf, spansIn, spansFrom}
@@ -42,11 +42,11 @@ valueAtPlace t start len z = some (record { «type_id» = record { 0 = t }; star
 
 -- attributes 0 and 5 asked for
 abbrev answer : List ℕ
-answer = outOf (served (0x00 ∷ 0x2a ∷ 0x00 ∷ 0x00 ∷ 0x00 ∷ 0x05 ∷ 0x00 ∷ []) 64)
+answer = outOf (benchAnswer (0x00 ∷ 0x2a ∷ 0x00 ∷ 0x00 ∷ 0x00 ∷ 0x05 ∷ 0x00 ∷ []) 64)
 
 read-worked : (cameWith (kth 0 (readReplyHeld answer)) ≡ valueAtPlace 0x23 7 4 (pos 2147483648))
     × (cameWith (kth 1 (readReplyHeld answer)) ≡ valueAtPlace 0x29 15 2 (negsuc 199))
-unfolding allZero le bytesOf unsignedAt signedOf signedAt sizeOf formOf isSigned numberAt upto count byForm valueAt frameTypeOf headerOf replyHead commandOf padded recordsIn recordsFrom walk encodeAll fits turn shortenedFrom shortenedReply shortened attributeAt attributesFrom attributesOf findIn findOf each ascending roomOk isText lengthOk followOn endFrom unusedOk isStore usedOf valueOf idAt encode recordBy recordFor readOf commanded typed byHeader tabled serve bodyOf spansIn spansFrom valued lengthOf spansOf readRecord valueIn readReplyHeld
+unfolding allZero le bytesOf unsignedAt signedOf signedAt sizeOf shapeOf isSigned numberAt upto count byShape valueAt frameTypeOf headerOf replyHead commandOf padded recordsIn recordsFrom walk encodeAll fits withRecordFor shortenedFrom shortenedReply shortened attributeAt attributesFrom attributesOf findIn findOf each ascending roomOk isText lengthOk followOn endFrom unusedOk isStore usedOf valueOf idAt encode recordBy recordFor readOf commanded typed byHeader tabled serve bodyOf spansIn spansFrom valued lengthOf spansOf readRecord valueIn readReplyHeld
 read-worked = (refl, refl)
 
 -- and reported
@@ -55,5 +55,5 @@ report = outOf (reportOf 8 (T 0x07) 0x2e (0 ∷ 5 ∷ []) 64)
 
 report-worked : (cameWith (kth 0 (reportFrameHeld report)) ≡ valueAtPlace 0x23 6 4 (pos 2147483648))
     × (cameWith (kth 1 (reportFrameHeld report)) ≡ valueAtPlace 0x29 13 2 (negsuc 199))
-unfolding allZero le bytesOf unsignedAt signedOf signedAt sizeOf formOf isSigned numberAt upto count byForm valueAt frameTypeOf headerOf replyHead padded encodeAll fits attributeAt attributesFrom attributesOf findIn findOf each ascending roomOk isText lengthOk followOn endFrom unusedOk isStore usedOf valueOf encodeReport reportFrom reportReply reportOf bodyOf spansIn spansFrom valued lengthOf spansOf reportedRecord valueIn reportFrameHeld
+unfolding allZero le bytesOf unsignedAt signedOf signedAt sizeOf shapeOf isSigned numberAt upto count byShape valueAt frameTypeOf headerOf replyHead padded walk encodeAll fits attributeAt attributesFrom attributesOf findIn findOf each ascending roomOk isText lengthOk followOn endFrom unusedOk isStore usedOf valueOf encodeReport reportFrom reportReply reportOf bodyOf spansIn spansFrom valued lengthOf spansOf reportedRecord valueIn reportFrameHeld
 report-worked = (refl, refl)

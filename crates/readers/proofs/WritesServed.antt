@@ -24,9 +24,9 @@ use Rattle.write.specs.Reply.{Failure, encode}
 use Rattle.write.specs.Write.{checked, writing, checking, ifNone, undivided, writeAttributes, writeUndivided}
 use Rattle.server.specs.Serve.{commanded}
 use Rattle.readers.specs.Replies.{writeReplyOf}
-use Rattle.readers.specs.Sendable.{WriteSendable}
-use Rattle.readers.specs.Back.{WriteReplies}
-use Rattle.readers.specs.Served.{writeMade, undividedMade, WriteServed, UndividedServed}
+use Rattle.readers.specs.Claims.Sendable.{WriteSendable}
+use Rattle.readers.specs.Claims.Back.{WriteReplies}
+use Rattle.readers.specs.Claims.Served.{writeMade, undividedMade, WriteServed, UndividedServed}
 use Rattle.readers.proofs.Outs.{Sends, sends-refused, concluded-sends, performed-sends, headed-sends}
 use Rattle.readers.proofs.Keeping.{every-read, keeps-failures}
 use Rattle.readers.proofs.Answers.{Commands, serves-by}
@@ -73,7 +73,7 @@ module _ (body : List ℕ) (bytes : AllBytes body) where
 
 written-sent : Commands WriteAttributesResponse (encodeFailures encode) (All WriteSendable) WriteAttributes writeMade
 unfolding commanded writeAttributes replyHead
-written-sent form limit s n l unicast h body room t store =
+written-sent form limit s l unicast h body room t store =
     record {
       sendable = written-good body (t .1) form h s (fits encode room 3);
       sends = headed-sends h WriteAttributesResponse s room (performed (writing form h) (records body) s room) _
@@ -112,7 +112,7 @@ if-none-good P (f ∷ fs) second h k = h
 
 undivided-sent : Commands WriteAttributesResponse (encodeFailures encode) (All WriteSendable) WriteAttributesUndivided undividedMade
 unfolding commanded writeUndivided replyHead
-undivided-sent form limit s n l unicast h body room t store =
+undivided-sent form limit s l unicast h body room t store =
     let fine : List Failure → Bool = fits encode room 3 in
     let way : Way (Sofar (List ℕ) Failure) = pass (checking form h) fine (records body) s in
     record {

@@ -1,5 +1,4 @@
--- How long a record is, by its first bytes (document 01, "Readers give .. 4 for a cut body"): the first trouble met counts. Assumes
--- nothing: these are definitions.
+-- Definitions. How long a record is, by its first bytes (document 01, "Readers give .. 4 for a cut body"): the first trouble met counts.
 use Prim.Native.Nat.{ℕ, _+_}
 use mathlib.Core.Bool.{cond}
 use mathlib.Core.List.{List}
@@ -30,8 +29,8 @@ unfoldable pub valued : ℕ → List ℕ → Length
 valued p l = cond (leb (p + 1) (length l)) (byExtent (extentOf l (p + 1) (getD l p 0))) (Refused RecordCut)
 
 -- a failure of n bytes begins with its status; 00 in a list of failures is 10, and met before a cut
-unfoldable pub failing : ℕ → List ℕ → Length
-failing n l = cond (eqb (getD l 0 0) 0) (Refused NotSuchAReply) (upTo n l)
+unfoldable pub failureLength : ℕ → List ℕ → Length
+failureLength n l = cond (eqb (getD l 0 0) 0) (Refused NotSuchAReply) (upTo n l)
 
 -- THE LENGTH of the record that some bytes begin with
 unfoldable pub lengthOf : Layout → List ℕ → Length
@@ -40,9 +39,9 @@ lengthOf ReadStatus l = cond (leb 3 (length l)) (cond (eqb (getD l 2 0) 0) (valu
 -- a report: id (2), type and value
 lengthOf Report l = valued 2 l
 -- a write reply's failure: status (1), id (2)
-lengthOf WriteFailure l = failing 3 l
+lengthOf WriteFailure l = failureLength 3 l
 -- a configure reply's failure: status (1), direction (1), id (2)
-lengthOf ConfigureFailure l = failing 4 l
+lengthOf ConfigureFailure l = failureLength 4 l
 -- a read configuration reply: status (1), direction (1), id (2), and on success type (1), minimum (2), maximum (2), change
 lengthOf Setting l = cond (leb 4 (length l)) (cond (eqb (getD l 0 0) 0) (upTo (9 + changeWidth (getD l 4 0)) l) (Bytes 4)) (Refused RecordCut)
 -- a discover reply: id (2), type (1)

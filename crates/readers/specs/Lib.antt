@@ -1,12 +1,13 @@
--- What a reader must believe of this crate.
+-- What a reader must believe of this crate, a file for an idea.
+
+-- definitions that decide an answer, in the order to read them
 pub mod Reading  -- a frame that is read, its body and its records
 pub mod Layout  -- how long a record is
 pub mod Replies  -- each reply
 pub mod Values  -- where a value lies, and its number
-pub mod Sendable  -- the records that a reply can hold
-pub mod Back  -- what was written is read back, and nothing else is accepted
-pub mod Served  -- reading what was served gives the records that were made
-pub mod Numbers  -- the number that is read is the number in the store
-pub mod Bench  -- the bench replies, read, as one list under one claim
-pub mod Inside  -- what the code's answers say
-pub mod Unique  -- no second answer fits a contract
+pub mod Answers  -- what the code's answers say
+pub mod Told  -- the number and the values that are told
+-- what is claimed of them
+pub mod Claims
+-- what only inner functions say
+pub mod Inside

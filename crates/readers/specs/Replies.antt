@@ -1,5 +1,5 @@
--- Each reply, and a report frame, read (document 01, "Readers give .."): its records, or why it is refused. The records are those that
--- the commands' definitions write. Assumes nothing: these are definitions.
+-- Definitions. Each reply, and a report frame, read (document 01, "Readers give .."): its records, or why it is refused. The records are those that
+-- the commands' definitions write.
 use Prim.Native.Nat.{ℕ, _+_}
 use mathlib.Core.Bool.{cond, _&&_}
 use mathlib.Core.List.{List, []}

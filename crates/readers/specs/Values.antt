@@ -1,5 +1,5 @@
--- A record with where its value lies in the frame and the value's number, which is that of the store (document 01, "Number of a value"):
--- only Int types have a sign. Assumes nothing: these are definitions.
+-- Definitions. A record with where its value lies in the frame and the value's number, which is that of the store (document 01, "Number of a value"):
+-- only Int types have a sign.
 use Prim.Native.Nat.{ℕ, _+_, _-_}
 use mathlib.Core.Bool.{cond}
 use mathlib.Core.List.{List, map}

@@ -1,7 +1,7 @@
 // Where the body of a reply starts.
 ghost use mathlib.Core.Path.{_≡_};
 ghost use Rattle.readers.specs.Reading.{bodyOf};
-ghost use Rattle.readers.specs.Inside.{bodyIs};
+ghost use Rattle.readers.specs.Answers.{bodyIs};
 use frame::answer::Refusal;
 use frame::command_identifier::CommandIdentifier;
 use frame::header::FrameType;

@@ -3,7 +3,7 @@ ghost use mathlib.Core.Path.{_≡_};
 ghost use mathlib.Core.Option.{some};
 ghost use Rattle.readers.specs.Reading.{read, counted, kth};
 ghost use Rattle.readers.specs.Replies.{settingRecord, configurationReplyOf};
-ghost use Rattle.readers.specs.Inside.{countIs, configurationRecordIs};
+ghost use Rattle.readers.specs.Answers.{countIs, configurationRecordIs};
 use super::layout::Layout;
 use super::pass::Count;
 use super::pass::Swept;

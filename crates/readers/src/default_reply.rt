@@ -1,7 +1,7 @@
 // A Default Response (0b; ZCL 2.5.12): one record, so its check hands it out.
 ghost use mathlib.Core.Path.{_≡_};
 ghost use Rattle.readers.specs.Replies.{defaultResponseOf};
-ghost use Rattle.readers.specs.Inside.{responseIs};
+ghost use Rattle.readers.specs.Answers.{responseIs};
 use super::body::Body;
 use super::body::body_of;
 use frame::answer::Refusal;

@@ -2,7 +2,8 @@
 ghost use mathlib.Core.Path.{_≡_};
 ghost use Rattle.readers.specs.Reading.{kth};
 ghost use Rattle.readers.specs.Replies.{discoveredFrom, discoveryAt, discoverReplyOf};
-ghost use Rattle.readers.specs.Inside.{Sweeps, discoveryIs, discoverRecordIs, sized, attributesIn};
+ghost use Rattle.readers.specs.Inside.{Sweeps};
+ghost use Rattle.readers.specs.Answers.{discoveryIs, discoverRecordIs, sized, attributesIn};
 use super::body::Body;
 use super::body::body_of;
 use super::layout::Layout;

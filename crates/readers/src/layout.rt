@@ -1,6 +1,6 @@
 // How long a record of a reply is, by its first bytes.
 ghost use mathlib.Core.Path.{_≡_};
-ghost use Rattle.readers.specs.Layout.{upTo, valued, failing, lengthOf};
+ghost use Rattle.readers.specs.Layout.{upTo, valued, failureLength, lengthOf};
 use configure::change::change_width;
 use frame::answer::Refusal;
 use types::extent::Extent;
@@ -66,7 +66,7 @@ fn read_status_record(rest: &[u8]) -> Length
 
 // A failure of n bytes: 00 is met before a cut.
 fn failure_record(rest: &[u8], n: usize) -> Length
-    ensures { λ r. ⌜ r ≡ failing n (now (rest .entry)) ⌝ }
+    ensures { λ r. ⌜ r ≡ failureLength n (now (rest .entry)) ⌝ }
 {
     if byte_at(rest, 0) == 0 {
         return Length::Refused(Refusal::NotSuchAReply);

@@ -3,7 +3,7 @@ ghost use mathlib.Core.Path.{_≡_};
 ghost use Rattle.readers.specs.Reading.{counted, kth};
 ghost use Rattle.readers.specs.Replies.{readReplyOf};
 ghost use Rattle.readers.specs.Values.{readReplyHeld};
-ghost use Rattle.readers.specs.Inside.{countIs, readRecordIs};
+ghost use Rattle.readers.specs.Answers.{countIs, readRecordIs};
 use super::layout::Layout;
 use super::pass::Count;
 use super::pass::Swept;

@@ -3,7 +3,7 @@ ghost use mathlib.Core.Path.{_≡_};
 ghost use Rattle.readers.specs.Reading.{counted, kth};
 ghost use Rattle.readers.specs.Replies.{reportFrameOf};
 ghost use Rattle.readers.specs.Values.{reportFrameHeld};
-ghost use Rattle.readers.specs.Inside.{countIs, reportRecordIs};
+ghost use Rattle.readers.specs.Answers.{countIs, reportRecordIs};
 use super::layout::Layout;
 use super::pass::Count;
 use super::pass::Swept;

@@ -2,7 +2,7 @@
 ghost use mathlib.Core.Path.{_≡_};
 ghost use Rattle.readers.specs.Reading.{counted, kth};
 ghost use Rattle.readers.specs.Replies.{writeReplyOf};
-ghost use Rattle.readers.specs.Inside.{countIs, writeRecordIs};
+ghost use Rattle.readers.specs.Answers.{countIs, writeRecordIs};
 use super::layout::Layout;
 use super::pass::Count;
 use super::pass::Swept;

@@ -1,6 +1,6 @@
 -- Laws of the answers to a frame (`specs/Commands.antt`). Assumes nothing.
 use mathlib.Core.Path.{_≡_, refl, sym, ap, _∙_, subst}
-use mathlib.Core.Bool.{Bool, true, false}
+use mathlib.Core.Bool.{Bool, true, false, cond}
 use mathlib.Core.Option.{none}
 use mathlib.Core.List.{List, [], _∷_, _++_}
 use Prim.Native.Nat.{ℕ, suc, _+_, _-_, _%_, _≤_, _<_}
@@ -15,7 +15,7 @@ use Rattle.frame.specs.Answer.{Outcome, answerNumber, answerLength, seen}
 use Rattle.frame.specs.declared.answer.Answer.{Answer}
 use Rattle.frame.specs.declared.reply.Put.{Put}
 use Rattle.frame.specs.declared.reply.Put.the-variants.{At, Full}
-use Rattle.frame.specs.Header.{frameTypeOf, headerOf}
+use Rattle.frame.specs.Header.{frameTypeOf, isGlobal, headerOf}
 use Rattle.frame.specs.declared.header.FrameType.{FrameType}
 use Rattle.frame.specs.declared.header.FrameType.the-variants.{GlobalCommand, ClusterCommand, Reserved}
 use Rattle.frame.specs.declared.header.ZclHeader.{ZclHeader}
@@ -26,7 +26,7 @@ use denote.Enum.Declared.{tagOf}
 use Rattle.replay.specs.Bytes.{same}
 use Rattle.replay.specs.Ours.{agreement}
 use Rattle.replay.specs.declared.cases.Agreement.the-variants.{Is, NoInput}
-use Rattle.replay.specs.Commands.{askedBy, ifGlobal, askedOf, outcomeOf, storeSays, answerSays, answerWith, next, answersFrom, answers, answersTo, ofCommand}
+use Rattle.replay.specs.Commands.{askedBy, askedOf, outcomeOf, storeSays, answerSays, answerWith, next, answersFrom, answers, answersTo, ofCommand}
 use Rattle.replay.specs.declared.commands.Command.{Command}
 use Rattle.replay.specs.declared.commands.Asked.{Asked}
 use Rattle.replay.specs.declared.commands.Asked.the-variants.{For, Nothing}
@@ -42,21 +42,21 @@ pub asked-short : (frame : List ℕ) → headerOf frame ≡ Short → Nothing �
 unfolding askedOf
 asked-short frame e = rw e
 
-not-global : (t : FrameType) (a : Asked) → OneOf (1 ∷ 2 ∷ []) (tagOf kind.the-type t) → Nothing ≡ ifGlobal t a
+not-global : (t : FrameType) (a : Asked) → OneOf (1 ∷ 2 ∷ []) (tagOf kind.the-type t) → Nothing ≡ cond (isGlobal t) a Nothing
 not-global GlobalCommand a o = absurd (miss (1 ∷ 2 ∷ []) 0 tt o)
 not-global ClusterCommand a o = refl
 not-global Reserved a o = refl
 
 module _ (frame : List ℕ) (h : ZclHeader) (t : FrameType) (e : headerOf frame ≡ Header h) (f : t ≡ frameTypeOf (h .«frame_control» .0)) where
-  asked-by : ifGlobal t (askedBy (h .«command_identifier» .0) h) ≡ askedOf frame
+  asked-by : cond (isGlobal t) (askedBy (h .«command_identifier» .0) h) Nothing ≡ askedOf frame
   unfolding askedOf
-  asked-by = rw e (ap (λ (x : FrameType). ifGlobal x (askedBy (h .«command_identifier» .0) h)) f)
+  asked-by = rw e (ap (λ (x : FrameType). cond (isGlobal x) (askedBy (h .«command_identifier» .0) h) Nothing) f)
 
   pub asked-other : OneOf (1 ∷ 2 ∷ []) (tagOf kind.the-type t) → Nothing ≡ askedOf frame
   asked-other o = not-global t (askedBy (h .«command_identifier» .0) h) o ∙ asked-by
 
   pub asked-is : t ≡ GlobalCommand → askedBy (h .«command_identifier» .0) h ≡ askedOf frame
-  asked-is g = ap (λ (x : FrameType). ifGlobal x (askedBy (h .«command_identifier» .0) h)) (sym g) ∙ asked-by
+  asked-is g = ap (λ (x : FrameType). cond (isGlobal x) (askedBy (h .«command_identifier» .0) h) Nothing) (sym g) ∙ asked-by
 
 -- ---- one answer
 

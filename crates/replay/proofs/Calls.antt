@@ -17,11 +17,11 @@ use Rattle.frame.specs.declared.reply.Put.the-variants.{At, Full}
 use Rattle.reporting.specs.declared.entry.Key.{Key}
 use Rattle.reporting.specs.declared.entry.ReportingConfig.{ReportingConfig}
 use Rattle.reporting.specs.declared.table.ReportingTable.{ReportingTable}
-use Rattle.reporting.specs.Table.{room, Table, live, tableOf, holding, Outcome, ReportTold, SettingTold, LengthTold, configureT, clearT, markT, askT, configurationT, lengthT}
+use Rattle.reporting.specs.Table.{capacity, Table, live, tableOf, holding, HandedBack, ReportTold, SettingTold, LengthTold, configureT, clearT, markT, askT, configurationT, lengthT}
 use Rattle.reporting.specs.Carried.{widths, rowsLaid, numbersOf, tableSize, tableBytes, Written, written, writeT}
 use Rattle.reporting.proofs.Carriage.{length-rows}
 use Rattle.reporting.proofs.CarriageLoops.{slot-size, table-size}
-use Rattle.reporting.proofs.Slots.{is-sound}
+use Rattle.reporting.proofs.Slots.{is-table}
 use Rattle.replay.specs.Bytes.{same}
 use Rattle.replay.specs.Ours.{agreement}
 use Rattle.replay.specs.Methods.{keyIn, configIn, timeIn, valueIn, reportSays, settingSays, lengthSays, configSays, Called, changing, looking, called, tableSays, history, callsIn, areCalls, ofHistory}
@@ -50,13 +50,13 @@ module _ (held : List ℕ) (at : ℕ) (c : List ℕ) (t : Table) (op : ℕ) (eo 
   by-op : (x : Called) → x ≡ called c t → (r : Found) → r ≡ found held at x → r ≡ found held at (called c t)
   by-op x e r p = p ∙ ap (found held at) e
 
-  pub gave-configure : op ≡ 0 → (g : ReportingConfig) → g ≡ configIn c → (o : Outcome) → o ≡ configureT room k g t → (r : Found) → r ≡ found held at (changing o) → r ≡ found held at (called c t)
+  pub gave-configure : op ≡ 0 → (g : ReportingConfig) → g ≡ configIn c → (o : HandedBack) → o ≡ configureT capacity k g t → (r : Found) → r ≡ found held at (changing o) → r ≡ found held at (called c t)
   unfolding called
   gave-configure h g eg o e r p =
       let z : getD c 0 0 ≡ 0 = sym eo ∙ h in
-      by-op (changing o) (ap changing (e ∙ (λ i. configureT room (ek i) (eg i) t)) ∙ sym (rw z)) r p
+      by-op (changing o) (ap changing (e ∙ (λ i. configureT capacity (ek i) (eg i) t)) ∙ sym (rw z)) r p
 
-  pub gave-clear : op ≡ 1 → (o : Outcome) → o ≡ clearT k t → (r : Found) → r ≡ found held at (changing o) → r ≡ found held at (called c t)
+  pub gave-clear : op ≡ 1 → (o : HandedBack) → o ≡ clearT k t → (r : Found) → r ≡ found held at (changing o) → r ≡ found held at (called c t)
   unfolding called
   gave-clear h o e r p = let z : getD c 0 0 ≡ 1 = sym eo ∙ h in by-op (changing o) (ap changing (e ∙ (λ i. clearT (ek i) t)) ∙ sym (rw z)) r p
 
@@ -67,7 +67,7 @@ module _ (held : List ℕ) (at : ℕ) (c : List ℕ) (t : Table) (op : ℕ) (eo 
       by-op (looking t (settingSays x)) (ap (λ (y : SettingTold). looking t (settingSays y)) (e ∙ (λ i. configurationT (ek i) t)) ∙ sym (rw z)) (record { at = m; table = t }) (λ i. record { at = p i; table = t })
 
   module _ (now : ℕ) (v : ℤ) (en : now ≡ timeIn c) (ev : v ≡ valueIn c) where
-    pub gave-mark : op ≡ 2 → (o : Outcome) → o ≡ markT k now v t → (r : Found) → r ≡ found held at (changing o) → r ≡ found held at (called c t)
+    pub gave-mark : op ≡ 2 → (o : HandedBack) → o ≡ markT k now v t → (r : Found) → r ≡ found held at (changing o) → r ≡ found held at (called c t)
     unfolding called
     gave-mark h o e r p =
         let z : getD c 0 0 ≡ 2 = sym eo ∙ h in
@@ -133,8 +133,7 @@ module _ (t : ReportingTable) (bs after : List ℕ) (w : Bool) (n : length bs �
     laid-says =
         ap (take (1 + 29 * t .count)) after-is
         ∙ take-at used (zeros (tableSize 16 - length used)) (1 + 29 * t .count) long
-        ∙ ap (λ (k : ℕ). k ∷ rowsLaid widths (map numbersOf (live t))) as-many
-        ∙ sym (ap tableSays (is-sound t (laid-small h)))
+        ∙ sym (ap tableSays (is-table t (laid-small h)))
 
 -- ---- the calls of an input, from one on
 

@@ -3,11 +3,11 @@ use mathlib.Core.Path.{_≡_, refl, sym, ap, _∙_}
 use mathlib.Core.Bool.{Bool, true, false, true≢false, false≢true}
 use mathlib.Core.Logic.{inl, inr}
 use mathlib.Core.Option.{some}
-use mathlib.Core.List.{List, [], _∷_, _++_, append-nil}
+use mathlib.Core.List.{List, [], _∷_}
 use Prim.Native.Nat.{ℕ, _+_, _-_, _/_, _%_, _^_, _≤_, _<_}
 use native.Mathlib.Omega.{arith}
 use native.Mathlib.Nat.{mod-eq-of-lt}
-use lib.ListN.{length, getD, take, drop, drop-of-length-le}
+use lib.ListN.{length, getD, take, drop}
 use lib.Dec.{leb·zero, eqb}
 use lib.IntN.{ℤ, pos, negsuc, natAbs}
 use lib.Signed.{mag, leZ}
@@ -24,10 +24,11 @@ use Rattle.types.specs.declared.extent.Extent.{Extent}
 use Rattle.types.specs.declared.extent.Extent.the-variants.{End, Cut, Without}
 use Rattle.types.proofs.extent.Extent as extent
 use Rattle.types.proofs.Machine.{flipped-is}
+use Rattle.types.proofs.Numbers.{sets-all}
 use Rattle.frame.specs.Status.{statusCode}
 use Rattle.frame.specs.Answer.{refusalNumber}
 use Rattle.frame.specs.Header.{frameTypeOf, hasCode, headerOf}
-use Rattle.frame.specs.Reply.{putting, put, over}
+use Rattle.frame.specs.Inside.Buffer.{putting, put}
 use Rattle.frame.specs.declared.reply.Put.{Put}
 use Rattle.frame.specs.declared.reply.Put.the-variants.{At, Full}
 use Rattle.frame.specs.declared.status.Status.{Status}
@@ -170,11 +171,7 @@ number-says input held t h e = rw (le-ltb (length input) 2 h) (ap (λ (u : Telli
 
 -- bytes put into a buffer of their length
 pub filled : (d bytes : List ℕ) (r : Put) (after : List ℕ) → length d ≡ length bytes → putting r after ≡ put d 0 bytes → after ≡ bytes
-unfolding over
-filled d bytes r after l p = elim (put-ways d 0 bytes r after p) [ inl w ↦ w .1 .1 ∙ all | inr w ↦ absurd (omega (arith, w .0)) ]
-  where
-    all : bytes ++ drop (0 + length bytes) d ≡ bytes
-    all = ap (λ (x : List ℕ). bytes ++ x) (drop-of-length-le d {i = 0 + length bytes} (omega arith)) ∙ append-nil bytes
+filled d bytes r after l p = elim (put-ways d 0 bytes r after p) [ inl w ↦ w .1 .1 ∙ sets-all bytes d l | inr w ↦ absurd (omega (arith, w .0)) ]
 
 module _ (held : List ℕ) (w : Wrote) (status : Status) (after : List ℕ) (n : ℕ) (is : wrote status after ≡ w) (e : n ≡ statusCode status) where
   write-is : Is (same (n ∷ after) held) ≡ agreement (some (writeSays w)) held

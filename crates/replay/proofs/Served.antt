@@ -6,23 +6,23 @@ use mathlib.Core.List.{List, [], _++_, append-nil}
 use Prim.Native.Nat.{ℕ, _+_, _-_, _*_, _≤_, _<_}
 use native.Mathlib.Omega.{arith}
 use lib.ListN.{length, getD, take, drop, length-replicate}
+use lib.Seq.{sets}
 use lib.Dec.{eqb}
 use borrow.Author.Tests.{le-leb, lt-leb}
 use Rattle.types.specs.Number.{unsignedAt, zeros}
 use Rattle.frame.specs.Answer.{Outcome, seen}
-use Rattle.frame.specs.Reply.{padded, putting, put, over}
+use Rattle.frame.specs.Reply.{padded}
+use Rattle.frame.specs.Inside.Buffer.{putting, put}
 use Rattle.frame.specs.declared.answer.Answer.{Answer}
 use Rattle.frame.specs.declared.reply.Put.{Put}
 use Rattle.frame.specs.declared.reply.Put.the-variants.{At, Full}
-use Rattle.frame.proofs.Buffer.{put-fits, over-padded}
+use Rattle.frame.proofs.Buffer.{put-fits, sets-padded}
 use Rattle.store.specs.Contents.{clusterOf}
 use Rattle.reporting.specs.declared.carried.ReadTable.{ReadTable}
-use Rattle.reporting.specs.Table.{room, Table, sound, tableOf, holding}
-use Rattle.reporting.specs.Carried.{tableIn, isTable, Reading, reading, seen as seenTable, readT}
+use Rattle.reporting.specs.Table.{capacity, Table, tableOf, holding}
+use Rattle.reporting.specs.Carried.{tableIn, isTable, Reading, reading, tableRead, readT}
 use Rattle.reporting.specs.Lent.{quietedT}
-use Rattle.reporting.proofs.CarriageTable.{table-count, table-quiet}
-use Rattle.reporting.proofs.CarriageLoops.{known-count}
-use Rattle.reporting.proofs.Slots.{is-table}
+use Rattle.reporting.proofs.CarriageTable.{table-quiet}
 use Rattle.server.specs.Serve.{State, state, serve}
 use Rattle.replay.specs.Bytes.{same}
 use Rattle.replay.specs.Ours.{agreement}
@@ -43,11 +43,11 @@ whole-long used h =
     sym (ap (λ (n : ℕ). used ++ zeros n) z ∙ append-nil used)
 
 pub whole-short : (used d : List ℕ) (r : Put) (after : List ℕ) → length used ≤ 465 → d ≡ zeros 465 → putting r after ≡ put d 0 used → after ≡ wholeTable used
-unfolding over padded
+unfolding padded
 whole-short used d r after h e p =
     let l : 0 + length used ≤ length (zeros 465) = omega (arith, length-replicate {0} {A = ℕ} 465 0) in
-    let q : putting r after ≡ putting (At (0 + length used)) (over (zeros 465) 0 used) = p ∙ ap (λ (x : List ℕ). put x 0 used) e ∙ put-fits (zeros 465) 0 used l in
-    ap (λ x. x .buffer) q ∙ over-padded 465 [] used (omega arith)
+    let q : putting r after ≡ putting (At (0 + length used)) (sets (zeros 465) 0 used) = p ∙ ap (λ (x : List ℕ). put x 0 used) e ∙ put-fits (zeros 465) 0 used l in
+    ap (λ x. x .buffer) q ∙ sets-padded 465 [] used (omega arith)
 
 -- ---- the table that they are
 
@@ -56,14 +56,14 @@ abbrev met : ReadTable → Table
 met r = quietedT (tableOf (r .table))
 
 module _ (r : ReadTable) (bs : List ℕ) (e : reading r ≡ readT 16 bs) where
-  by-test : reading r ≡ cond (isTable 16 bs) (seenTable true (tableIn bs)) (seenTable false [])
+  by-test : reading r ≡ cond (isTable 16 bs) (tableRead true (tableIn bs)) (tableRead false [])
   unfolding readT
   by-test = e
 
   pub table-known : isTable 16 bs ≡ r .known
   table-known = go (isTable 16 bs) by-test
     where
-      go : (b : Bool) → reading r ≡ cond b (seenTable true (tableIn bs)) (seenTable false []) → b ≡ r .known
+      go : (b : Bool) → reading r ≡ cond b (tableRead true (tableIn bs)) (tableRead false []) → b ≡ r .known
       go true q = sym (ap (λ (x : Reading). x .known) q)
       go false q = sym (ap (λ (x : Reading). x .known) q)
 
@@ -71,38 +71,36 @@ module _ (r : ReadTable) (bs : List ℕ) (e : reading r ≡ readT 16 bs) where
   pub table-met : r .known ≡ true → met r ≡ holding (tableIn bs)
   table-met k =
       let t : isTable 16 bs ≡ true = table-known ∙ k in
-      let q : reading r ≡ seenTable true (tableIn bs) = by-test ∙ ap (λ (b : Bool). cond b (seenTable true (tableIn bs)) (seenTable false [])) t in
-      let n : r .table .count ≡ length (tableIn bs) = ap (λ (x : Reading). x .count) q in
-      ap quietedT (is-table (r .table) (tableIn bs) (record { count = n; entries = ap (λ (x : Reading). x .entries) q }) (omega (arith, n, table-count bs, known-count bs t)))
-      ∙ ap (sound (length (tableIn bs))) (table-quiet 16 bs t)
+      let q : reading r ≡ tableRead true (tableIn bs) = by-test ∙ ap (λ (b : Bool). cond b (tableRead true (tableIn bs)) (tableRead false [])) t in
+      ap (λ (x : Reading). quietedT (x .table)) q ∙ ap holding (table-quiet 16 bs t)
 
 -- ---- what is said and left
 
-module _ (used s frame : List ℕ) (room : ℕ) (r : ReadTable) (e : reading r ≡ readT 16 (wholeTable used)) (held : List ℕ) where
-  pub request-none : r .known ≡ false → NoInput ≡ agreement (cond (isTable 16 (wholeTable used)) (some (requestSays used s frame room)) none) held
-  request-none k = ap (λ (b : Bool). agreement (cond b (some (requestSays used s frame room)) none) held) (sym (table-known r (wholeTable used) e ∙ k))
+module _ (used s frame : List ℕ) (capacity : ℕ) (r : ReadTable) (e : reading r ≡ readT 16 (wholeTable used)) (held : List ℕ) where
+  pub request-none : r .known ≡ false → NoInput ≡ agreement (cond (isTable 16 (wholeTable used)) (some (requestSays used s frame capacity)) none) held
+  request-none k = ap (λ (b : Bool). agreement (cond b (some (requestSays used s frame capacity)) none) held) (sym (table-known r (wholeTable used) e ∙ k))
 
   module _ (k : r .known ≡ true) where
-    request-known : Is (same (requestSays used s frame room) held) ≡ agreement (cond (isTable 16 (wholeTable used)) (some (requestSays used s frame room)) none) held
-    request-known = ap (λ (b : Bool). agreement (cond b (some (requestSays used s frame room)) none) held) (sym (table-known r (wholeTable used) e ∙ k))
+    request-known : Is (same (requestSays used s frame capacity) held) ≡ agreement (cond (isTable 16 (wholeTable used)) (some (requestSays used s frame capacity)) none) held
+    request-known = ap (λ (b : Bool). agreement (cond b (some (requestSays used s frame capacity)) none) held) (sym (table-known r (wholeTable used) e ∙ k))
 
     -- `copy` is the store, and `cluster` the store's own
-    module _ (answer : Answer) (reply copy after left : List ℕ) (u : Table) (cluster : ℕ) (ec : copy ≡ s) (el : cluster ≡ clusterOf copy) (p : seen answer reply (state after u) ≡ serve 8 16 copy (met r) cluster true frame room) (q : left ≡ tableSays u) where
-      request-is : answerSays used (seen answer reply left) ≡ requestSays used s frame room
+    module _ (answer : Answer) (reply copy after left : List ℕ) (u : Table) (cluster : ℕ) (ec : copy ≡ s) (el : cluster ≡ clusterOf copy) (p : seen answer reply (state after u) ≡ serve 8 16 copy (met r) cluster true frame capacity) (q : left ≡ tableSays u) where
+      request-is : answerSays used (seen answer reply left) ≡ requestSays used s frame capacity
       unfolding requestSays
       request-is =
           ap (λ (l : List ℕ). answerSays used (seen answer reply l)) q
-          ∙ ap (λ (o : Outcome State). answerSays used (tableLeft o)) (p ∙ (λ i. serve 8 16 (ec i) (table-met r (wholeTable used) e k i) ((el ∙ ap clusterOf ec) i) true frame room))
+          ∙ ap (λ (o : Outcome State). answerSays used (tableLeft o)) (p ∙ (λ i. serve 8 16 (ec i) (table-met r (wholeTable used) e k i) ((el ∙ ap clusterOf ec) i) true frame capacity))
 
-      pub request-off : matched held 0 (answerSays used (seen answer reply left)) ≡ Full → Is false ≡ agreement (cond (isTable 16 (wholeTable used)) (some (requestSays used s frame room)) none) held
-      request-off m = ap Is (sym (same-off (requestSays used s frame room) held (ap (matched held 0) (sym request-is) ∙ m))) ∙ request-known
+      pub request-off : matched held 0 (answerSays used (seen answer reply left)) ≡ Full → Is false ≡ agreement (cond (isTable 16 (wholeTable used)) (some (requestSays used s frame capacity)) none) held
+      request-off m = ap Is (sym (same-off (requestSays used s frame capacity) held (ap (matched held 0) (sym request-is) ∙ m))) ∙ request-known
 
-      pub request-on : (o : ℕ) → matched held 0 (answerSays used (seen answer reply left)) ≡ At o → Is (eqb o (length held)) ≡ agreement (cond (isTable 16 (wholeTable used)) (some (requestSays used s frame room)) none) held
-      request-on o m = ap Is (sym (same-at (requestSays used s frame room) held o (ap (matched held 0) (sym request-is) ∙ m))) ∙ request-known
+      pub request-on : (o : ℕ) → matched held 0 (answerSays used (seen answer reply left)) ≡ At o → Is (eqb o (length held)) ≡ agreement (cond (isTable 16 (wholeTable used)) (some (requestSays used s frame capacity)) none) held
+      request-on o m = ap Is (sym (same-at (requestSays used s frame capacity) held o (ap (matched held 0) (sym request-is) ∙ m))) ∙ request-known
 
 -- ---- the input
 
-module _ (input held : List ℕ) (room c k : ℕ) (er : room ≡ getD input 0 0) (en : c ≡ getD input 1 0) (ek : k ≡ unsignedAt input (1 + (1 + 29 * c)) 2) where
+module _ (input held : List ℕ) (capacity c k : ℕ) (er : capacity ≡ getD input 0 0) (en : c ≡ getD input 1 0) (ek : k ≡ unsignedAt input (1 + (1 + 29 * c)) 2) where
   the-size : k ≡ unsignedAt input (1 + (1 + 29 * getD input 1 0)) 2
   the-size = ek ∙ ap (λ (x : ℕ). unsignedAt input (1 + (1 + 29 * x)) 2) en
 
@@ -113,7 +111,7 @@ module _ (input held : List ℕ) (room c k : ℕ) (er : room ≡ getD input 0 0)
       rw (lt-leb (3 + (1 + 29 * getD input 1 0) + unsignedAt input (1 + (1 + 29 * getD input 1 0)) 2) (length input) l)
 
   pub request-whole : 3 + (1 + 29 * c) + k ≤ length input → (used s frame : List ℕ) → used ≡ take (1 + 29 * c) (drop 1 input) → s ≡ take k (drop (3 + (1 + 29 * c)) input) → frame ≡ drop (3 + (1 + 29 * c) + k) input
-      → agreement (cond (isTable 16 (wholeTable used)) (some (requestSays used s frame room)) none) held ≡ agreement (ofRequest input) held
+      → agreement (cond (isTable 16 (wholeTable used)) (some (requestSays used s frame capacity)) none) held ≡ agreement (ofRequest input) held
   unfolding ofRequest
   request-whole h used s frame eu es ef =
       let l : 3 + (1 + 29 * getD input 1 0) + unsignedAt input (1 + (1 + 29 * getD input 1 0)) 2 ≤ length input = omega (arith, the-size) in

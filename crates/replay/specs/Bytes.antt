@@ -1,4 +1,4 @@
--- When bytes are the same. Assumes nothing: these are definitions.
+-- Definitions. When bytes are the same.
 use Prim.Native.Nat.{ℕ}
 use mathlib.Core.Bool.{Bool, true, false, _&&_}
 use mathlib.Core.List.{List, [], _∷_}

@@ -1,5 +1,4 @@
--- What ours says to a whole frame (kinds c and x): the command's outcome with every room, from none to a last one. Assumes nothing:
--- these are definitions.
+-- Definitions. What ours says to a whole frame (kinds c and x): the command's outcome with every room, from none to a last one.
 use Prim.Native.Nat.{ℕ, zero, suc, _+_, _%_}
 use mathlib.Core.Bool.{cond, _||_}
 use mathlib.Core.Option.{Option, none, some}
@@ -7,10 +6,8 @@ use mathlib.Core.List.{List, [], _∷_, _++_}
 use lib.ListN.{length, getD, take, drop}
 use lib.Dec.{ltb, eqb}
 use Rattle.types.specs.Number.{unsignedAt}
-use Rattle.frame.specs.Header.{frameTypeOf, headerOf}
-use Rattle.frame.specs.Answer.{Outcome}
-use Rattle.frame.specs.declared.header.FrameType.{FrameType}
-use Rattle.frame.specs.declared.header.FrameType.the-variants.{GlobalCommand, ClusterCommand, Reserved}
+use Rattle.frame.specs.Header.{frameTypeOf, isGlobal, headerOf}
+use Rattle.frame.specs.Answer.{Outcome, within}
 use Rattle.frame.specs.declared.header.ZclHeader.{ZclHeader}
 use Rattle.frame.specs.declared.header.HeaderRead.{HeaderRead}
 use Rattle.frame.specs.declared.header.HeaderRead.the-variants.{Header, Short}
@@ -34,30 +31,22 @@ askedBy code request =
     (cond (eqb code 0x0c) (For Discover request) Nothing))))
 
 -- only a global command is one of them
-abbrev pub ifGlobal : FrameType → Asked → Asked
-ifGlobal GlobalCommand a = a
-ifGlobal ClusterCommand a = Nothing
-ifGlobal Reserved a = Nothing
-
 abbrev pub askedIn : HeaderRead → Asked
 askedIn Short = Nothing
-askedIn (Header h) = ifGlobal (frameTypeOf (h .«frame_control» .0)) (askedBy (h .«command_identifier» .0) h)
+askedIn (Header h) = cond (isGlobal (frameTypeOf (h .«frame_control» .0))) (askedBy (h .«command_identifier» .0) h) Nothing
 
 unfoldable pub askedOf : List ℕ → Asked
 askedOf frame = askedIn (headerOf frame)
 
 -- ---- what a command leaves
 
--- a command that leaves the store as it was
-abbrev pub still : List ℕ → Outcome (Unit {0}) → Outcome (List ℕ)
-still s o = record { number = o .number; size = o .size; reply = o .reply; state = s }
-
+-- reading and discovering leave the store as it was
 abbrev pub outcomeOf : Command → ZclHeader → List ℕ → List ℕ → ℕ → Outcome (List ℕ)
-outcomeOf Read request body s room = still s (readOf 8 s request body room)
+outcomeOf Read request body s room = within (λ u. s) (readOf 8 s request body room)
 outcomeOf Write request body s room = writeAttributes 8 s request body room
 outcomeOf Undivided request body s room = writeUndivided 8 s request body room
 outcomeOf Silent request body s room = writeSilently 8 s request body room
-outcomeOf Discover request body s room = still s (discoverOf 8 s request body room)
+outcomeOf Discover request body s room = within (λ u. s) (discoverOf 8 s request body room)
 
 -- ---- its answers, as bytes
 

@@ -1,4 +1,4 @@
--- What inner functions say; nothing that a reader of the program must believe. Assumes nothing: these are definitions.
+-- Inside. What inner functions say; nothing that a reader of the program must believe.
 use mathlib.Core.Path.{_≡_}
 use mathlib.Core.Bool.{Bool, true, false, cond, _&&_}
 use mathlib.Core.Option.{Option, none, some}

@@ -1,5 +1,4 @@
--- The text of a list: lines are parted by a newline, the words of a line by a space; a word is the digits of bytes. Assumes
--- nothing: these are definitions.
+-- Definitions. The text of a list: lines are parted by a newline, the words of a line by a space; a word is the digits of bytes.
 use Prim.Native.Nat.{ℕ, zero, suc, _+_, _-_, _*_}
 use mathlib.Core.Bool.{cond, _&&_}
 use mathlib.Core.Option.{Option, none, some}

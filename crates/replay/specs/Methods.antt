@@ -1,5 +1,4 @@
--- What ours says to calls on a table by value, one after the other, from an empty table on (kind m). Assumes nothing: these are
--- definitions.
+-- Definitions. What ours says to calls on a table by value, one after the other, from an empty table on (kind m).
 use Prim.Native.Nat.{ℕ, zero, suc, _/_, _%_}
 use mathlib.Core.Bool.{Bool, true, cond, _&&_}
 use mathlib.Core.Option.{Option, none, some}
@@ -10,7 +9,7 @@ use lib.IntN.{ℤ}
 use Rattle.types.specs.Number.{bytesOf, unsignedAt, signedAt}
 use Rattle.reporting.specs.declared.entry.Key.{Key}
 use Rattle.reporting.specs.declared.entry.ReportingConfig.{ReportingConfig}
-use Rattle.reporting.specs.Table.{room, Table, sound, bad, holding, ChangeTold, ReportTold, SettingTold, LengthTold, Outcome, configureT, clearT, markT, askT, configurationT, lengthT}
+use Rattle.reporting.specs.Table.{capacity, Table, holding, bad, ChangeTold, ReportTold, SettingTold, LengthTold, HandedBack, configureT, clearT, markT, askT, configurationT, lengthT}
 use Rattle.reporting.specs.Carried.{widths, rowsLaid, numbersOf}
 use Rattle.replay.specs.Ours.{bitOf}
 
@@ -52,7 +51,7 @@ pub record Called : Type 0 where
   pub says : List ℕ
   pub table : Table
 
-abbrev pub changing : Outcome → Called
+abbrev pub changing : HandedBack → Called
 changing o = record { says = changeSays (o .told); table = o .table }
 
 abbrev pub looking : Table → List ℕ → Called
@@ -61,7 +60,7 @@ looking t bytes = record { says = bytes; table = t }
 unfoldable pub called : List ℕ → Table → Called
 called c t =
     let op : ℕ = getD c 0 0 in
-    cond (eqb op 0) (changing (configureT room (keyIn c) (configIn c) t))
+    cond (eqb op 0) (changing (configureT capacity (keyIn c) (configIn c) t))
     (cond (eqb op 1) (changing (clearT (keyIn c) t))
     (cond (eqb op 2) (changing (markT (keyIn c) (timeIn c) (valueIn c) t))
     (cond (eqb op 3) (looking t (reportSays (askT (keyIn c) (timeIn c) (valueIn c) t)))
@@ -72,7 +71,7 @@ called c t =
 
 -- a table as its bytes, as far as they are used: the count, and the slots below it
 unfoldable pub tableSays : Table → List ℕ
-tableSays (sound n l) = n ∷ rowsLaid widths (map numbersOf l)
+tableSays (holding l) = length l ∷ rowsLaid widths (map numbersOf l)
 tableSays (bad t) = []
 
 -- the answers one behind the other, and the table afterwards

@@ -1,4 +1,4 @@
--- What ours says to an input, as bytes; or that the input is none of its kind. Assumes nothing: these are definitions.
+-- Definitions. What ours says to an input, as bytes; or that the input is none of its kind.
 use Prim.Native.Nat.{ℕ, _+_, _%_, _^_}
 use mathlib.Core.Bool.{Bool, cond}
 use mathlib.Core.Option.{Option, none, some}

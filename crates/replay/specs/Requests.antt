@@ -1,4 +1,4 @@
--- What ours says to a request that may need the table (kind q). Assumes nothing: these are definitions.
+-- Definitions. What ours says to a request that may need the table (kind q).
 use Prim.Native.Nat.{ℕ, _+_, _*_}
 use mathlib.Core.Bool.{true, cond, _&&_}
 use mathlib.Core.Option.{Option, none, some}
@@ -7,11 +7,11 @@ use lib.ListN.{length, getD, take, drop}
 use lib.Dec.{leb}
 use Rattle.types.specs.Number.{unsignedAt}
 use Rattle.frame.specs.Reply.{padded}
-use Rattle.frame.specs.Answer.{Outcome}
+use Rattle.frame.specs.Answer.{Outcome, within}
 use Rattle.store.specs.Contents.{clusterOf}
 use Rattle.reporting.specs.Table.{holding}
 use Rattle.reporting.specs.Carried.{tableIn, isTable}
-use Rattle.server.specs.Serve.{State, within, serve}
+use Rattle.server.specs.Serve.{State, serve}
 use Rattle.replay.specs.Commands.{answerSays}
 use Rattle.replay.specs.Methods.{tableSays}
 

@@ -1,4 +1,4 @@
--- How many lines of each kind agree, over a whole list. Assumes nothing: these are definitions.
+-- Definitions. How many lines of each kind agree, over a whole list.
 use Prim.Native.Nat.{ℕ, _+_, _%_}
 use mathlib.Core.Bool.{Bool, true, false, cond, _&&_, _||_, not}
 use mathlib.Core.List.{List, [], _∷_}

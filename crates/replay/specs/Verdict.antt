@@ -1,5 +1,4 @@
--- What is to be said of a line: whether it agrees, or that it is the last one, or that it cannot be read. Assumes nothing: these are
--- definitions.
+-- Definitions. What is to be said of a line: whether it agrees, or that it is the last one, or that it cannot be read.
 use Prim.Native.Nat.{ℕ}
 use mathlib.Core.Bool.{Bool, cond, _&&_, _||_, not}
 use mathlib.Core.Option.{Option, none, some}

@@ -3,7 +3,7 @@ ghost use mathlib.Core.Path.{_≡_};
 ghost use mathlib.Core.List.{[], _∷_};
 ghost use Prim.Native.Nat.{_/_};
 ghost use lib.ListN.{length, take};
-ghost use Rattle.reporting.specs.Table.{tableOf, holding, outcome, zeroConfig, changeTold, reportTold, settingTold, lengthTold};
+ghost use Rattle.reporting.specs.Table.{tableOf, holding, handedBack, zeroConfig, changeTold, reportTold, settingTold, lengthTold};
 ghost use Rattle.replay.specs.Bytes.{same as sameBytes};
 ghost use Rattle.replay.specs.Ours.{agreement};
 ghost use Rattle.replay.specs.Methods.{keyIn, configIn, timeIn, changeSays, reportSays, lengthSays, configSays, settingSays};
@@ -142,7 +142,7 @@ fn match_setting(held: &[u8], at: usize, setting: Setting) -> Put
 
 // A call that may change the table.
 fn changed(held: &[u8], at: usize, call: Changed) -> Given
-    ensures { λ r. ⌜ given r ≡ foundAt (now (held .entry)) at (changing (outcome call)) ⌝ }
+    ensures { λ r. ⌜ given r ≡ foundAt (now (held .entry)) at (changing (handedBack call)) ⌝ }
 {
     let answer = call.answer;
     let says = change_bytes(answer);

@@ -1,11 +1,11 @@
 -- What the code's slots and loops do, against the definitions. Assumes nothing.
-use Prim.Native.Nat.{ℕ, suc, _+_, _-_, _^_, _≤_, _<_}
+use Prim.Native.Nat.{ℕ, _+_, _-_, _^_, _≤_, _<_}
 use mathlib.Core.Path.{_≡_, refl, ap, sym, _∙_}
 use mathlib.Core.Bool.{true, false, _&&_, _||_, true≢false, false≢true}
-use mathlib.Core.List.{List, [], _∷_, _++_}
+use mathlib.Core.List.{List, [], _∷_}
 use native.Mathlib.Omega.{arith}
 use native.Mathlib.Nat.{mod-eq-of-lt}
-use lib.ListN.{length, getD, take, drop, set}
+use lib.ListN.{getD, take, drop}
 use lib.Seq.{sets, drop-drop}
 use lib.Dec.{leb, eqb, leb·zero}
 use lib.IntN.{ℤ, pos, negsuc, natAbs}
@@ -17,7 +17,8 @@ use mir.Facts.{toZ-ofZ}
 use Rattle.types.specs.Number.{allZero, bytesOf, unsignedAt, signedAt, residue}
 use Rattle.types.proofs.Numbers.{one-byte, length-bytes}
 use Rattle.types.proofs.Machine.{flipped-is}
-use Rattle.reporting.specs.Carried.{widths, laid, numbersIn, inForm, entryOf}
+use Rattle.frame.proofs.Buffer.{sets-append}
+use Rattle.reporting.specs.Carried.{widths, laid, numbersIn, isSlot, entryOf}
 use Rattle.reporting.proofs.Carriage.{zero-numbers}
 
 -- ---- the bits of a signed number
@@ -74,20 +75,20 @@ module _ (bs : List ℕ) (at : ℕ) where
       numbers-at widths bs at ∙ rw (a, b, c, d, e, f)
 
   -- a slot's form, by its flag, time and value
-  pub form-at : inForm (numbersIn widths (drop at bs)) ≡ (leb (getD bs (at + 16) 0) 1 && (eqb (getD bs (at + 16) 0) 1 || (eqb (unsignedAt bs (at + 17) 4) 0 && eqb (unsignedAt bs (at + 21) 8) 0)))
-  unfolding inForm
-  form-at = ap inForm slot-numbers ∙ rw (one-byte bs (at + 16))
+  pub form-at : isSlot (numbersIn widths (drop at bs)) ≡ (leb (getD bs (at + 16) 0) 1 && (eqb (getD bs (at + 16) 0) 1 || (eqb (unsignedAt bs (at + 17) 4) 0 && eqb (unsignedAt bs (at + 21) 8) 0)))
+  unfolding isSlot
+  form-at = ap isSlot slot-numbers ∙ rw (one-byte bs (at + 16))
 
   -- by the code's tests of a flag f
   module _ (f : ℕ) (ef : f ≡ getD bs (at + 16) 0) where
-    pub form-past : 1 < f → false ≡ inForm (numbersIn widths (drop at bs))
+    pub form-past : 1 < f → false ≡ isSlot (numbersIn widths (drop at bs))
     form-past h = sym (form-at ∙ rw (← ef, lt-leb f 1 h))
 
-    pub form-marked : f ≡ 1 → true ≡ inForm (numbersIn widths (drop at bs))
+    pub form-marked : f ≡ 1 → true ≡ isSlot (numbersIn widths (drop at bs))
     form-marked h = sym (form-at ∙ rw (← ef, h))
 
     -- under flag 0 the twelve bytes behind it are 0
-    pub form-none : (n : ℕ) → n ≡ 12 → f ≤ 1 → (f ≡ 1 → ⊥) → allZero (take n (drop (at + 17) bs)) ≡ inForm (numbersIn widths (drop at bs))
+    pub form-none : (n : ℕ) → n ≡ 12 → f ≤ 1 → (f ≡ 1 → ⊥) → allZero (take n (drop (at + 17) bs)) ≡ isSlot (numbersIn widths (drop at bs))
     form-none n w h k =
         let p : at + 17 + 4 ≡ at + 21 = omega arith in
         ap (λ (m : ℕ). allZero (take m (drop (at + 17) bs))) w
@@ -108,12 +109,6 @@ module _ (bs : List ℕ) (at : ℕ) where
 abbrev puts : List ℕ → List ℕ → List ℕ → ℕ → List ℕ
 puts [] ns l at = l
 puts (w ∷ ws) ns l at = puts ws (drop 1 ns) (sets l at (bytesOf w (getD ns 0 0))) (at + w)
-
-sets-append : (a b l : List ℕ) (at : ℕ) → sets (sets l at a) (at + length a) b ≡ sets l at (a ++ b)
-sets-append [] b l at = let e : at + 0 ≡ at = omega arith in rw e
-sets-append (x ∷ a) b l at =
-    let e : at + suc (length a) ≡ suc at + length a = omega arith in
-    rw e (sets-append a b (set l at x) (suc at))
 
 puts-laid : (ws ns l : List ℕ) (at : ℕ) → puts ws ns l at ≡ sets l at (laid ws ns)
 unfolding laid

@@ -16,7 +16,8 @@ use Rattle.types.proofs.Numbers.{signed-low}
 use Rattle.types.proofs.Readings.{signed-in, residue-signed, signed-residue}
 use Rattle.reporting.specs.declared.entry.Entry.{Entry}
 use Rattle.reporting.specs.Entries.{fresh}
-use Rattle.reporting.specs.Carried.{widths, told, numbersIn, numbersOf, entryOf, inForm, Clean, quieted}
+use Rattle.reporting.specs.Carried.{widths, ifMarked, numbersIn, numbersOf, entryOf, isSlot, quieted}
+use Rattle.reporting.specs.Claims.RoundTrip.{Clean}
 use Rattle.reporting.proofs.Carriage.{Within, within-numbers, both}
 
 residue-below : (z : ℤ) → residue (2 ^ 64) z < 2 ^ 64
@@ -24,7 +25,7 @@ unfolding residue
 residue-below (pos n) = mod-lt n (pow-pos 64)
 residue-below (negsuc n) = omega arith
 
-pub told-below : (b : Bool) (n m : ℕ) → n < m → told b n < m
+pub told-below : (b : Bool) (n m : ℕ) → n < m → ifMarked b n < m
 told-below true n m h = h
 told-below false n m h = omega arith
 
@@ -37,24 +38,24 @@ entry-within e h =
     let v = told-below (e .marked) (residue (2 ^ 64) (e .«last_value»)) (2 ^ 64) (residue-below (e .«last_value»)) in
     (h .cluster, (h .attribute, (h .minimum, (h .maximum, (h .change, (f, (t, (v, refl))))))))
 
-pub entry-in-form : (e : Entry) → inForm (numbersOf e) ≡ true
-unfolding numbersOf inForm
+pub entry-in-form : (e : Entry) → isSlot (numbersOf e) ≡ true
+unfolding numbersOf isSlot
 entry-in-form e = go (e .marked) (e .«last_time») (residue (2 ^ 64) (e .«last_value»))
   where
-    go : (b : Bool) (t v : ℕ) → (leb (told b 1) 1 && (eqb (told b 1) 1 || (eqb (told b t) 0 && eqb (told b v) 0))) ≡ true
+    go : (b : Bool) (t v : ℕ) → (leb (ifMarked b 1) 1 && (eqb (ifMarked b 1) 1 || (eqb (ifMarked b t) 0 && eqb (ifMarked b v) 0))) ≡ true
     go true t v = refl
     go false t v = refl
 
 -- ENTRY TO NUMBERS AND BACK
-flag-back : (b : Bool) → eqb (told b 1) 1 ≡ b
+flag-back : (b : Bool) → eqb (ifMarked b 1) 1 ≡ b
 flag-back true = refl
 flag-back false = refl
 
-time-back : (b : Bool) (t : ℕ) → (b ≡ false → t ≡ 0) → told b t ≡ t
+time-back : (b : Bool) (t : ℕ) → (b ≡ false → t ≡ 0) → ifMarked b t ≡ t
 time-back true t h = refl
 time-back false t h = sym (h refl)
 
-value-back : (b : Bool) (v : ℤ) → mag v < 2 ^ 63 → (b ≡ false → v ≡ pos 0) → signedOf 8 (told b (residue (2 ^ 64) v)) ≡ v
+value-back : (b : Bool) (v : ℤ) → mag v < 2 ^ 63 → (b ≡ false → v ≡ pos 0) → signedOf 8 (ifMarked b (residue (2 ^ 64) v)) ≡ v
 value-back true v m h = signed-residue 8 v (omega arith) m
 value-back false v m h = signed-low 8 0 (omega arith) ∙ sym (h refl)
 
@@ -80,15 +81,15 @@ module _ (f t v : ℕ) where
       let r = both (eqb t 0) (eqb v 0) (p .1) in
       (omega (arith, leb-true f 1 (p .0), eqb-false f 1 e), (eqb-true t 0 (r .0), eqb-true v 0 (r .1)))
 
-  flag-told : (m : Bool) → eqb f 1 ≡ m → FormOf m → told m 1 ≡ f
+  flag-told : (m : Bool) → eqb f 1 ≡ m → FormOf m → ifMarked m 1 ≡ f
   flag-told true e h = sym (eqb-true f 1 e)
   flag-told false e h = sym (none-told e h .0)
 
-  time-told : (m : Bool) → eqb f 1 ≡ m → FormOf m → told m t ≡ t
+  time-told : (m : Bool) → eqb f 1 ≡ m → FormOf m → ifMarked m t ≡ t
   time-told true e h = refl
   time-told false e h = sym (none-told e h .1 .0)
 
-  value-told : (m : Bool) → v < 2 ^ 64 → eqb f 1 ≡ m → FormOf m → told m (residue (2 ^ 64) (signedOf 8 v)) ≡ v
+  value-told : (m : Bool) → v < 2 ^ 64 → eqb f 1 ≡ m → FormOf m → ifMarked m (residue (2 ^ 64) (signedOf 8 v)) ≡ v
   value-told true b e h = residue-signed 8 v b
   value-told false b e h = sym (none-told e h .1 .1)
 
@@ -98,8 +99,8 @@ module _ (f t v : ℕ) where
       (n .0, ap (signedOf 8) (n .1) ∙ signed-low 8 0 (omega arith))
 
 -- NUMBERS TO ENTRY AND BACK, for a slot in form
-pub slot-back : (bs : List ℕ) → AllBytes bs → inForm (numbersIn widths bs) ≡ true → numbersOf (entryOf (numbersIn widths bs)) ≡ numbersIn widths bs
-unfolding numbersOf entryOf inForm numbersIn
+pub slot-back : (bs : List ℕ) → AllBytes bs → isSlot (numbersIn widths bs) ≡ true → numbersOf (entryOf (numbersIn widths bs)) ≡ numbersIn widths bs
+unfolding numbersOf entryOf isSlot numbersIn
 slot-back bs h p =
     let ns : List ℕ = numbersIn widths bs in
     let f : ℕ = getD ns 5 0 in
@@ -118,8 +119,8 @@ slot-back bs h p =
     ∷ []
 
 -- such an entry has one form
-pub slot-clean : (bs : List ℕ) → AllBytes bs → inForm (numbersIn widths bs) ≡ true → Clean (entryOf (numbersIn widths bs))
-unfolding entryOf inForm numbersIn
+pub slot-clean : (bs : List ℕ) → AllBytes bs → isSlot (numbersIn widths bs) ≡ true → Clean (entryOf (numbersIn widths bs))
+unfolding entryOf isSlot numbersIn
 slot-clean bs h p =
     let ns : List ℕ = numbersIn widths bs in
     let w = within-numbers widths bs h in
@@ -163,6 +164,6 @@ quieted-same e h = go (e .marked) refl
     go false q = λ i. record { key = e .key; config = e .config; marked = sym q i; «last_time» = sym (h q .0) i; «last_value» = sym (h q .1) i }
 
 -- as in a slot in form
-pub slot-quiet : (ns : List ℕ) → inForm ns ≡ true → quieted (entryOf ns) ≡ entryOf ns
-unfolding entryOf inForm
+pub slot-quiet : (ns : List ℕ) → isSlot ns ≡ true → quieted (entryOf ns) ≡ entryOf ns
+unfolding entryOf isSlot
 slot-quiet ns p = quieted-same (entryOf ns) (still (getD ns 5 0) (getD ns 6 0) (getD ns 7 0) p)

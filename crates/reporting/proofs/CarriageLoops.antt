@@ -7,20 +7,19 @@ use native.Mathlib.Omega.{arith}
 use native.Mathlib.Nat.{sub-zero, mul-comm}
 use native.Mathlib.Numerals.{add-one}
 use lib.ListN.{length, getD, take, drop, set, length-set, length-map, length-replicate}
-use lib.Seq.{sets, length-sets, sets-eq, drop-drop, take-suc, take-suc-set, length-take-le}
+use lib.Seq.{sets, length-sets, drop-drop, take-suc, take-suc-set, length-take-le}
 use borrow.Author.Tests.{eq-eqb, ne-eqb, le-leb, lt-leb}
 use Rattle.types.specs.Number.{allZero, zeros}
-use Rattle.frame.specs.Reply.{padded, over}
-use Rattle.frame.proofs.Buffer.{length-padded, over-padded}
+use Rattle.frame.specs.Reply.{padded}
+use Rattle.frame.proofs.Buffer.{sets-padded}
 use Rattle.reporting.specs.declared.entry.Entry.{Entry}
 use Rattle.reporting.specs.declared.table.ReportingTable.{ReportingTable}
-use Rattle.reporting.specs.Carried.{widths, total, laid, numbersIn, rowsLaid, rowsIn, numbersOf, entryOf, inForm, allInForm, countIn, slotsIn, tableIn, tableSize, tableBytes, isTable, Clean, AllClean, quieted, Reading, seen, readT, written, writeT}
-use Rattle.reporting.proofs.Carriage.{length-laid, length-rows, length-rowsIn}
+use Rattle.reporting.specs.Table.{capacity, Table, holding, tableOf}
+use Rattle.reporting.specs.Carried.{widths, total, laid, numbersIn, rowsLaid, rowsIn, numbersOf, entryOf, isSlot, areSlots, countIn, slotsIn, tableIn, tableSize, tableBytes, isTable, quieted, Reading, tableRead, readT, written, writeT}
+use Rattle.reporting.specs.Claims.RoundTrip.{Clean, AllClean}
+use Rattle.reporting.proofs.Slots.{is-table}
+use Rattle.reporting.proofs.Carriage.{length-laid, length-rows}
 use Rattle.reporting.proofs.CarriageTable.{the-conditions, quieted-snoc}
-
--- what owning an array of structs tells of its list, where `search needs` stops at arrays of numbers
-pub length-mapped : {X Y : Type 0} (f : X → Y) (l : List X) (n : ℕ) → length (map f l) ≡ n → length l ≡ n
-length-mapped f l n p = sym (length-map l f) ∙ p
 
 pub slot-size : total widths ≡ 29
 unfolding total
@@ -53,29 +52,29 @@ slots-end bs count i h =
 
 -- what is looked at after i slots: they are in form, so that the others decide
 abbrev pub FormSoFar : List ℕ → ℕ → ℕ → Type 0
-FormSoFar bs count i = allInForm (slotsFrom bs count i) ≡ allInForm (rowsIn widths count (drop 1 bs))
+FormSoFar bs count i = areSlots (slotsFrom bs count i) ≡ areSlots (rowsIn widths count (drop 1 bs))
 
 pub slots-start : (bs : List ℕ) (count : ℕ) → slotsFrom bs count 0 ≡ rowsIn widths count (drop 1 bs)
 slots-start bs count = ap (λ (k : ℕ). rowsIn widths k (drop 1 bs)) (sub-zero count)
 
 pub form-start : (bs : List ℕ) (count : ℕ) → FormSoFar bs count 0
-form-start bs count = ap allInForm (slots-start bs count)
+form-start bs count = ap areSlots (slots-start bs count)
 
 module _ (bs : List ℕ) (count i : ℕ) (s : FormSoFar bs count i) where
-  form-next : (b : Bool) → i < count → inForm (numbersIn widths (drop (1 + 29 * i) bs)) ≡ b → (b && allInForm (slotsFrom bs count (i + 1))) ≡ allInForm (rowsIn widths count (drop 1 bs))
-  unfolding allInForm
-  form-next b h f = sym (ap allInForm (slots-more bs count i h) ∙ ap (λ (t : Bool). t && allInForm (slotsFrom bs count (i + 1))) f) ∙ s
+  form-next : (b : Bool) → i < count → isSlot (numbersIn widths (drop (1 + 29 * i) bs)) ≡ b → (b && areSlots (slotsFrom bs count (i + 1))) ≡ areSlots (rowsIn widths count (drop 1 bs))
+  unfolding areSlots
+  form-next b h f = sym (ap areSlots (slots-more bs count i h) ∙ ap (λ (t : Bool). t && areSlots (slotsFrom bs count (i + 1))) f) ∙ s
 
-  pub form-more : i < count → inForm (numbersIn widths (drop (1 + 29 * i) bs)) ≡ true → FormSoFar bs count (i + 1)
+  pub form-more : i < count → isSlot (numbersIn widths (drop (1 + 29 * i) bs)) ≡ true → FormSoFar bs count (i + 1)
   form-more h f = form-next true h f
 
   -- a slot that is not in form
-  pub form-bad : i < count → inForm (numbersIn widths (drop (1 + 29 * i) bs)) ≡ false → false ≡ allInForm (rowsIn widths count (drop 1 bs))
+  pub form-bad : i < count → isSlot (numbersIn widths (drop (1 + 29 * i) bs)) ≡ false → false ≡ areSlots (rowsIn widths count (drop 1 bs))
   form-bad h f = form-next false h f
 
-  pub form-done : count ≤ i → true ≡ allInForm (rowsIn widths count (drop 1 bs))
-  unfolding allInForm
-  form-done h = sym (ap allInForm (slots-end bs count i h)) ∙ s
+  pub form-done : count ≤ i → true ≡ areSlots (rowsIn widths count (drop 1 bs))
+  unfolding areSlots
+  form-done h = sym (ap areSlots (slots-end bs count i h)) ∙ s
 
 -- what is read after i slots: their entries stand in their places, and the others are still to come
 pub record ReadSoFar (bs : List ℕ) (count : ℕ) (es : List Entry) (i : ℕ) : Type 0 where
@@ -100,14 +99,13 @@ module _ (bs : List ℕ) (count : ℕ) (es : List Entry) (i : ℕ) (s : ReadSoFa
       }
 
   -- all are read
-  pub read-done : count ≤ i → _≡_ {A = Reading} (record { known = true; count = count; entries = take count es }) (seen true (map entryOf (rowsIn widths count (drop 1 bs))))
-  read-done h =
+  pub read-done : count ≤ i → count ≤ capacity → _≡_ {A = Reading} (record { known = true; table = tableOf (record { entries = es; count = count }) }) (tableRead true (map entryOf (rowsIn widths count (drop 1 bs))))
+  read-done h small =
       let z = slots-end bs count i h in
       let q : i ≡ count = omega (arith, s .within) in
       let l : List Entry = map entryOf (rowsIn widths count (drop 1 bs)) in
       let b : take count es ≡ l = ap (λ (j : ℕ). take j es) (sym q) ∙ sym (append-nil (take i es)) ∙ ap (λ (r : List (List ℕ)). take i es ++ map entryOf r) (sym z) ∙ s .entries in
-      let n : count ≡ length l = sym (length-map (rowsIn widths count (drop 1 bs)) entryOf ∙ length-rowsIn widths count (drop 1 bs)) in
-      λ j. record { known = true; count = n j; entries = b j }
+      ap (λ (x : Table). record { known = true; table = x }) (is-table (record { entries = es; count = count }) small ∙ ap holding b)
 
 -- ---- the tests before
 
@@ -126,16 +124,16 @@ module _ (bs : List ℕ) where
       behind : allZero (drop (1 + countIn bs * total widths) bs) ≡ z
       behind = ap (λ (p : ℕ). allZero (drop (1 + p) bs)) (ap (λ (w : ℕ). countIn bs * w) slot-size ∙ mul-comm (countIn bs) 29) ∙ sym ez
 
-      so-far : isTable 16 bs ≡ (allInForm (slotsIn bs) && z)
+      so-far : isTable 16 bs ≡ (areSlots (slotsIn bs) && z)
       unfolding isTable
       so-far = rw (table-size, eq-eqb (length bs) 465 n, le-leb (countIn bs) 16 k, behind)
 
       pub not-ended : z ≡ false → false ≡ isTable 16 bs
-      not-ended f = sym (so-far ∙ ap (λ (b : Bool). allInForm (slotsIn bs) && b) f ∙ and-false (allInForm (slotsIn bs)))
+      not-ended f = sym (so-far ∙ ap (λ (b : Bool). areSlots (slotsIn bs) && b) f ∙ and-false (areSlots (slotsIn bs)))
 
-      pub by-slots : z ≡ true → allInForm (rowsIn widths (countIn bs) (drop 1 bs)) ≡ isTable 16 bs
+      pub by-slots : z ≡ true → areSlots (rowsIn widths (countIn bs) (drop 1 bs)) ≡ isTable 16 bs
       unfolding slotsIn
-      by-slots f = sym (so-far ∙ ap (λ (b : Bool). allInForm (slotsIn bs) && b) f ∙ and-true (allInForm (slotsIn bs)))
+      by-slots f = sym (so-far ∙ ap (λ (b : Bool). areSlots (slotsIn bs) && b) f ∙ and-true (areSlots (slotsIn bs)))
 
   -- how long a table is, and how many slots it has
   pub known-size : isTable 16 bs ≡ true → length bs ≡ 465
@@ -145,13 +143,13 @@ module _ (bs : List ℕ) where
   known-count f = the-conditions 16 bs f .count
 
   -- the table, by the test
-  pub read-none : isTable 16 bs ≡ false → seen false [] ≡ readT 16 bs
+  pub read-none : isTable 16 bs ≡ false → tableRead false [] ≡ readT 16 bs
   unfolding readT
-  read-none f = ap (λ (b : Bool). cond b (seen true (tableIn bs)) (seen false [])) (sym f)
+  read-none f = ap (λ (b : Bool). cond b (tableRead true (tableIn bs)) (tableRead false [])) (sym f)
 
-  pub read-all : isTable 16 bs ≡ true → seen true (map entryOf (rowsIn widths (countIn bs) (drop 1 bs))) ≡ readT 16 bs
+  pub read-all : isTable 16 bs ≡ true → tableRead true (map entryOf (rowsIn widths (countIn bs) (drop 1 bs))) ≡ readT 16 bs
   unfolding readT slotsIn tableIn
-  read-all f = ap (λ (b : Bool). cond b (seen true (tableIn bs)) (seen false [])) (sym f)
+  read-all f = ap (λ (b : Bool). cond b (tableRead true (tableIn bs)) (tableRead false [])) (sym f)
 
 -- ---- writing the slots
 
@@ -172,35 +170,33 @@ rows-length es i h =
 
 -- the count and the first i slots, and zeros to the end
 unfoldable pub filled : ℕ → ℕ → List Entry → ℕ → List ℕ
-filled room count es i = padded room (count ∷ rowsLaid widths (map numbersOf (take i es)))
+filled capacity count es i = padded capacity (count ∷ rowsLaid widths (map numbersOf (take i es)))
 
 pub cleared-length : (bs l : List ℕ) → length bs ≡ 465 → l ≡ zeros (length bs) → length l ≡ 465
 cleared-length bs l n z = ap length z ∙ length-replicate (length bs) 0 ∙ n
 
-filled-none : (room count : ℕ) (es : List Entry) → 0 < room → set (zeros room) 0 count ≡ filled room count es 0
+filled-none : (capacity count : ℕ) (es : List Entry) → 0 < capacity → set (zeros capacity) 0 count ≡ filled capacity count es 0
 unfolding filled padded rowsLaid
 filled-none zero count es h = absurd (omega arith)
-filled-none (suc room) count es h =
-    let e : room ≡ suc room - 1 = omega arith in
+filled-none (suc capacity) count es h =
+    let e : capacity ≡ suc capacity - 1 = omega arith in
     ap (λ (n : ℕ). count ∷ zeros n) e
 
-filled-more : (room count : ℕ) (es : List Entry) (i : ℕ) (d : Entry) → i < length es → 1 + 29 * (i + 1) ≤ room
-    → sets (filled room count es i) (1 + 29 * i) (laid widths (numbersOf (getD es i d))) ≡ filled room count es (i + 1)
-unfolding filled over
-filled-more room count es i d h k =
+filled-more : (capacity count : ℕ) (es : List Entry) (i : ℕ) (d : Entry) → i < length es → 1 + 29 * (i + 1) ≤ capacity
+    → sets (filled capacity count es i) (1 + 29 * i) (laid widths (numbersOf (getD es i d))) ≡ filled capacity count es (i + 1)
+unfolding filled
+filled-more capacity count es i d h k =
     let rows : List (List ℕ) = map numbersOf (take i es) in
     let out : List ℕ = count ∷ rowsLaid widths rows in
     let bytes : List ℕ = laid widths (numbersOf (getD es i d)) in
     let b : length bytes ≡ 29 = length-laid widths (numbersOf (getD es i d)) ∙ slot-size in
     let r : length (rowsLaid widths rows) ≡ i * 29 = rows-length es i (omega arith) in
     let p : 1 + 29 * i ≡ length out = omega arith in
-    let n : length (padded room out) ≡ room = length-padded room out (omega arith) in
-    sets-eq bytes (padded room out) (1 + 29 * i) (omega arith)
-    ∙ ap (λ (q : ℕ). over (padded room out) q bytes) p
-    ∙ over-padded room out bytes (omega arith)
-    ∙ ap (λ (l : List ℕ). padded room (count ∷ l)) (sym (rows-snoc widths rows (numbersOf (getD es i d))))
-    ∙ ap (λ (m : List (List ℕ)). padded room (count ∷ rowsLaid widths m)) (sym (map-snoc (take i es) (getD es i d)))
-    ∙ ap (λ (l : List Entry). padded room (count ∷ rowsLaid widths (map numbersOf l))) (sym (take-suc es i d h) ∙ ap (λ (j : ℕ). take j es) (sym (add-one i)))
+    ap (λ (q : ℕ). sets (padded capacity out) q bytes) p
+    ∙ sets-padded capacity out bytes (omega arith)
+    ∙ ap (λ (l : List ℕ). padded capacity (count ∷ l)) (sym (rows-snoc widths rows (numbersOf (getD es i d))))
+    ∙ ap (λ (m : List (List ℕ)). padded capacity (count ∷ rowsLaid widths m)) (sym (map-snoc (take i es) (getD es i d)))
+    ∙ ap (λ (l : List Entry). padded capacity (count ∷ rowsLaid widths (map numbersOf l))) (sym (take-suc es i d h) ∙ ap (λ (j : ℕ). take j es) (sym (add-one i)))
 
 -- a buffer that was cleared, with the count in it
 pub filled-start : (count : ℕ) (es : List Entry) (bs l : List ℕ) → length bs ≡ 465 → l ≡ zeros (length bs) → (length (set l 0 count) ≡ 465) × (set l 0 count ≡ filled 465 count es 0)

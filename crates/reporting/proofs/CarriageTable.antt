@@ -2,7 +2,7 @@
 -- Assumes nothing.
 use Prim.Native.Nat.{ℕ, zero, suc, _+_, _-_, _*_, _≤_, _<_}
 use mathlib.Core.Path.{_≡_, refl, ap, sym, _∙_}
-use mathlib.Core.Bool.{Bool, true, _&&_}
+use mathlib.Core.Bool.{Bool, true, false, cond, _&&_, false≢true}
 use mathlib.Core.List.{List, [], _∷_, _++_, map}
 use native.Mathlib.Omega.{arith}
 use native.Mathlib.Nat.{mul-le-mul-right}
@@ -14,8 +14,9 @@ use Rattle.types.proofs.Numbers.{bytes-drop}
 use Rattle.frame.specs.Reply.{padded}
 use Rattle.frame.proofs.Buffer.{length-padded}
 use Rattle.reporting.specs.declared.entry.Entry.{Entry}
-use Rattle.reporting.specs.Carried.{widths, total, rowsLaid, rowsIn, numbersIn, numbersOf, entryOf, inForm, allInForm, tableSize, tableBytes, slotsIn, tableIn, countIn, sized, counted, endsInZeros, isTable, Clean, AllClean, quieted, seen, readT}
-use Rattle.reporting.specs.OneForm.{TableIs, TableBack, BytesBack}
+use Rattle.reporting.specs.Table.{entriesOf}
+use Rattle.reporting.specs.Carried.{widths, total, rowsLaid, rowsIn, numbersIn, numbersOf, entryOf, isSlot, areSlots, tableSize, tableBytes, slotsIn, tableIn, countIn, sizeOk, countOk, endsInZeros, isTable, quieted, Reading, tableRead, readT}
+use Rattle.reporting.specs.Claims.RoundTrip.{Clean, AllClean, TableIs, TableBack, BytesBack}
 use Rattle.reporting.proofs.Carriage.{AllWithin, length-rows, length-rowsIn, bytes-rows, rows-laid, laid-rows, both, zeros-zero, zero-zeros}
 use Rattle.reporting.proofs.CarriageEntry.{entry-within, entry-in-form, entry-back, slot-back, slot-clean, quieted-numbers, slot-quiet}
 
@@ -25,27 +26,27 @@ all-within : (l : List Entry) → AllClean l → AllWithin widths (map numbersOf
 all-within [] h = tt
 all-within (e ∷ l) h = (entry-within e (h .0), all-within l (h .1))
 
-all-in-form : (l : List Entry) → allInForm (map numbersOf l) ≡ true
-unfolding allInForm
+all-in-form : (l : List Entry) → areSlots (map numbersOf l) ≡ true
+unfolding areSlots
 all-in-form [] = refl
-all-in-form (e ∷ l) = ap (λ (b : Bool). b && allInForm (map numbersOf l)) (entry-in-form e) ∙ all-in-form l
+all-in-form (e ∷ l) = ap (λ (b : Bool). b && areSlots (map numbersOf l)) (entry-in-form e) ∙ all-in-form l
 
 entries-back : (l : List Entry) → AllClean l → map entryOf (map numbersOf l) ≡ l
 entries-back [] h = refl
 entries-back (e ∷ l) h = λ i. entry-back e (h .0) i ∷ entries-back l (h .1) i
 
-rows-back : (n : ℕ) (bs : List ℕ) → AllBytes bs → allInForm (rowsIn widths n bs) ≡ true → map numbersOf (map entryOf (rowsIn widths n bs)) ≡ rowsIn widths n bs
-unfolding rowsIn allInForm
+rows-back : (n : ℕ) (bs : List ℕ) → AllBytes bs → areSlots (rowsIn widths n bs) ≡ true → map numbersOf (map entryOf (rowsIn widths n bs)) ≡ rowsIn widths n bs
+unfolding rowsIn areSlots
 rows-back zero bs h p = refl
 rows-back (suc n) bs h p =
-    let q = both (inForm (numbersIn widths bs)) (allInForm (rowsIn widths n (drop (total widths) bs))) p in
+    let q = both (isSlot (numbersIn widths bs)) (areSlots (rowsIn widths n (drop (total widths) bs))) p in
     λ i. slot-back bs h (q .0) i ∷ rows-back n (drop (total widths) bs) (bytes-drop bs (total widths) h) (q .1) i
 
-rows-clean : (n : ℕ) (bs : List ℕ) → AllBytes bs → allInForm (rowsIn widths n bs) ≡ true → AllClean (map entryOf (rowsIn widths n bs))
-unfolding rowsIn allInForm
+rows-clean : (n : ℕ) (bs : List ℕ) → AllBytes bs → areSlots (rowsIn widths n bs) ≡ true → AllClean (map entryOf (rowsIn widths n bs))
+unfolding rowsIn areSlots
 rows-clean zero bs h p = tt
 rows-clean (suc n) bs h p =
-    let q = both (inForm (numbersIn widths bs)) (allInForm (rowsIn widths n (drop (total widths) bs))) p in
+    let q = both (isSlot (numbersIn widths bs)) (areSlots (rowsIn widths n (drop (total widths) bs))) p in
     (slot-clean bs h (q .0), rows-clean n (drop (total widths) bs) (bytes-drop bs (total widths) h) (q .1))
 
 -- ---- a table's bytes
@@ -82,7 +83,7 @@ module _ (limit : ℕ) (l : List Entry) (f : length l ≤ limit) where
       ∙ ap allZero (drop-at (rowsLaid widths (map numbersOf l)) (zeros n) (length l * total widths) rows-length)
       ∙ zeros-zero n
 
-  count-so : counted limit (tableBytes limit l) ≡ true
+  count-so : countOk limit (tableBytes limit l) ≡ true
   unfolding tableBytes padded
   count-so = le-leb (length l) limit f
 
@@ -102,15 +103,15 @@ table-back limit l f h = ap (map entryOf) (slots-laid limit l f h) ∙ entries-b
 pub record IsTable (limit : ℕ) (bs : List ℕ) : Type 0 where
   pub size : length bs ≡ tableSize limit
   pub count : countIn bs ≤ limit
-  pub slots : allInForm (slotsIn bs) ≡ true
+  pub slots : areSlots (slotsIn bs) ≡ true
   pub behind : allZero (drop (1 + countIn bs * total widths) bs) ≡ true
 
 pub the-conditions : (limit : ℕ) (bs : List ℕ) → isTable limit bs ≡ true → IsTable limit bs
 unfolding isTable
 the-conditions limit bs t =
-    let a = both (sized limit bs) (counted limit bs && (allInForm (slotsIn bs) && endsInZeros bs)) t in
-    let b = both (counted limit bs) (allInForm (slotsIn bs) && endsInZeros bs) (a .1) in
-    let c = both (allInForm (slotsIn bs)) (endsInZeros bs) (b .1) in
+    let a = both (sizeOk limit bs) (countOk limit bs && (areSlots (slotsIn bs) && endsInZeros bs)) t in
+    let b = both (countOk limit bs) (areSlots (slotsIn bs) && endsInZeros bs) (a .1) in
+    let c = both (areSlots (slotsIn bs)) (endsInZeros bs) (b .1) in
     record { size = eqb-true _ _ (a .0); count = leb-true _ _ (b .0); slots = c .0; behind = c .1 }
 
 -- there are as many entries as the count says
@@ -163,9 +164,23 @@ bytes-back limit bs h t = laid-back limit bs h t
 
 -- ---- what a reader of written bytes sees
 
-pub read-written : (limit : ℕ) (l : List Entry) → length l ≤ limit → AllClean l → readT limit (tableBytes limit l) ≡ seen true l
+pub read-written : (limit : ℕ) (l : List Entry) → length l ≤ limit → AllClean l → readT limit (tableBytes limit l) ≡ tableRead true l
 unfolding readT
-read-written limit l f h = rw (table-is limit l f h) (ap (seen true) (table-back limit l f h))
+read-written limit l f h = rw (table-is limit l f h) (ap (tableRead true) (table-back limit l f h))
+
+-- a table is read as its entries
+pub read-own : (limit : ℕ) (bs : List ℕ) → isTable limit bs ≡ true → readT limit bs ≡ tableRead true (tableIn bs)
+unfolding readT
+read-own limit bs t = rw t
+
+-- and bytes that are read as entries are a table of these
+pub read-is : (limit : ℕ) (bs : List ℕ) (l : List Entry) → readT limit bs ≡ tableRead true l → (isTable limit bs ≡ true) × (tableIn bs ≡ l)
+unfolding readT
+read-is limit bs l = go (isTable limit bs)
+  where
+    go : (b : Bool) → cond b (tableRead true (tableIn bs)) (tableRead false []) ≡ tableRead true l → (b ≡ true) × (tableIn bs ≡ l)
+    go true e = (refl, ap (λ (r : Reading). entriesOf (r .table)) e)
+    go false e = absurd (false≢true (ap (λ (r : Reading). r .known) e))
 
 -- entries as they are written, and as they are read then
 
@@ -177,7 +192,7 @@ quieted-bytes : (limit : ℕ) (l : List Entry) → tableBytes limit (map quieted
 unfolding tableBytes
 quieted-bytes limit l = λ i. padded (tableSize limit) (length-map l quieted i ∷ rowsLaid widths (quieted-rows l i))
 
-pub quieted-read : (limit : ℕ) (l : List Entry) → length l ≤ limit → AllClean (map quieted l) → readT limit (tableBytes limit l) ≡ seen true (map quieted l)
+pub quieted-read : (limit : ℕ) (l : List Entry) → length l ≤ limit → AllClean (map quieted l) → readT limit (tableBytes limit l) ≡ tableRead true (map quieted l)
 quieted-read limit l f h =
     ap (readT limit) (sym (quieted-bytes limit l)) ∙ read-written limit (map quieted l) (omega (arith, length-map l quieted)) h
 
@@ -187,10 +202,10 @@ quieted-snoc [] e h c = (c, tt)
 quieted-snoc (x ∷ l) e h c = (h .0, quieted-snoc l e (h .1) c)
 
 -- what bytes tell is told already
-rows-quiet : (rows : List (List ℕ)) → allInForm rows ≡ true → map quieted (map entryOf rows) ≡ map entryOf rows
-unfolding allInForm
+rows-quiet : (rows : List (List ℕ)) → areSlots rows ≡ true → map quieted (map entryOf rows) ≡ map entryOf rows
+unfolding areSlots
 rows-quiet [] p = refl
-rows-quiet (ns ∷ rows) p = let q = both (inForm ns) (allInForm rows) p in λ i. slot-quiet ns (q .0) i ∷ rows-quiet rows (q .1) i
+rows-quiet (ns ∷ rows) p = let q = both (isSlot ns) (areSlots rows) p in λ i. slot-quiet ns (q .0) i ∷ rows-quiet rows (q .1) i
 
 pub table-quiet : (limit : ℕ) (bs : List ℕ) → isTable limit bs ≡ true → map quieted (tableIn bs) ≡ tableIn bs
 unfolding tableIn

@@ -8,7 +8,7 @@ use lib.ListN.{take, set}
 use Rattle.types.specs.Number.{allZero, le, bytesOf, signedOf, residue}
 use Rattle.frame.specs.Reply.{padded}
 use Rattle.reporting.specs.declared.entry.Entry.{Entry}
-use Rattle.reporting.specs.Carried.{total, laid, numbersIn, rowsLaid, rowsIn, numbersOf, entryOf, inForm, allInForm, slotsIn, tableIn, tableBytes, isTable}
+use Rattle.reporting.specs.Carried.{total, laid, numbersIn, rowsLaid, rowsIn, numbersOf, entryOf, isSlot, areSlots, slotsIn, tableIn, tableBytes, isTable}
 
 -- cluster 0402, attribute 0000, from 10 to 300 seconds, change 50; last reported at 100000 with the value -5
 entry : Entry
@@ -39,30 +39,30 @@ with : ℕ → ℕ → Bool
 with at b = isTable 16 (set bytes at b)
 
 is-one : with 0 1 ≡ true
-unfolding with isTable slotsIn allInForm inForm allZero rowsIn numbersIn le total bytes head padded
+unfolding with isTable slotsIn areSlots isSlot allZero rowsIn numbersIn le total bytes head padded
 is-one = refl
 
 -- a count of 17; a count of 2, an empty slot being one; flag 2; a time under flag 0; a stray byte behind
 count-17 : with 0 17 ≡ false
-unfolding with isTable slotsIn allInForm inForm allZero rowsIn numbersIn le total bytes head padded
+unfolding with isTable slotsIn areSlots isSlot allZero rowsIn numbersIn le total bytes head padded
 count-17 = refl
 
 count-2 : with 0 2 ≡ true
-unfolding with isTable slotsIn allInForm inForm allZero rowsIn numbersIn le total bytes head padded
+unfolding with isTable slotsIn areSlots isSlot allZero rowsIn numbersIn le total bytes head padded
 count-2 = refl
 
 flag-2 : with 17 2 ≡ false
-unfolding with isTable slotsIn allInForm inForm allZero rowsIn numbersIn le total bytes head padded
+unfolding with isTable slotsIn areSlots isSlot allZero rowsIn numbersIn le total bytes head padded
 flag-2 = refl
 
 flag-0 : with 17 0 ≡ false
-unfolding with isTable slotsIn allInForm inForm allZero rowsIn numbersIn le total bytes head padded
+unfolding with isTable slotsIn areSlots isSlot allZero rowsIn numbersIn le total bytes head padded
 flag-0 = refl
 
 stray : with 464 1 ≡ false
-unfolding with isTable slotsIn allInForm inForm allZero rowsIn numbersIn le total bytes head padded
+unfolding with isTable slotsIn areSlots isSlot allZero rowsIn numbersIn le total bytes head padded
 stray = refl
 
 one-short : isTable 16 (take 464 bytes) ≡ false
-unfolding isTable slotsIn allInForm inForm allZero rowsIn numbersIn le total bytes head padded
+unfolding isTable slotsIn areSlots isSlot allZero rowsIn numbersIn le total bytes head padded
 one-short = refl

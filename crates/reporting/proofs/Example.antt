@@ -10,8 +10,8 @@ use Rattle.reporting.specs.declared.entry.Key.{Key}
 use Rattle.reporting.specs.declared.entry.ReportingConfig.{ReportingConfig}
 use Rattle.reporting.specs.declared.entry.Entry.{Entry}
 use Rattle.reporting.specs.Due.{movedBy}
-use Rattle.reporting.specs.Table.{room}
-use Rattle.reporting.specs.Events.{Event, configured, cleared, asked, marked, Call, configRecord, configure, clear, ask, mark, configuration, len, calls, history}
+use Rattle.reporting.specs.Table.{capacity}
+use Rattle.reporting.specs.Claims.Events.{Event, configured, cleared, asked, marked, Call, configRecord, configure, clear, ask, mark, configuration, len, calls, history}
 use Rattle.reporting.specs.Demand3.{asksOf, Supposed, Promised}
 use Rattle.reporting.proofs.Promise.{demand-3-of-calls}
 
@@ -37,7 +37,7 @@ abbrev before : List Call
 before = configRecord j g ∷ configure i crossed ∷ []
 
 abbrev here : List Entry
-here = calls room (before ++ (configRecord k g ∷ [])) []
+here = calls capacity (before ++ (configRecord k g ∷ [])) []
 
 -- the later record for k is refused with 87, so that it neither configures nor clears; the last yes is not yet marked
 abbrev later : List Call
@@ -71,7 +71,7 @@ keys [] = []
 keys (e ∷ es) = e .key ∷ keys es
 
 -- k stands third, and after the clearing of j first
-pub places : (keys here ≡ j ∷ i ∷ k ∷ []) × (keys (calls room (clear j ∷ []) here) ≡ k ∷ i ∷ [])
+pub places : (keys here ≡ j ∷ i ∷ k ∷ []) × (keys (calls capacity (clear j ∷ []) here) ≡ k ∷ i ∷ [])
 places = (refl, refl)
 
 abbrev told : List Event
@@ -96,7 +96,7 @@ told =
     ∷ cleared j
     ∷ []
 
-pub history-is-told : history room later here ≡ told
+pub history-is-told : history capacity later here ≡ told
 unfolding movedBy
 history-is-told = refl
 
@@ -114,4 +114,4 @@ supposed =
 
 pub promised : Promised g 29 (asksOf k told)
 unfolding movedBy
-promised = demand-3-of-calls room before k g 29 later refl (omega arith) (omega arith) supposed
+promised = demand-3-of-calls capacity before k g 29 later refl (omega arith) (omega arith) supposed

@@ -13,8 +13,9 @@ use Rattle.reporting.specs.declared.entry.Key.{Key}
 use Rattle.reporting.specs.declared.entry.ReportingConfig.{ReportingConfig}
 use Rattle.reporting.specs.declared.entry.Entry.{Entry}
 use Rattle.reporting.specs.Entries.{same, matches, fresh, replaced, findL, lookupL, Distinct, updateL, acceptsL, configureL, markE, markL}
-use Rattle.reporting.specs.Events.{Event, configured, cleared, asked, marked, keyOf, after, run, Honest, Leads, CallsAreEvents, HistoriesAreEvents, Wish, clears, wrong, sets, wish, recordW, eventsW, configRecord, configure, clear, ask, mark, configuration, len, call, events, calls, history}
-use Rattle.reporting.specs.Sentences.{KeysStayDistinct, KeysNeverTwice}
+use Rattle.reporting.specs.Wish.{Wish, toClear, toRefuse, toSet, wish, statusW, recordW}
+use Rattle.reporting.specs.Claims.Events.{Event, configured, cleared, asked, marked, keyOf, after, run, Honest, Leads, CallsAreEvents, HistoriesAreEvents, eventsW, ifSuccess, configRecord, configure, clear, ask, mark, configuration, len, call, events, calls, history}
+use Rattle.reporting.specs.Claims.Sentences.{KeysStayDistinct, KeysNeverTwice}
 use Rattle.reporting.proofs.Places.{lookup-none, lookup-at}
 use Rattle.reporting.proofs.Others.{key-is, key-other, other-not, update-other, update-own, update-distinct, append-other, append-own, append-distinct, clear-other, clear-distinct}
 
@@ -103,10 +104,14 @@ configure-is limit k g l = go (acceptsL limit k l) refl
     go true e = record { honest = (e, tt); table = refl }
     go false e = record { honest = tt; table = sym (configure-refused limit k g l e) }
 
-record-is : (limit : ℕ) (w : Wish) (k : Key) (g : ReportingConfig) (l : List Entry) → Leads limit (eventsW w (acceptsL limit k l) k g) l (recordW w limit k g l)
-record-is limit clears k g l = record { honest = (tt, tt); table = refl }
-record-is limit wrong k g l = record { honest = tt; table = refl }
-record-is limit sets k g l = configure-is limit k g l
+by-status : (accepted : Bool) (es : List Event) → cond accepted es [] ≡ ifSuccess (statusW toSet accepted) es
+by-status true es = refl
+by-status false es = refl
+
+record-is : (limit : ℕ) (w : Wish) (k : Key) (g : ReportingConfig) (l : List Entry) → Leads limit (ifSuccess (statusW w (acceptsL limit k l)) (eventsW w k g)) l (recordW w limit k g l)
+record-is limit toClear k g l = record { honest = (tt, tt); table = refl }
+record-is limit toRefuse k g l = record { honest = tt; table = refl }
+record-is limit toSet k g l = subst (λ (es : List Event). Leads limit es l (configureL limit k g l)) (by-status (acceptsL limit k l) (configured k g ∷ [])) (configure-is limit k g l)
 
 -- A call is its events: they are honest, and the table after the call is their fold.
 pub call-is : CallsAreEvents
@@ -129,7 +134,7 @@ pub history-is : HistoriesAreEvents
 history-is limit [] l = record { honest = tt; table = refl }
 history-is limit (c ∷ cs) l = leads-then limit (events limit c l) (history limit cs (call limit c l)) l (call limit c l) (calls limit cs (call limit c l)) (call-is limit c l) (history-is limit cs (call limit c l))
 
--- ---- keys never stand twice (claims of specs/Sentences.antt)
+-- ---- keys never stand twice (claims of specs/Claims/Sentences.antt)
 
 pub keys-stay-distinct : KeysStayDistinct
 keys-stay-distinct limit c l d = subst Distinct (call-is limit c l .table) (run-distinct limit (events limit c l) l d)

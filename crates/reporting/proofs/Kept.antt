@@ -15,8 +15,9 @@ use Rattle.reporting.specs.declared.entry.Key.{Key}
 use Rattle.reporting.specs.declared.entry.ReportingConfig.{ReportingConfig}
 use Rattle.reporting.specs.declared.entry.Entry.{Entry}
 use Rattle.reporting.specs.Entries.{matches, findL, updateL, fresh, replaced, configureL, lastFirst, clearL, markE, markL}
-use Rattle.reporting.specs.Carried.{Clean, AllClean, quieted}
-use Rattle.reporting.specs.Events.{Event, configured, cleared, asked, marked, after, run}
+use Rattle.reporting.specs.Carried.{quieted}
+use Rattle.reporting.specs.Claims.RoundTrip.{Clean, AllClean}
+use Rattle.reporting.specs.Claims.Events.{Event, configured, cleared, asked, marked, after, run}
 
 pub record Kept (limit : ℕ) (l : List Entry) : Type 0 where
   pub small : length l ≤ limit

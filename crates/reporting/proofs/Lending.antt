@@ -1,17 +1,16 @@
 -- What the operations on a table's bytes find, and what they then say. Assumes nothing.
 use Prim.Native.Nat.{ℕ, zero, suc, _+_, _*_, _^_, _≤_, _<_}
 use mathlib.Core.Path.{_≡_, refl, ap, sym, _∙_}
-use mathlib.Core.Bool.{Bool, true, false, cond, _&&_, _||_, and-true, and-false, false≢true}
+use mathlib.Core.Bool.{Bool, true, false, cond, _&&_, _||_, and-true, and-false}
 use mathlib.Core.List.{List, [], _∷_, _++_, map}
 use mathlib.Core.Option.{some}
 use native.Mathlib.Omega.{arith}
-use lib.ListN.{length, getD, take, drop, set, length-set, length-replicate}
-use lib.Seq.{sets, length-sets, drop-drop, take-all, take-suc, length-take-le}
+use lib.ListN.{length, getD, take, drop, set, length-set}
+use lib.Seq.{sets, drop-drop, take-all, take-suc, length-take-le}
 use lib.Dec.{ltb, eqb}
 use lib.IntN.{ℤ}
 use borrow.Author.Tests.{eq-eqb, ne-eqb, lt-ltb, le-ltb}
 use Rattle.types.specs.Number.{AllBytes, zeros, unsignedAt}
-use Rattle.frame.specs.Reply.{over}
 use Rattle.frame.specs.declared.answer.Refusal.the-variants.{NotATable}
 use Rattle.reporting.specs.declared.entry.Key.{Key}
 use Rattle.reporting.specs.declared.entry.ReportingConfig.{ReportingConfig}
@@ -23,15 +22,17 @@ use Rattle.reporting.specs.declared.table.Setting.{Setting}
 use Rattle.reporting.specs.declared.table.Setting.the-variants as SettingV
 use Rattle.reporting.specs.Entries.{matches, findL, lookupL, updateL, fresh, replaced, acceptsL, configureL, clearL, markE}
 use Rattle.reporting.specs.Due.{dueE, dueO, dueL}
-use Rattle.reporting.specs.Table.{room, holding, ReportTold, reportTold, settingTold, settingO, configurationT}
-use Rattle.reporting.specs.Carried.{widths, total, laid, numbersIn, rowsIn, numbersOf, entryOf, countIn, slotsIn, tableIn, tableBytes, isTable, Clean, Reading, seen, readT, written}
-use Rattle.reporting.specs.Lent.{onLent, askLent, configurationLent, markLent, clearLent, ChangeLeft, leftAs, configureLent, ChangeKept, keptAs, configureIn}
+use Rattle.reporting.specs.Table.{capacity, holding, ReportTold, reportTold, settingTold, settingO, configurationT}
+use Rattle.reporting.specs.Carried.{widths, total, laid, numbersIn, rowsIn, numbersOf, entryOf, countIn, slotsIn, tableIn, tableBytes, isTable, tableRead, readT, written}
+use Rattle.reporting.specs.Claims.RoundTrip.{Clean}
+use Rattle.reporting.specs.Lent.{onLent, askLent, configurationLent, markLent, clearLent, ChangeLeft, leftAs, configureLent}
+use Rattle.reporting.specs.Inside.{ChangeKept, keptAs, configureIn}
 use Rattle.reporting.proofs.Places.{find-le, lookup-at, lookup-none, update-at, update-none, clear-none, clear-place}
 use Rattle.reporting.proofs.CarriageCode.{entry-at}
-use Rattle.reporting.proofs.CarriageTable.{the-conditions, table-count, table-clean, bytes-back, read-written}
-use Rattle.reporting.proofs.CarriageLoops.{slot-size, known-size, known-count, slotsFrom, slots-start, slots-more, slots-end}
+use Rattle.reporting.proofs.CarriageTable.{the-conditions, table-count, table-clean, bytes-back, read-written, read-is}
+use Rattle.reporting.proofs.CarriageLoops.{slot-size, known-count, slotsFrom, slots-start, slots-more, slots-end}
 use Rattle.reporting.proofs.Kept.{Kept, configure-keeps, clear-keeps}
-use Rattle.reporting.proofs.Patches.{over-sets, slot-over, slot-added, slot-gone}
+use Rattle.reporting.proofs.Patches.{slot-over, slot-added, slot-gone}
 
 -- ---- one slot
 
@@ -95,41 +96,41 @@ module _ (k : Key) (bs : List ℕ) (i : ℕ) (s : Passed k bs i) where
 -- ---- what is said
 
 module _ (bs : List ℕ) where
-  refused-so : {R : Type 0} (refusal : R) (rest : List Entry → R) → isTable room bs ≡ false → refusal ≡ onLent bs refusal rest
+  refused-so : {R : Type 0} (refusal : R) (rest : List Entry → R) → isTable capacity bs ≡ false → refusal ≡ onLent bs refusal rest
   unfolding onLent
   refused-so refusal rest h = ap (λ (b : Bool). cond b (rest (tableIn bs)) refusal) (sym h)
 
-  known-so : {R : Type 0} (refusal : R) (rest : List Entry → R) → isTable room bs ≡ true → rest (tableIn bs) ≡ onLent bs refusal rest
+  known-so : {R : Type 0} (refusal : R) (rest : List Entry → R) → isTable capacity bs ≡ true → rest (tableIn bs) ≡ onLent bs refusal rest
   unfolding onLent
   known-so refusal rest h = ap (λ (b : Bool). cond b (rest (tableIn bs)) refusal) (sym h)
 
-  pub ask-refused : (k : Key) (now : ℕ) (v : ℤ) → isTable room bs ≡ false → reportTold (ReportV.Refused NotATable) ≡ askLent k now v bs
+  pub ask-refused : (k : Key) (now : ℕ) (v : ℤ) → isTable capacity bs ≡ false → reportTold (ReportV.Refused NotATable) ≡ askLent k now v bs
   unfolding askLent
   ask-refused k now v h = refused-so _ _ h
 
-  pub setting-refused : (k : Key) → isTable room bs ≡ false → settingTold (SettingV.Refused NotATable) ≡ configurationLent k bs
+  pub setting-refused : (k : Key) → isTable capacity bs ≡ false → settingTold (SettingV.Refused NotATable) ≡ configurationLent k bs
   unfolding configurationLent
   setting-refused k h = refused-so _ _ h
 
-  pub mark-refused : (k : Key) (now : ℕ) (v : ℤ) → isTable room bs ≡ false → written false bs ≡ markLent k now v bs
+  pub mark-refused : (k : Key) (now : ℕ) (v : ℤ) → isTable capacity bs ≡ false → written false bs ≡ markLent k now v bs
   unfolding markLent
   mark-refused k now v h = refused-so _ _ h
 
-  pub clear-refused : (k : Key) → isTable room bs ≡ false → written false bs ≡ clearLent k bs
+  pub clear-refused : (k : Key) → isTable capacity bs ≡ false → written false bs ≡ clearLent k bs
   unfolding clearLent
   clear-refused k h = refused-so _ _ h
 
-  pub configure-refused : (k : Key) (g : ReportingConfig) → isTable room bs ≡ false → leftAs (ChangeV.Refused NotATable) bs ≡ configureLent k g bs
+  pub configure-refused : (k : Key) (g : ReportingConfig) → isTable capacity bs ≡ false → leftAs (ChangeV.Refused NotATable) bs ≡ configureLent k g bs
   unfolding configureLent
   configure-refused k g h = refused-so _ _ h
 
 -- what configuring says, and the bytes of the entries that it leaves
 abbrev changed : Key → ReportingConfig → List Entry → ChangeLeft
-changed k g l = leftAs (cond (acceptsL room k l) ChangeV.Done ChangeV.Full) (tableBytes room (configureL room k g l))
+changed k g l = leftAs (cond (acceptsL capacity k l) ChangeV.Done ChangeV.Full) (tableBytes capacity (configureL capacity k g l))
 
 -- in bytes that are a table, the scan for the key k came to `at`
 pub record FoundSlot (bs : List ℕ) (k : Key) (at : ℕ) : Type 0 where
-  pub known : isTable room bs ≡ true
+  pub known : isTable capacity bs ≡ true
   pub place : at ≡ findL k (tableIn bs)
 
 module _ {bs : List ℕ} {k : Key} {at : ℕ} (found : FoundSlot bs k at) where
@@ -172,23 +173,23 @@ module _ {bs : List ℕ} {k : Key} {at : ℕ} (found : FoundSlot bs k at) where
 
   module _ (h : AllBytes bs) where
     -- the bytes as they are, and with the found slot written over
-    kept : bs ≡ tableBytes room (tableIn bs)
-    kept = sym (bytes-back room bs h (found .known))
+    kept : bs ≡ tableBytes capacity (tableIn bs)
+    kept = sym (bytes-back capacity bs h (found .known))
 
     patched : (after : List ℕ) (f : Entry → Entry) (e : Entry) → e ≡ f (slotEntry bs at) → at < countIn bs → after ≡ sets bs (1 + 29 * at) (laid widths (numbersOf e))
-        → after ≡ tableBytes room (updateL k f (tableIn bs))
+        → after ≡ tableBytes capacity (updateL k f (tableIn bs))
     patched after f e ee p w =
         let d : Entry = slotEntry bs at in
         let u : set (tableIn bs) at e ≡ updateL k f (tableIn bs) = (λ i. set (tableIn bs) (found .place i) ((ee ∙ ap f (sym (found-entry d p))) i)) ∙ sym (update-at k f (tableIn bs) d) in
         w
         ∙ ap (λ (l : List ℕ). sets l (1 + 29 * at) (laid widths (numbersOf e))) kept
-        ∙ slot-over room (tableIn bs) at e (omega (arith, table-count bs))
-        ∙ ap (tableBytes room) u
+        ∙ slot-over capacity (tableIn bs) at e (omega (arith, table-count bs))
+        ∙ ap (tableBytes capacity) u
 
     pub mark-absent : (now : ℕ) (v : ℤ) → countIn bs ≤ at → written true bs ≡ markLent k now v bs
     unfolding markLent
     mark-absent now v p =
-        ap (λ (l : List ℕ). written true l) (kept ∙ ap (tableBytes room) (sym (update-none k (markE now v) (tableIn bs) (absent p)))) ∙ said-so _ _
+        ap (λ (l : List ℕ). written true l) (kept ∙ ap (tableBytes capacity) (sym (update-none k (markE now v) (tableIn bs) (absent p)))) ∙ said-so _ _
 
     pub mark-is : (after : List ℕ) (e : Entry) (now : ℕ) (v v′ : ℤ) → v′ ≡ v → e ≡ markE now v′ (slotEntry bs at) → at < countIn bs → after ≡ sets bs (1 + 29 * at) (laid widths (numbersOf e))
         → written true after ≡ markLent k now v bs
@@ -197,29 +198,29 @@ module _ {bs : List ℕ} {k : Key} {at : ℕ} (found : FoundSlot bs k at) where
         ap (λ (l : List ℕ). written true l) (patched after (markE now v) e (ee ∙ ap (λ z. markE now z (slotEntry bs at)) ev) p w) ∙ said-so _ _
 
     -- the answer and the entries by the tests of acceptsL and configureL
-    as-configured : (g : ReportingConfig) (a b : Bool) → ltb (findL k (tableIn bs)) (length (tableIn bs)) ≡ a → ltb (length (tableIn bs)) room ≡ b
-        → leftAs (cond (a || b) ChangeV.Done ChangeV.Full) (tableBytes room (cond a (updateL k (replaced k g) (tableIn bs)) (cond b (tableIn bs ++ (fresh k g ∷ [])) (tableIn bs)))) ≡ changed k g (tableIn bs)
+    as-configured : (g : ReportingConfig) (a b : Bool) → ltb (findL k (tableIn bs)) (length (tableIn bs)) ≡ a → ltb (length (tableIn bs)) capacity ≡ b
+        → leftAs (cond (a || b) ChangeV.Done ChangeV.Full) (tableBytes capacity (cond a (updateL k (replaced k g) (tableIn bs)) (cond b (tableIn bs ++ (fresh k g ∷ [])) (tableIn bs)))) ≡ changed k g (tableIn bs)
     as-configured g a b ea eb =
         sym
         (λ i.
         leftAs (cond (ea i || eb i) ChangeV.Done ChangeV.Full)
-        (tableBytes room (cond (ea i) (updateL k (replaced k g) (tableIn bs)) (cond (eb i) (tableIn bs ++ (fresh k g ∷ [])) (tableIn bs)))))
+        (tableBytes capacity (cond (ea i) (updateL k (replaced k g) (tableIn bs)) (cond (eb i) (tableIn bs ++ (fresh k g ∷ [])) (tableIn bs)))))
 
-    pub configure-full : (g : ReportingConfig) → room ≤ at → leftAs ChangeV.Full bs ≡ changed k g (tableIn bs)
+    pub configure-full : (g : ReportingConfig) → capacity ≤ at → leftAs ChangeV.Full bs ≡ changed k g (tableIn bs)
     configure-full g p =
         let n = table-count bs in
         let c = known-count bs (found .known) in
         let f = find-le k (tableIn bs) in
         ap (leftAs ChangeV.Full) kept
-        ∙ as-configured g false false (le-ltb (findL k (tableIn bs)) (length (tableIn bs)) (omega (arith, n, c, f, found .place))) (le-ltb (length (tableIn bs)) room (omega (arith, n, c, f, found .place)))
+        ∙ as-configured g false false (le-ltb (findL k (tableIn bs)) (length (tableIn bs)) (omega (arith, n, c, f, found .place))) (le-ltb (length (tableIn bs)) capacity (omega (arith, n, c, f, found .place)))
 
     pub configure-old : (g : ReportingConfig) (after : List ℕ) (e : Entry) → e ≡ fresh k g → at < countIn bs → after ≡ sets bs (1 + 29 * at) (laid widths (numbersOf e))
         → leftAs ChangeV.Done after ≡ changed k g (tableIn bs)
     configure-old g after e ee p w =
         ap (leftAs ChangeV.Done) (patched after (replaced k g) e ee p w)
-        ∙ as-configured g true (ltb (length (tableIn bs)) room) (lt-ltb _ _ (present p)) refl
+        ∙ as-configured g true (ltb (length (tableIn bs)) capacity) (lt-ltb _ _ (present p)) refl
 
-    pub configure-new : (g : ReportingConfig) (after : List ℕ) (e : Entry) → e ≡ fresh k g → countIn bs ≤ at → at < room → after ≡ sets bs (1 + 29 * at) (laid widths (numbersOf e))
+    pub configure-new : (g : ReportingConfig) (after : List ℕ) (e : Entry) → e ≡ fresh k g → countIn bs ≤ at → at < capacity → after ≡ sets bs (1 + 29 * at) (laid widths (numbersOf e))
         → leftAs ChangeV.Done (set after 0 (countIn bs + 1)) ≡ changed k g (tableIn bs)
     configure-new g after e ee p r w =
         let n = table-count bs in
@@ -228,16 +229,16 @@ module _ {bs : List ℕ} {k : Key} {at : ℕ} (found : FoundSlot bs k at) where
         let c : countIn bs + 1 ≡ suc (length (tableIn bs)) = omega (arith, n) in
         let b : List ℕ = laid widths (numbersOf (fresh k g)) in
         ap (λ (x : List ℕ). leftAs ChangeV.Done (set x 0 (countIn bs + 1))) (w ∙ (λ j. sets (kept j) (1 + 29 * i j) (laid widths (numbersOf (ee j)))))
-        ∙ ap (λ (m : ℕ). leftAs ChangeV.Done (set (sets (tableBytes room (tableIn bs)) (1 + 29 * length (tableIn bs)) b) 0 m)) c
-        ∙ ap (leftAs ChangeV.Done) (slot-added room (tableIn bs) (fresh k g) (omega arith))
-        ∙ as-configured g false true (le-ltb _ _ (absent p)) (lt-ltb (length (tableIn bs)) room (omega arith))
+        ∙ ap (λ (m : ℕ). leftAs ChangeV.Done (set (sets (tableBytes capacity (tableIn bs)) (1 + 29 * length (tableIn bs)) b) 0 m)) c
+        ∙ ap (leftAs ChangeV.Done) (slot-added capacity (tableIn bs) (fresh k g) (omega arith))
+        ∙ as-configured g false true (le-ltb _ _ (absent p)) (lt-ltb (length (tableIn bs)) capacity (omega arith))
 
-    pub clear-absent : countIn bs ≤ at → bs ≡ tableBytes room (clearL k (tableIn bs))
-    clear-absent p = kept ∙ ap (tableBytes room) (sym (clear-none k (tableIn bs) (absent p)))
+    pub clear-absent : countIn bs ≤ at → bs ≡ tableBytes capacity (clearL k (tableIn bs))
+    clear-absent p = kept ∙ ap (tableBytes capacity) (sym (clear-none k (tableIn bs) (absent p)))
 
     -- the last entry stands in the hole, and zeros where it stood
     pub clear-moved : (last : ℕ) (e : Entry) (filled after : List ℕ) → at < countIn bs → last + 1 ≡ countIn bs → e ≡ slotEntry bs last
-        → filled ≡ sets bs (1 + 29 * at) (laid widths (numbersOf e)) → after ≡ over filled (1 + 29 * last) (zeros 29) → set after 0 last ≡ tableBytes room (clearL k (tableIn bs))
+        → filled ≡ sets bs (1 + 29 * at) (laid widths (numbersOf e)) → after ≡ sets filled (1 + 29 * last) (zeros 29) → set after 0 last ≡ tableBytes capacity (clearL k (tableIn bs))
     clear-moved last e filled after p q ee ef ea =
         let l : List Entry = tableIn bs in
         let m : List Entry = set l at e in
@@ -248,14 +249,12 @@ module _ {bs : List ℕ} {k : Key} {at : ℕ} (found : FoundSlot bs k at) where
         let short : length (take last m) ≡ last = length-take-le last m (omega arith) in
         let cut : m ≡ take last m ++ (getD m last d ∷ []) = sym (take-all (suc last) m (omega arith)) ∙ take-suc m last d (omega arith) in
         let gone : take last m ≡ clearL k l = (λ i. take last (set l (found .place i) ((ee ∙ sym (nth-entry bs last d (omega arith))) i))) ∙ sym (clear-place k l last d (present p) (omega (arith, n))) in
-        let size : length filled ≡ 465 = ap length ef ∙ length-sets bs (1 + 29 * at) (laid widths (numbersOf e)) ∙ known-size bs (found .known) in
-        let fits = length-replicate {A = ℕ} 29 0 in
-        ap (λ (x : List ℕ). set x 0 last) (ea ∙ over-sets filled (1 + 29 * last) (zeros 29) (omega (arith, size, fits, q, k′)))
+        ap (λ (x : List ℕ). set x 0 last) ea
         ∙ ap (λ (x : List ℕ). set (sets x (1 + 29 * last) (zeros 29)) 0 last)
-        (ef ∙ ap (λ (x : List ℕ). sets x (1 + 29 * at) (laid widths (numbersOf e))) kept ∙ slot-over room l at e (omega (arith, n)) ∙ ap (tableBytes room) cut)
-        ∙ ap (λ (j : ℕ). set (sets (tableBytes room (take last m ++ (getD m last d ∷ []))) (1 + 29 * j) (zeros 29)) 0 j) (sym short)
-        ∙ slot-gone room (take last m) (getD m last d) (omega arith)
-        ∙ ap (tableBytes room) gone
+        (ef ∙ ap (λ (x : List ℕ). sets x (1 + 29 * at) (laid widths (numbersOf e))) kept ∙ slot-over capacity l at e (omega (arith, n)) ∙ ap (tableBytes capacity) cut)
+        ∙ ap (λ (j : ℕ). set (sets (tableBytes capacity (take last m ++ (getD m last d ∷ []))) (1 + 29 * j) (zeros 29)) 0 j) (sym short)
+        ∙ slot-gone capacity (take last m) (getD m last d) (omega arith)
+        ∙ ap (tableBytes capacity) gone
 
 -- ---- the table that is left
 
@@ -273,45 +272,40 @@ fresh-clean k g c a m x d = record {
   quiet = λ q. (refl, refl);
 }
 
-module _ (bs : List ℕ) (h : AllBytes bs) (t : isTable room bs ≡ true) where
-  fit : Kept room (tableIn bs)
-  fit = record { small = omega (arith, table-count bs, the-conditions room bs t .count); clean = table-clean room bs h t }
+module _ (bs : List ℕ) (h : AllBytes bs) (t : isTable capacity bs ≡ true) where
+  fit : Kept capacity (tableIn bs)
+  fit = record { small = omega (arith, table-count bs, the-conditions capacity bs t .count); clean = table-clean capacity bs h t }
 
   -- from the bytes to what a reader of them sees
-  pub clear-seen : (k : Key) (after : List ℕ) → after ≡ tableBytes room (clearL k (tableIn bs)) → readT room after ≡ seen true (clearL k (tableIn bs))
-  clear-seen k after e = let f = clear-keeps room k (tableIn bs) fit in ap (readT room) e ∙ read-written room (clearL k (tableIn bs)) (f .small) (f .clean)
+  pub clear-seen : (k : Key) (after : List ℕ) → after ≡ tableBytes capacity (clearL k (tableIn bs)) → readT capacity after ≡ tableRead true (clearL k (tableIn bs))
+  clear-seen k after e = let f = clear-keeps capacity k (tableIn bs) fit in ap (readT capacity) e ∙ read-written capacity (clearL k (tableIn bs)) (f .small) (f .clean)
 
   pub configure-seen : (k : Key) (g : ReportingConfig) (answer : Change) (after : List ℕ) → Clean (fresh k g) → leftAs answer after ≡ changed k g (tableIn bs) → keptAs answer after ≡ configureIn k g (tableIn bs)
   unfolding configureIn
   configure-seen k g answer after c e =
-      let f = configure-keeps room k g (tableIn bs) c fit in
+      let f = configure-keeps capacity k g (tableIn bs) c fit in
       λ i. record {
         told = e i .told;
-        table = (ap (λ (x : ChangeLeft). readT room (x .bytes)) e ∙ read-written room (configureL room k g (tableIn bs)) (f .small) (f .clean)) i;
+        table = (ap (λ (x : ChangeLeft). readT capacity (x .bytes)) e ∙ read-written capacity (configureL capacity k g (tableIn bs)) (f .small) (f .clean)) i;
       }
 
 -- and back: bytes in which a reader sees these entries
-pub seen-bytes : (l : List Entry) (bs : List ℕ) → AllBytes bs → readT room bs ≡ seen true l → bs ≡ tableBytes room l
-unfolding readT
-seen-bytes l bs h e = go (isTable room bs) refl e
-  where
-    go : (b : Bool) → isTable room bs ≡ b → cond b (seen true (tableIn bs)) (seen false []) ≡ seen true l → bs ≡ tableBytes room l
-    go true t p = sym (bytes-back room bs h t) ∙ ap (λ (r : Reading). tableBytes room (r .entries)) p
-    go false t p = absurd (false≢true (ap (λ (r : Reading). r .known) p))
+pub seen-bytes : (l : List Entry) (bs : List ℕ) → AllBytes bs → readT capacity bs ≡ tableRead true l → bs ≡ tableBytes capacity l
+seen-bytes l bs h e = let r = read-is capacity bs l e in sym (bytes-back capacity bs h (r .0)) ∙ ap (tableBytes capacity) (r .1)
 
 -- ---- the check, and then the function without it
 
-module _ (bs : List ℕ) (t : isTable room bs ≡ true) where
+module _ (bs : List ℕ) (t : isTable capacity bs ≡ true) where
   pub setting-known : (k : Key) (answer : Setting) → settingTold answer ≡ configurationT k (holding (tableIn bs)) → settingTold answer ≡ configurationLent k bs
   unfolding configurationLent
   setting-known k answer e = e ∙ known-so bs _ _ t
 
-  pub clear-known : (k : Key) (after : List ℕ) → AllBytes after → readT room after ≡ seen true (clearL k (tableIn bs)) → written true after ≡ clearLent k bs
+  pub clear-known : (k : Key) (after : List ℕ) → AllBytes after → readT capacity after ≡ tableRead true (clearL k (tableIn bs)) → written true after ≡ clearLent k bs
   unfolding clearLent
   clear-known k after h e = ap (λ (l : List ℕ). written true l) (seen-bytes (clearL k (tableIn bs)) after h e) ∙ known-so bs _ _ t
 
   pub configure-known : (k : Key) (g : ReportingConfig) (answer : Change) (after : List ℕ) → AllBytes after → keptAs answer after ≡ configureIn k g (tableIn bs) → leftAs answer after ≡ configureLent k g bs
   unfolding configureLent configureIn
   configure-known k g answer after h e =
-      let b = seen-bytes (configureL room k g (tableIn bs)) after h (ap (λ (x : ChangeKept). x .table) e) in
+      let b = seen-bytes (configureL capacity k g (tableIn bs)) after h (ap (λ (x : ChangeKept). x .table) e) in
       (λ i. record { told = e i .told; bytes = b i }) ∙ known-so bs _ (changed k g) t

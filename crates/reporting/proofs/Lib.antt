@@ -29,5 +29,7 @@ pub mod Patches
 pub mod Kept
 -- the operations on the table's bytes
 pub mod Lending
+-- what the Booleans tell
+pub mod Told
 -- examples that compute
 pub mod CarriageWorked

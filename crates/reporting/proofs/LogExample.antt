@@ -1,11 +1,11 @@
--- A log of the table's methods (specs/LogExample.antt), computed: it meets all that demand 3 of the code supposes. Assumes nothing.
+-- A log of the table's methods (specs/Claims/LogExample.antt), computed: it meets all that demand 3 of the code supposes. Assumes nothing.
 use mathlib.Core.Path.{refl}
 use mathlib.Core.Logic.{inr}
 use mathlib.Core.List.{[]}
 use native.Mathlib.Omega.{arith}
 use Rattle.reporting.specs.Due.{movedBy}
 use Rattle.reporting.specs.Demand3.{Promised, asksOf}
-use Rattle.reporting.specs.LogExample.{tableWith, k, g, log, earlier, later, LogStands, LogEvents, LogSupposed}
+use Rattle.reporting.specs.Claims.LogExample.{tableWith, k, g, log, earlier, later, LogStands, LogEvents, LogSupposed}
 use Rattle.reporting.proofs.Compiled.{demand-3-of-code}
 
 pub log-stands : LogStands

@@ -8,7 +8,7 @@ use native.Mathlib.Nat.{zero-add, suc-add, zero-mul, suc-mul, mul-le-mul-right}
 use lib.ListN.{length, drop, set, length-append, length-map, length-set, length-replicate, replicate-append-replicate}
 use lib.Seq.{sets, sets-eq, drop-at}
 use Rattle.types.specs.Number.{zeros}
-use Rattle.frame.specs.Reply.{padded, over}
+use Rattle.frame.specs.Reply.{padded}
 use Rattle.reporting.specs.declared.entry.Entry.{Entry}
 use Rattle.reporting.specs.Carried.{widths, total, laid, rowsLaid, numbersOf, tableSize, tableBytes}
 use Rattle.reporting.proofs.Carriage.{length-laid, length-rows}
@@ -34,11 +34,6 @@ sets-first a b vs e =
     sets-eq vs (a ++ b) 0 (omega (arith, length-append a b))
     ∙ ap (λ (n : ℕ). vs ++ drop n (a ++ b)) z
     ∙ ap (λ (l : List ℕ). vs ++ l) (drop-at a b (length vs) (sym e))
-
--- bytes laid over are a run that fits
-pub over-sets : (d : List ℕ) (at : ℕ) (vs : List ℕ) → at + length vs ≤ length d → over d at vs ≡ sets d at vs
-unfolding over
-over-sets d at vs h = sym (sets-eq vs d at h)
 
 -- ---- a row
 

@@ -13,7 +13,8 @@ use Rattle.reporting.specs.declared.entry.ReportingConfig.{ReportingConf
 use Rattle.reporting.specs.declared.entry.Entry.{Entry}
 use Rattle.reporting.specs.Entries.{fresh, lookupL, Distinct, configureL}
 use Rattle.reporting.specs.Due.{movedBy, ripe}
-use Rattle.reporting.specs.Events.{configured, marked, run, recordW, Call, configRecord, call, calls, history}
+use Rattle.reporting.specs.Wish.{recordW}
+use Rattle.reporting.specs.Claims.Events.{configured, marked, run, Call, configRecord, call, calls, history}
 use Rattle.reporting.specs.Demand3.{Ask, asksOf, Paced, owed, MarkedAsks, AcceptedRecord, AllNo, Since, Moved, Promised, Demand3Standing, Demand3From, Demand3, Demand3OfCalls}
 use Rattle.reporting.proofs.Due.{ripe-early, ripe-late, ripe-between}
 use Rattle.reporting.proofs.Histories.{configure-own, configure-distinct, run-distinct, honest-rest, history-is}

@@ -1,4 +1,4 @@
--- Document 01's sentences about the table, each as a law of the definitions (the claims of specs/Sentences.antt). `limit` is how many
+-- Document 01's sentences about the table, each as a law of the definitions (the claims of specs/Claims/Sentences.antt). `limit` is how many
 -- entries it may have. Assumes nothing.
 use mathlib.Core.Path.{_≡_, refl, sym, ap, _∙_}
 use mathlib.Core.Logic.{_↔_, inl, inr}
@@ -15,15 +15,17 @@ use borrow.Author.Tests.{ltb-true, ltb-false, lt-ltb, le-ltb}
 use Rattle.reporting.specs.declared.entry.Key.{Key}
 use Rattle.reporting.specs.declared.entry.ReportingConfig.{ReportingConfig}
 use Rattle.reporting.specs.declared.entry.Entry.{Entry}
+use Rattle.reporting.specs.declared.table.ReportingTable.{ReportingTable}
 use Rattle.reporting.specs.declared.table.Change.the-variants as ChangeV
 use Rattle.reporting.specs.Entries.{matches, findL, lookupL, Distinct, others, updateL, fresh, replaced, acceptsL, configureL, lastFirst, clearL, markE}
 use Rattle.reporting.specs.Due.{movedBy, ripe, dueO}
-use Rattle.reporting.specs.Table.{holding, ChangeTold, ReportTold, changeTold, zeroConfig, doneT, fullT, configureT, askT}
-use Rattle.reporting.specs.Events.{Event, configured, cleared, asked, marked, after, run, history}
+use Rattle.reporting.specs.Table.{capacity, holding, ChangeTold, ReportTold, changeTold, zeroConfig, doneT, fullT, configureT, askT}
+use Rattle.reporting.specs.Claims.Events.{Event, configured, cleared, asked, marked, after, run, history}
 use Rattle.reporting.specs.Demand3.{Moved}
-use Rattle.reporting.specs.Sentences.{NeverMoreThanLimit, MarkMissing, ClearMissing, ScanPasses, ScanEnds, ConfigureAgain, ConfigureFails, ConfigureFailed, ConfigureTakes, ClearMoves, ClearLeaves, RoomServesAgain, AskMissing, AskOff, AskFirst, OfMarked, AskClockBack, elapsed, AskEarly, AskLate, YesExactly, AskBetween, AskMaximumZero}
+use Rattle.reporting.specs.Claims.Sentences.{NeverMoreThanLimit, AlikeCount, MarkMissing, ClearMissing, ScanPasses, ScanEnds, ConfigureAgain, ConfigureFails, ConfigureFailed, ConfigureTakes, ClearMoves, ClearLeaves, RoomServesAgain, AskMissing, AskOff, AskFirst, OfMarked, AskClockBack, elapsed, AskEarly, AskLate, YesExactly, AskBetween, AskMaximumZero}
 use Rattle.reporting.proofs.Due.{ripe-early, ripe-late, ripe-between, due-off, due-marked, due-first}
 use Rattle.reporting.proofs.Places.{lookup-none, update-at, update-none, clear-none, clear-place}
+use Rattle.reporting.proofs.Slots.{live-length}
 use Rattle.reporting.proofs.Others.{key-is, key-not, lookup-pass, missing-head, missing-tail, hole-lookup, clear-other}
 use Rattle.reporting.proofs.Histories.{configure-other, configure-own, history-is}
 use Rattle.reporting.proofs.Promise.{moved-iff}
@@ -288,6 +290,14 @@ after-within limit (marked k now v) l h =
 pub run-within : (limit : ℕ) (es : List Event) (l : List Entry) → length l ≤ limit → length (run limit es l) ≤ limit
 run-within limit [] l h = h
 run-within limit (e ∷ es) l h = run-within limit es (after limit e l) (after-within limit e l h)
+
+pub alike-count : AlikeCount
+alike-count t u m n e = go (ltb capacity (t .count)) refl (ltb capacity (u .count)) refl
+  where
+    go : (a : Bool) → ltb capacity (t .count) ≡ a → (b : Bool) → ltb capacity (u .count) ≡ b → t .count ≡ u .count
+    go true h b k = ap (λ (x : ReportingTable). x .count) (e .whole (inl (ltb-true capacity (t .count) h)))
+    go false h true k = ap (λ (x : ReportingTable). x .count) (e .whole (inr (ltb-true capacity (u .count) k)))
+    go false h false k = sym (live-length t m (ltb-false capacity (t .count) h)) ∙ ap length (e .entries) ∙ live-length u n (ltb-false capacity (u .count) k)
 
 pub never-more-than-limit : NeverMoreThanLimit
 never-more-than-limit limit cs l h =

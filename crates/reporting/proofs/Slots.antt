@@ -6,9 +6,9 @@ use mathlib.Core.List.{List, [], _∷_, _++_, map}
 use Prim.Native.Nat.{ℕ, _+_, _≤_, _<_}
 use native.Mathlib.Omega.{arith}
 use native.Mathlib.Numerals.{add-one}
-use lib.ListN.{length, getD, set, take, drop, length-set, length-take, length-append, length-map, drop-of-length-le}
+use lib.ListN.{length, getD, set, take, drop, length-take, length-map, drop-of-length-le}
 use lib.Dec.{ltb}
-use lib.Seq.{getD-take, take-set-lt, take-take, take-suc-set, length-take-le}
+use lib.Seq.{getD-take, take-set-lt, take-take, take-suc-set}
 use lib.IntN.{ℤ}
 use borrow.Author.Tests.{lt-ltb, le-ltb}
 use Rattle.frame.specs.declared.answer.Refusal.the-variants.{NotATable}
@@ -22,57 +22,45 @@ use Rattle.reporting.specs.declared.table.Setting.the-variants as Settin
 use Rattle.reporting.specs.declared.table.Length.the-variants as LengthV
 use Rattle.reporting.specs.Entries.{matches, fresh, replaced, findL, lookupL, updateL, clearL, markE, markL}
 use Rattle.reporting.specs.Due.{dueE, dueO, dueL}
-use Rattle.reporting.specs.Table.{room, sound, live, tableOf, holding, changeTold, reportTold, settingTold, lengthTold, ReportTold, outcome, doneT, configureT, clearT, markT, askT, settingO, configurationT, lengthT}
+use Rattle.reporting.specs.Table.{capacity, live, tableOf, holding, changeTold, reportTold, settingTold, lengthTold, ReportTold, handedBack, doneT, configureT, clearT, markT, askT, settingO, configurationT, lengthT}
 use Rattle.reporting.proofs.Places.{find-le, find-here, find-next, lookup-at, lookup-none, update-at, update-none, clear-none, clear-place}
 
 -- what owning an array of structs tells of its list, where `search needs` stops at arrays of numbers
 pub length-mapped : {X Y : Type 0} (f : X → Y) (l : List X) (n : ℕ) → length (map f l) ≡ n → length l ≡ n
 length-mapped f l n p = sym (length-map l f) ∙ p
 
--- these slots and this count hold these entries
-pub record Is (t : ReportingTable) (l : List Entry) : Type 0 where
-  pub count : t .count ≡ length l
-  pub entries : live t ≡ l
+pub is-table : (t : ReportingTable) → t .count ≤ capacity → tableOf t ≡ holding (live t)
+is-table t h = rw (le-ltb capacity (t .count) h)
 
-pub is-table : (t : ReportingTable) (l : List Entry) → Is t l → t .count ≤ room → tableOf t ≡ holding l
-is-table t l e h = rw (le-ltb room (t .count) h) (ap (λ n. sound n (live t)) (e .count) ∙ ap (sound (length l)) (e .entries))
-
-done-is : (u : ReportingTable) (l : List Entry) → Is u l → u .count ≤ room → outcome (record { answer = ChangeV.Done; table = u }) ≡ doneT l
-done-is u l e h = ap (λ x. record { told = changeTold ChangeV.Done; table = x }) (is-table u l e h)
-
-pub is-sound : (t : ReportingTable) → t .count ≤ room → tableOf t ≡ sound (t .count) (live t)
-is-sound t h = rw (le-ltb room (t .count) h)
+done-is : (u : ReportingTable) (l : List Entry) → live u ≡ l → u .count ≤ capacity → handedBack (record { answer = ChangeV.Done; table = u }) ≡ doneT l
+done-is u l e h = ap (λ x. record { told = changeTold ChangeV.Done; table = x }) (is-table u h ∙ ap holding e)
 
 -- what is no table is refused, and handed back
-module _ (t : ReportingTable) (h : room < t .count) where
-  pub configure-bad : (k : Key) (g : ReportingConfig) → outcome (record { answer = ChangeV.Refused NotATable; table = t }) ≡ configureT room k g (tableOf t)
-  configure-bad k g = rw (lt-ltb room (t .count) h)
+module _ (t : ReportingTable) (h : capacity < t .count) where
+  pub configure-bad : (k : Key) (g : ReportingConfig) → handedBack (record { answer = ChangeV.Refused NotATable; table = t }) ≡ configureT capacity k g (tableOf t)
+  configure-bad k g = rw (lt-ltb capacity (t .count) h)
 
-  pub clear-bad : (k : Key) → outcome (record { answer = ChangeV.Refused NotATable; table = t }) ≡ clearT k (tableOf t)
-  clear-bad k = rw (lt-ltb room (t .count) h)
+  pub clear-bad : (k : Key) → handedBack (record { answer = ChangeV.Refused NotATable; table = t }) ≡ clearT k (tableOf t)
+  clear-bad k = rw (lt-ltb capacity (t .count) h)
 
-  pub mark-bad : (k : Key) (now : ℕ) (v : ℤ) → outcome (record { answer = ChangeV.Refused NotATable; table = t }) ≡ markT k now v (tableOf t)
-  mark-bad k now v = rw (lt-ltb room (t .count) h)
+  pub mark-bad : (k : Key) (now : ℕ) (v : ℤ) → handedBack (record { answer = ChangeV.Refused NotATable; table = t }) ≡ markT k now v (tableOf t)
+  mark-bad k now v = rw (lt-ltb capacity (t .count) h)
 
   pub ask-bad : (k : Key) (now : ℕ) (v : ℤ) → reportTold (ReportV.Refused NotATable) ≡ askT k now v (tableOf t)
-  ask-bad k now v = rw (lt-ltb room (t .count) h)
+  ask-bad k now v = rw (lt-ltb capacity (t .count) h)
 
   pub setting-bad : (k : Key) → settingTold (SettingV.Refused NotATable) ≡ configurationT k (tableOf t)
-  setting-bad k = rw (lt-ltb room (t .count) h)
+  setting-bad k = rw (lt-ltb capacity (t .count) h)
 
   pub length-bad : lengthTold (LengthV.Refused NotATable) ≡ lengthT (tableOf t)
-  length-bad = rw (lt-ltb room (t .count) h)
+  length-bad = rw (lt-ltb capacity (t .count) h)
 
-module _ (t : ReportingTable) (slots : length (t .entries) ≡ room) (small : t .count ≤ room) where
+module _ (t : ReportingTable) (slots : length (t .entries) ≡ capacity) (small : t .count ≤ capacity) where
   pub live-length : length (live t) ≡ t .count
   live-length = length-take (t .count) (t .entries) ∙ omega arith
 
-  -- nothing is written
-  pub kept-is : Is t (live t)
-  kept-is = record { count = sym live-length; entries = refl }
-
   pub length-is : lengthTold (LengthV.Entries (t .count)) ≡ lengthT (tableOf t)
-  length-is = ap (λ n. lengthTold (LengthV.Entries n)) (sym live-length) ∙ sym (ap lengthT (is-sound t small))
+  length-is = ap (λ n. lengthTold (LengthV.Entries n)) (sym live-length) ∙ sym (ap lengthT (is-table t small))
 
   -- The scan for the key k has come to i: it is past the last entry, it hits, or it goes on.
   pub scan-end : (k : Key) (i : ℕ) → i ≤ t .count → t .count ≤ i → findL k (live t) ≡ i + findL k (drop i (live t)) → t .count ≡ findL k (live t)
@@ -94,13 +82,13 @@ module _ (t : ReportingTable) (slots : length (t .entries) ≡ room) (small : t 
 
 -- in a table, the scan for the key k came to `at`
 pub record Found (t : ReportingTable) (k : Key) (at : ℕ) : Type 0 where
-  pub slots : length (t .entries) ≡ room
-  pub small : t .count ≤ room
+  pub slots : length (t .entries) ≡ capacity
+  pub small : t .count ≤ capacity
   pub place : at ≡ findL k (live t)
 
 -- What each method then writes is what the list operation gives.
 module _ {t : ReportingTable} {k : Key} {at : ℕ} (found : Found t k at) where
-  small : t .count ≤ room
+  small : t .count ≤ capacity
   small = found .small
 
   place : at ≡ findL k (live t)
@@ -115,16 +103,16 @@ module _ {t : ReportingTable} {k : Key} {at : ℕ} (found : Found t k at) where
   present : at < t .count → findL k (live t) < length (live t)
   present h = omega (arith, many)
 
-  here : tableOf t ≡ sound (t .count) (live t)
-  here = is-sound t small
+  here : tableOf t ≡ holding (live t)
+  here = is-table t small
 
-  pub clear-absent : t .count ≤ at → outcome (record { answer = ChangeV.Done; table = t }) ≡ clearT k (tableOf t)
+  pub clear-absent : t .count ≤ at → handedBack (record { answer = ChangeV.Done; table = t }) ≡ clearT k (tableOf t)
   clear-absent h =
-      done-is t (live t) (kept-is t (found .slots) small) small ∙ ap doneT (sym (clear-none k (live t) (absent h))) ∙ sym (ap (clearT k) here)
+      done-is t (live t) refl small ∙ ap doneT (sym (clear-none k (live t) (absent h))) ∙ sym (ap (clearT k) here)
 
-  pub mark-absent : (now : ℕ) (v : ℤ) → t .count ≤ at → outcome (record { answer = ChangeV.Done; table = t }) ≡ markT k now v (tableOf t)
+  pub mark-absent : (now : ℕ) (v : ℤ) → t .count ≤ at → handedBack (record { answer = ChangeV.Done; table = t }) ≡ markT k now v (tableOf t)
   mark-absent now v h =
-      done-is t (live t) (kept-is t (found .slots) small) small ∙ ap doneT (sym (update-none k (markE now v) (live t) (absent h))) ∙ sym (ap (markT k now v) here)
+      done-is t (live t) refl small ∙ ap doneT (sym (update-none k (markE now v) (live t) (absent h))) ∙ sym (ap (markT k now v) here)
 
   -- the entry that the scan found is read, and written
   read-is : (d : Entry) → at < t .count → getD (t .entries) at d ≡ getD (live t) (findL k (live t)) d
@@ -136,26 +124,18 @@ module _ {t : ReportingTable} {k : Key} {at : ℕ} (found : Found t k at) where
   written : (v : Entry) → at < t .count → take (t .count) (set (t .entries) at v) ≡ set (live t) (findL k (live t)) v
   written v h = take-set-lt (t .count) (t .entries) at v h ∙ ap (λ i. set (live t) i v) place
 
-  update-is : (f : Entry → Entry) (d v : Entry) → at < t .count → v ≡ f (getD (t .entries) at d)
-      → Is (record { entries = set (t .entries) at v; count = t .count }) (updateL k f (live t))
-  update-is f d v h e =
-      record {
-        count = sym many ∙ sym (ap length (update-at k f (live t) d) ∙ simp length-set);
-        entries = written v h ∙ ap (set (live t) (findL k (live t))) (e ∙ ap f (read-is d h)) ∙ sym (update-at k f (live t) d);
-      }
+  update-is : (f : Entry → Entry) (d v : Entry) → at < t .count → v ≡ f (getD (t .entries) at d) → take (t .count) (set (t .entries) at v) ≡ updateL k f (live t)
+  update-is f d v h e = written v h ∙ ap (set (live t) (findL k (live t))) (e ∙ ap f (read-is d h)) ∙ sym (update-at k f (live t) d)
 
   -- the last entry goes into the hole
   pub clear-is : (last : ℕ) (d : Entry) → at < t .count → last + 1 ≡ t .count
-      → outcome (record { answer = ChangeV.Done; table = record { entries = set (t .entries) at (getD (t .entries) last d); count = last } }) ≡ clearT k (tableOf t)
+      → handedBack (record { answer = ChangeV.Done; table = record { entries = set (t .entries) at (getD (t .entries) last d); count = last } }) ≡ clearT k (tableOf t)
   clear-is last d h e =
-      done-is (record { entries = set (t .entries) at v; count = last }) (clearL k (live t)) (record { count = sym (ap length (sym eq) ∙ short); entries = eq }) (omega arith)
+      done-is (record { entries = set (t .entries) at v; count = last }) (clearL k (live t)) eq (omega arith)
       ∙ sym (ap (clearT k) here)
     where
       v : Entry
       v = getD (t .entries) last d
-
-      short : length (take last (set (t .entries) at v)) ≡ last
-      short = length-take-le last (set (t .entries) at v) (simp length-set (omega arith))
 
       same-last : getD (live t) last d ≡ v
       same-last = getD-take (t .count) (t .entries) last d (omega arith)
@@ -166,12 +146,8 @@ module _ {t : ReportingTable} {k : Key} {at : ℕ} (found : Found t k at) where
           ∙ sym (clear-place k (live t) last d (present h) (e ∙ sym many) ∙ ap (λ x. take last (set (live t) (findL k (live t)) x)) same-last)
 
   -- one entry more
-  append-is : (v : Entry) → at ≡ t .count → t .count < room → Is (record { entries = set (t .entries) at v; count = t .count + 1 }) (live t ++ (v ∷ []))
-  append-is v h r =
-      record {
-        count = sym (simp (length-append, many));
-        entries = rw (h, add-one) (take-suc-set (t .entries) (t .count) v (omega arith));
-      }
+  append-is : (v : Entry) → at ≡ t .count → t .count < capacity → take (t .count + 1) (set (t .entries) at v) ≡ live t ++ (v ∷ [])
+  append-is v h r = let n = found .slots in rw (h, add-one) (take-suc-set (t .entries) (t .count) v (omega arith))
 
   -- the tests of configureL and acceptsL
   test-found : at < t .count → ltb (findL k (live t)) (length (live t)) ≡ true
@@ -180,36 +156,36 @@ module _ {t : ReportingTable} {k : Key} {at : ℕ} (found : Found t k at) where
   test-not-found : t .count ≤ at → ltb (findL k (live t)) (length (live t)) ≡ false
   test-not-found h = le-ltb _ _ (absent h)
 
-  test-room : t .count < room → ltb (length (live t)) room ≡ true
-  test-room h = lt-ltb (length (live t)) room (omega (arith, many))
+  test-room : t .count < capacity → ltb (length (live t)) capacity ≡ true
+  test-room h = lt-ltb (length (live t)) capacity (omega (arith, many))
 
-  test-full : room ≤ t .count → ltb (length (live t)) room ≡ false
-  test-full h = le-ltb (length (live t)) room (omega (arith, many))
+  test-full : capacity ≤ t .count → ltb (length (live t)) capacity ≡ false
+  test-full h = le-ltb (length (live t)) capacity (omega (arith, many))
 
-  pub configure-full : (g : ReportingConfig) → room ≤ at → outcome (record { answer = ChangeV.Full; table = t }) ≡ configureT room k g (tableOf t)
+  pub configure-full : (g : ReportingConfig) → capacity ≤ at → handedBack (record { answer = ChangeV.Full; table = t }) ≡ configureT capacity k g (tableOf t)
   configure-full g h =
       let le = find-le k (live t) in
-      let full : room ≤ t .count = omega (arith, many) in
-      ap (λ x. record { told = changeTold ChangeV.Full; table = x }) (is-table t (live t) (kept-is t (found .slots) small) small)
-      ∙ sym (ap (configureT room k g) here ∙ simp (test-not-found (omega arith), test-full full))
+      let full : capacity ≤ t .count = omega (arith, many) in
+      ap (λ x. record { told = changeTold ChangeV.Full; table = x }) here
+      ∙ sym (ap (configureT capacity k g) here ∙ simp (test-not-found (omega arith), test-full full))
 
   pub configure-old : (g : ReportingConfig) (d v : Entry) → v ≡ fresh k g → at < t .count
-      → outcome (record { answer = ChangeV.Done; table = record { entries = set (t .entries) at v; count = t .count } }) ≡ configureT room k g (tableOf t)
+      → handedBack (record { answer = ChangeV.Done; table = record { entries = set (t .entries) at v; count = t .count } }) ≡ configureT capacity k g (tableOf t)
   configure-old g d v e h =
       done-is (record { entries = set (t .entries) at v; count = t .count }) (updateL k (replaced k g) (live t)) (update-is (replaced k g) d v h e) small
-      ∙ sym (ap (configureT room k g) here ∙ simp (test-found h))
+      ∙ sym (ap (configureT capacity k g) here ∙ simp (test-found h))
 
-  pub configure-new : (g : ReportingConfig) (v : Entry) → v ≡ fresh k g → t .count ≤ at → at < room
-      → outcome (record { answer = ChangeV.Done; table = record { entries = set (t .entries) at v; count = t .count + 1 } }) ≡ configureT room k g (tableOf t)
+  pub configure-new : (g : ReportingConfig) (v : Entry) → v ≡ fresh k g → t .count ≤ at → at < capacity
+      → handedBack (record { answer = ChangeV.Done; table = record { entries = set (t .entries) at v; count = t .count + 1 } }) ≡ configureT capacity k g (tableOf t)
   configure-new g v e h r =
       let le = find-le k (live t) in
       let end : at ≡ t .count = omega (arith, many) in
       done-is (record { entries = set (t .entries) at v; count = t .count + 1 }) (live t ++ (v ∷ [])) (append-is v end (omega arith)) (omega arith)
-      ∙ sym (ap (configureT room k g) here ∙ simp (test-not-found h, test-room (omega arith), ← e))
+      ∙ sym (ap (configureT capacity k g) here ∙ simp (test-not-found h, test-room (omega arith), ← e))
 
   -- A report: the entry's mark, and whether one is due. A signed argument reaches a callee by its bits, so v′ is v read back.
   pub mark-is : (d e : Entry) (now : ℕ) (v v′ : ℤ) → v′ ≡ v → e ≡ markE now v′ (getD (t .entries) at d) → at < t .count
-      → outcome (record { answer = ChangeV.Done; table = record { entries = set (t .entries) at e; count = t .count } }) ≡ markT k now v (tableOf t)
+      → handedBack (record { answer = ChangeV.Done; table = record { entries = set (t .entries) at e; count = t .count } }) ≡ markT k now v (tableOf t)
   mark-is d e now v v′ q p h =
       done-is (record { entries = set (t .entries) at e; count = t .count }) (markL k now v (live t))
       (update-is (markE now v) d e h (p ∙ ap (λ z. markE now z (getD (t .entries) at d)) q)) small

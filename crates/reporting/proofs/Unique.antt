@@ -1,12 +1,13 @@
 -- No second answer fits a contract: what an answer tells says which answer it is, and what the contracts see of a table leaves
 -- open only the slots past its count. Assumes nothing.
 use mathlib.Core.Path.{_≡_, refl, sym, ap, _∙_, subst}
+use mathlib.Core.Logic.{⊎-elim}
 use mathlib.Core.Bool.{Bool, true, false, cond, true≢false, false≢true}
-use mathlib.Core.List.{List, []}
-use Prim.Native.Nat.{ℕ, _≤_}
+use mathlib.Core.List.{List}
+use Prim.Native.Nat.{ℕ}
 use native.Mathlib.Omega.{arith}
 use lib.Dec.{ltb}
-use borrow.Author.Tests.{lt-ltb}
+use borrow.Author.Tests.{ltb-false}
 use Rattle.types.specs.Number.{AllBytes}
 use Rattle.frame.proofs.Codes.{refusal-same, refusal-nonzero}
 use Rattle.reporting.specs.declared.entry.Entry.{Entry}
@@ -20,15 +21,13 @@ use Rattle.reporting.specs.declared.table.Setting.{Setting}
 use Rattle.reporting.specs.declared.table.Setting.the-variants as SettingV
 use Rattle.reporting.specs.declared.table.Length.{Length}
 use Rattle.reporting.specs.declared.table.Length.the-variants as LengthV
-use Rattle.reporting.specs.Table.{room, Table, sound, bad, live, tableOf, Alike, ChangeTold, changeTold, ReportTold, reportTold, SettingTold, settingTold, LengthTold, lengthTold, Outcome, outcome}
-use Rattle.reporting.specs.Table.{holding, configureT, clearT, markT, configurationT, askT, lengthT}
+use Rattle.reporting.specs.Table.{capacity, Table, holding, bad, live, tableOf, entriesOf, Alike, ChangeTold, changeTold, ReportTold, reportTold, SettingTold, settingTold, LengthTold, lengthTold, HandedBack, handedBack, configureT, clearT, markT, configurationT, askT, lengthT}
 use Rattle.reporting.specs.Entries.{configureL, clearL}
-use Rattle.reporting.specs.Carried.{tableIn, tableBytes, isTable, seen, Reading, readT, Written, written, writeT}
-use Rattle.reporting.specs.Lent.{askLent, configurationLent, markLent, clearLent, ChangeLeft, ChangeKept, configureIn}
-use Rattle.reporting.specs.Unique.{IsTableOnce, ReadTableOnce, WriteTableOnce, DistanceOnce, IsOnce, MovedByOnce, RipeOnce, FreshOnce, IsOfOnce, EntryMarkOnce}
-use Rattle.reporting.specs.Unique.{ConfigurationInOnce, ConfigureInOnce, ClearInOnce}
-use Rattle.reporting.specs.Unique.{DueOnce, AskLentOnce, ConfigurationLentOnce, MarkLentOnce, ClearLentOnce, ConfigureLentOnce, NewOnce, ConfigureOnce, ClearOnce, ReportingTableMarkOnce, ConfigurationOnce, AskOnce, LenOnce}
-use Rattle.reporting.proofs.CarriageTable.{the-conditions, table-count, bytes-back}
+use Rattle.reporting.specs.Carried.{tableIn, tableBytes, isTable, tableRead, Reading, readT, Written, written, writeT}
+use Rattle.reporting.specs.Lent.{askLent, configurationLent, markLent, clearLent, ChangeLeft}
+use Rattle.reporting.specs.Inside.{ChangeKept, configureIn}
+use Rattle.reporting.specs.Claims.Unique.{IsTableOnce, ReadTableOnce, WriteTableOnce, DistanceOnce, IsOnce, MovedByOnce, RipeOnce, FreshOnce, IsOfOnce, EntryMarkOnce, ConfigurationInOnce, ConfigureInOnce, ClearInOnce, DueOnce, AskLentOnce, ConfigurationLentOnce, MarkLentOnce, ClearLentOnce, ConfigureLentOnce, NewOnce, ConfigureOnce, ClearOnce, ReportingTableMarkOnce, ConfigurationOnce, AskOnce, LenOnce}
+use Rattle.reporting.proofs.CarriageTable.{bytes-back}
 use Rattle.reporting.proofs.Lending.{seen-bytes}
 
 -- ---- answers
@@ -86,45 +85,38 @@ length-same a b p = go a b (ap (λ (x : LengthTold). x .number) p) (ap (λ (x : 
 
 -- ---- tables
 
-IsSound : Table → Type 0
-IsSound (sound n l) = Unit
-IsSound (bad t) = ⊥
+IsTable : Table → Type 0
+IsTable (holding l) = Unit
+IsTable (bad t) = ⊥
 
-sound≢bad : (n : ℕ) (l : List Entry) (t : ReportingTable) → sound n l ≡ bad t → ⊥
-unfolding IsSound
-sound≢bad n l t p = subst IsSound p tt
-
-count-of : ReportingTable → Table → ℕ
-count-of t (sound n l) = n
-count-of t (bad u) = t .count
-
-entries-of : ReportingTable → Table → List Entry
-entries-of t (sound n l) = l
-entries-of t (bad u) = live t
+holding≢bad : (l : List Entry) (t : ReportingTable) → holding l ≡ bad t → ⊥
+unfolding IsTable
+holding≢bad l t p = subst IsTable p tt
 
 whole-of : ReportingTable → Table → ReportingTable
-whole-of t (sound n l) = t
+whole-of t (holding l) = t
 whole-of t (bad u) = u
 
 pub alike : (t u : ReportingTable) → tableOf t ≡ tableOf u → Alike t u
-unfolding count-of entries-of whole-of
-alike t u e = go (ltb room (t .count)) refl (ltb room (u .count)) e
+unfolding whole-of
+alike t u e = go (ltb capacity (t .count)) refl (ltb capacity (u .count)) refl e
   where
-    go : (a : Bool) → ltb room (t .count) ≡ a → (b : Bool) → cond a (bad t) (sound (t .count) (live t)) ≡ cond b (bad u) (sound (u .count) (live u)) → Alike t u
-    go true h true p =
-        let q : t ≡ u = ap (whole-of t) p in
-        record { count = ap (λ (x : ReportingTable). x .count) q; entries = ap live q; whole = λ _. q }
-    go true h false p = absurd (sound≢bad (u .count) (live u) t (sym p))
-    go false h true p = absurd (sound≢bad (t .count) (live t) u p)
-    go false h false p =
-        record { count = ap (count-of t) p; entries = ap (entries-of t) p; whole = λ z. absurd (true≢false (sym (lt-ltb room (t .count) z) ∙ h)) }
+    go : (a : Bool) → ltb capacity (t .count) ≡ a → (b : Bool) → ltb capacity (u .count) ≡ b → cond a (bad t) (holding (live t)) ≡ cond b (bad u) (holding (live u)) → Alike t u
+    go true h true k p = let q : t ≡ u = ap (whole-of t) p in record { entries = ap live q; whole = λ _. q }
+    go true h false k p = absurd (holding≢bad (live u) t (sym p))
+    go false h true k p = absurd (holding≢bad (live t) u p)
+    go false h false k p =
+        record {
+          entries = ap entriesOf p;
+          whole = ⊎-elim (λ z. absurd (omega (arith, ltb-false capacity (t .count) h))) (λ z. absurd (omega (arith, ltb-false capacity (u .count) k)));
+        }
 
 -- two results that meet one contract of configure, clear or mark
-pub one-result : (o : Outcome) (r s : Changed) → outcome r ≡ o → outcome s ≡ o → (r .answer ≡ s .answer) × Alike (r .table) (s .table)
+pub one-result : (o : HandedBack) (r s : Changed) → handedBack r ≡ o → handedBack s ≡ o → (r .answer ≡ s .answer) × Alike (r .table) (s .table)
 one-result o r s p q =
-    let e : outcome r ≡ outcome s = p ∙ sym q in (
-      change-same (r .answer) (s .answer) (ap (λ (x : Outcome). x .told) e),
-      alike (r .table) (s .table) (ap (λ (x : Outcome). x .table) e),
+    let e : handedBack r ≡ handedBack s = p ∙ sym q in (
+      change-same (r .answer) (s .answer) (ap (λ (x : HandedBack). x .told) e),
+      alike (r .table) (s .table) (ap (λ (x : HandedBack). x .table) e),
     )
 
 -- two answers that meet one contract of ask, configuration or len
@@ -136,17 +128,6 @@ one-setting o r s p q = setting-same r s (p ∙ sym q)
 
 pub one-length : (o : LengthTold) (r s : Length) → lengthTold r ≡ o → lengthTold s ≡ o → r ≡ s
 one-length o r s p q = length-same r s (p ∙ sym q)
-
--- ---- tables read from bytes
-
--- whatever the bytes are, no more entries than the limit are read from them
-pub read-within : (limit : ℕ) (bs : List ℕ) → readT limit bs .count ≤ limit
-unfolding readT
-read-within limit bs = go (isTable limit bs) refl
-  where
-    go : (b : Bool) → isTable limit bs ≡ b → cond b (seen true (tableIn bs)) (seen false []) .count ≤ limit
-    go true h = omega (arith, table-count bs, the-conditions limit bs h .count)
-    go false h = omega arith
 
 -- two answers and exit buffers that meet one contract of what is written
 one-written : (o : Written) (r q : Bool) (x y : List ℕ) → written r x ≡ o → written q y ≡ o → (r ≡ q) × (x ≡ y)
@@ -160,14 +141,7 @@ is-table-once bytes r q e f = e ∙ sym f
 pub read-table-once : ReadTableOnce
 read-table-once bytes r q e f =
     let p = e ∙ sym f in
-    let within = subst (λ (x : Reading). x .count ≤ 16) (sym e) (read-within 16 bytes) in (
-      ap (λ (x : Reading). x .known) p,
-      record {
-        count = ap (λ (x : Reading). x .count) p;
-        entries = ap (λ (x : Reading). x .entries) p;
-        whole = λ z. absurd (omega (arith, within, z));
-      },
-    )
+    (ap (λ (x : Reading). x .known) p, alike (r .table) (q .table) (ap (λ (x : Reading). x .table) p))
 
 pub write-table-once : WriteTableOnce
 write-table-once bytes table r q x y e f = one-written (writeT 16 table bytes) r q x y e f
@@ -223,23 +197,18 @@ pub configuration-in-once : ConfigurationInOnce
 configuration-in-once bytes key r q e f = one-setting (configurationT key (holding (tableIn bytes))) r q e f
 
 -- two buffers in which a reader sees the same entries
-one-seen : (l : List Entry) (x y : List ℕ) → AllBytes x → AllBytes y → readT room x ≡ seen true l → readT room y ≡ seen true l → x ≡ y
+one-seen : (l : List Entry) (x y : List ℕ) → AllBytes x → AllBytes y → readT capacity x ≡ tableRead true l → readT capacity y ≡ tableRead true l → x ≡ y
 one-seen l x y a b e f = seen-bytes l x a e ∙ sym (seen-bytes l y b f)
 
-entriesIn : Table → List Entry
-entriesIn (sound n l) = l
-entriesIn (bad t) = []
-
 -- bytes that are one table are the same
-pub one-carried : (x y : List ℕ) → AllBytes x → AllBytes y → isTable room x ≡ true → isTable room y ≡ true → holding (tableIn x) ≡ holding (tableIn y) → x ≡ y
-unfolding entriesIn
-one-carried x y a b t u e = sym (bytes-back room x a t) ∙ ap (λ (l : Table). tableBytes room (entriesIn l)) e ∙ bytes-back room y b u
+pub one-carried : (x y : List ℕ) → AllBytes x → AllBytes y → isTable capacity x ≡ true → isTable capacity y ≡ true → holding (tableIn x) ≡ holding (tableIn y) → x ≡ y
+one-carried x y a b t u e = sym (bytes-back capacity x a t) ∙ ap (λ (l : Table). tableBytes capacity (entriesOf l)) e ∙ bytes-back capacity y b u
 
 pub configure-in-once : ConfigureInOnce
 unfolding configureIn
 configure-in-once bytes key config r q x y a b e f = (
   change-same r q (ap (λ (z : ChangeKept). z .told) (e ∙ sym f)),
-  one-seen (configureL room key config (tableIn bytes)) x y a b (ap (λ (z : ChangeKept). z .table) e) (ap (λ (z : ChangeKept). z .table) f),
+  one-seen (configureL capacity key config (tableIn bytes)) x y a b (ap (λ (z : ChangeKept). z .table) e) (ap (λ (z : ChangeKept). z .table) f),
 )
 
 pub clear-in-once : ClearInOnce
@@ -251,7 +220,7 @@ pub new-once : NewOnce
 new-once r q e f = alike r q (e ∙ sym f)
 
 pub configure-once : ConfigureOnce
-configure-once self key config r q e f = one-result (configureT room key config (tableOf self)) r q e f
+configure-once self key config r q e f = one-result (configureT capacity key config (tableOf self)) r q e f
 
 pub clear-once : ClearOnce
 clear-once self key r q e f = one-result (clearT key (tableOf self)) r q e f

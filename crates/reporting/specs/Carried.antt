@@ -1,20 +1,17 @@
--- The reporting table as lent bytes: a count, then slots of numbers, each number in its width, the low byte first; zeros to the
--- end. Over the limit and the widths. Assumes nothing: these are definitions.
-use Prim.Native.Nat.{ℕ, zero, suc, _+_, _*_, _^_, _<_}
-use mathlib.Core.Path.{_≡_}
+-- Definitions. The reporting table as lent bytes: a count, then slots of numbers, each number in its width, the low byte first; zeros to the end.
+-- Over the limit and the widths.
+use Prim.Native.Nat.{ℕ, zero, suc, _+_, _*_, _^_}
 use mathlib.Core.Bool.{Bool, true, false, cond, _&&_, _||_}
 use mathlib.Core.List.{List, [], _∷_, _++_, map}
 use lib.ListN.{length, getD, take, drop}
 use lib.Dec.{leb, eqb}
-use lib.IntN.{pos}
-use lib.Signed.{mag}
 use Rattle.types.specs.Number.{allZero, le, bytesOf, signedOf, residue}
 use Rattle.frame.specs.Reply.{padded}
-use Rattle.frame.specs.Walk.{All}
 use Rattle.reporting.specs.declared.entry.Entry.{Entry}
 use Rattle.reporting.specs.declared.table.ReportingTable.{ReportingTable}
 use Rattle.reporting.specs.declared.carried.ReadTable.{ReadTable}
 use Rattle.reporting.specs.Entries.{fresh}
+use Rattle.reporting.specs.Table.{Table, holding, live, tableOf}
 
 -- ---- numbers in their widths
 
@@ -50,8 +47,8 @@ abbrev pub widths : List ℕ
 widths = 2 ∷ 2 ∷ 2 ∷ 2 ∷ 8 ∷ 1 ∷ 4 ∷ 8 ∷ []
 
 -- what is told of an entry that is marked, and 0 of another
-abbrev pub told : Bool → ℕ → ℕ
-told marked n = cond marked n 0
+abbrev pub ifMarked : Bool → ℕ → ℕ
+ifMarked marked n = cond marked n 0
 
 unfoldable pub numbersOf : Entry → List ℕ
 numbersOf e =
@@ -60,9 +57,9 @@ numbersOf e =
     ∷ e .config .«min_interval»
     ∷ e .config .«max_interval»
     ∷ e .config .«reportable_change»
-    ∷ told (e .marked) 1
-    ∷ told (e .marked) (e .«last_time»)
-    ∷ told (e .marked) (residue (2 ^ 64) (e .«last_value»))
+    ∷ ifMarked (e .marked) 1
+    ∷ ifMarked (e .marked) (e .«last_time»)
+    ∷ ifMarked (e .marked) (residue (2 ^ 64) (e .«last_value»))
     ∷ []
 
 unfoldable pub entryOf : List ℕ → Entry
@@ -75,8 +72,8 @@ entryOf ns = record {
 }
 
 -- a slot's numbers are in their one form: the flag is 0 or 1, and under 0 there is no time and no value
-unfoldable pub inForm : List ℕ → Bool
-inForm ns = leb (getD ns 5 0) 1 && (eqb (getD ns 5 0) 1 || (eqb (getD ns 6 0) 0 && eqb (getD ns 7 0) 0))
+unfoldable pub isSlot : List ℕ → Bool
+isSlot ns = leb (getD ns 5 0) 1 && (eqb (getD ns 5 0) 1 || (eqb (getD ns 6 0) 0 && eqb (getD ns 7 0) 0))
 
 -- ---- the table
 
@@ -98,58 +95,42 @@ unfoldable pub tableIn : List ℕ → List Entry
 tableIn bs = map entryOf (slotsIn bs)
 
 -- what bytes must be to be a table
-abbrev pub sized : ℕ → List ℕ → Bool
-sized limit bs = eqb (length bs) (tableSize limit)
+abbrev pub sizeOk : ℕ → List ℕ → Bool
+sizeOk limit bs = eqb (length bs) (tableSize limit)
 
-abbrev pub counted : ℕ → List ℕ → Bool
-counted limit bs = leb (countIn bs) limit
+abbrev pub countOk : ℕ → List ℕ → Bool
+countOk limit bs = leb (countIn bs) limit
 
-unfoldable pub allInForm : List (List ℕ) → Bool
-allInForm [] = true
-allInForm (ns ∷ rows) = inForm ns && allInForm rows
+unfoldable pub areSlots : List (List ℕ) → Bool
+areSlots [] = true
+areSlots (ns ∷ rows) = isSlot ns && areSlots rows
 
 abbrev pub endsInZeros : List ℕ → Bool
 endsInZeros bs = allZero (drop (1 + countIn bs * total widths) bs)
 
 unfoldable pub isTable : ℕ → List ℕ → Bool
-isTable limit bs = sized limit bs && (counted limit bs && (allInForm (slotsIn bs) && endsInZeros bs))
-
--- ---- an entry that has one form: every field within its width, and without a report no time and no value
-
-pub record Clean (e : Entry) : Type 0 where
-  pub cluster : e .key .cluster .0 < 2 ^ 16
-  pub attribute : e .key .attribute .0 < 2 ^ 16
-  pub minimum : e .config .«min_interval» < 2 ^ 16
-  pub maximum : e .config .«max_interval» < 2 ^ 16
-  pub change : e .config .«reportable_change» < 2 ^ 64
-  pub time : e .«last_time» < 2 ^ 32
-  pub value : mag (e .«last_value») < 2 ^ 63
-  pub quiet : e .marked ≡ false → (e .«last_time» ≡ 0) × (e .«last_value» ≡ pos 0)
+isTable limit bs = sizeOk limit bs && (countOk limit bs && (areSlots (slotsIn bs) && endsInZeros bs))
 
 -- an entry as its bytes tell it: under a flag of 0 they carry no time and no value
 abbrev pub quieted : Entry → Entry
 quieted e = cond (e .marked) e (fresh (e .key) (e .config))
 
-abbrev pub AllClean : List Entry → Type 0
-AllClean l = All Clean l
-
 -- ---- what the code hands back
 
--- whether the bytes are a table, its count, and the entries below the count
+-- whether the bytes are a table, and the table
 pub record Reading : Type 0 where
   pub known : Bool
-  pub count : ℕ
-  pub entries : List Entry
+  pub table : Table
 
 abbrev pub reading : ReadTable → Reading
-reading r = record { known = r .known; count = r .table .count; entries = take (r .table .count) (r .table .entries) }
+reading r = record { known = r .known; table = tableOf (r .table) }
 
-abbrev pub seen : Bool → List Entry → Reading
-seen known l = record { known = known; count = length l; entries = l }
+abbrev pub tableRead : Bool → List Entry → Reading
+tableRead known l = record { known = known; table = holding l }
 
 -- the table that the bytes are; where they are none, the empty one
 unfoldable pub readT : ℕ → List ℕ → Reading
-readT limit bs = cond (isTable limit bs) (seen true (tableIn bs)) (seen false [])
+readT limit bs = cond (isTable limit bs) (tableRead true (tableIn bs)) (tableRead false [])
 
 -- whether the table was written, and the bytes afterwards
 pub record Written : Type 0 where
@@ -162,6 +143,6 @@ written done bytes = record { done = done; bytes = bytes }
 -- a table is written where the bytes have its size and its count is no more than the limit; else nothing changes
 unfoldable pub writeT : ℕ → ReportingTable → List ℕ → Written
 writeT limit t bs =
-    cond (sized limit bs && leb (t .count) limit)
-    (written true (tableBytes limit (take (t .count) (t .entries))))
+    cond (sizeOk limit bs && leb (t .count) limit)
+    (written true (tableBytes limit (live t)))
     (written false bs)

@@ -1,11 +1,9 @@
--- DEMAND 3, clause by clause: "Start from an empty reporting table. An accepted configuration record gives an attribute minimum m
--- and maximum M, M from 1 to 65534; nothing later configures or clears it, but any other calls may come between. Its asks come on
--- a clock that never goes back, at most G seconds apart (G at least 1); each yes is marked with that ask's time and value before
--- the next, and it is marked at no other time. Then the first ask is a yes; every ask M seconds or more after the last yes is a
--- yes; consecutive yeses are at least m and at most M+G-1 seconds apart; from m to M-1 seconds after the last yes, yes comes
--- exactly when the value has since moved by a nonzero amount not under the configured change."
--- All that is supposed is said of the events. The claims stand at the end of this file. Assumes nothing: these are definitions,
--- and claims to be proved.
+-- Claims. DEMAND 3, clause by clause: "Start from an empty reporting table. An accepted configuration record gives an attribute minimum m and maximum
+-- M, M from 1 to 65534; nothing later configures or clears it, but any other calls may come between. Its asks come on a clock that never goes back,
+-- at most G seconds apart (G at least 1); each yes is marked with that ask's time and value before the next, and it is marked at no other time. Then
+-- the first ask is a yes; every ask M seconds or more after the last yes is a yes; consecutive yeses are at least m and at most M+G-1 seconds apart;
+-- from m to M-1 seconds after the last yes, yes comes exactly when the value has since moved by a nonzero amount not under the configured change."
+-- All that is supposed is said of the events. The claims stand at the end of this file.
 use mathlib.Core.Path.{_≡_}
 use mathlib.Core.Logic.{_↔_, _⊎_}
 use mathlib.Core.Bool.{Bool, true, false, cond}
@@ -19,7 +17,8 @@ use Rattle.reporting.specs.declared.entry.ReportingConfig.{ReportingConf
 use Rattle.reporting.specs.declared.entry.Entry.{Entry}
 use Rattle.reporting.specs.Entries.{same, lookupL, Distinct, fresh}
 use Rattle.reporting.specs.Due.{movedBy}
-use Rattle.reporting.specs.Events.{Event, configured, cleared, asked, marked, Honest, sets, wish, Call, calls, history, configRecord, recordStatus}
+use Rattle.reporting.specs.Wish.{toSet, wish, recordStatus}
+use Rattle.reporting.specs.Claims.Events.{Event, configured, cleared, asked, marked, Honest, Call, calls, history, configRecord}
 
 -- ---- a key's asks, read from the events
 
@@ -56,7 +55,7 @@ asksOf k (marked j now v ∷ es) = asksOf k es
 -- neither clears (maximum ffff) nor is wrong (maximum nonzero and below minimum). A direct call takes any interval: of it this is
 -- a supposition.
 pub record AcceptedRecord (g : ReportingConfig) : Type 0 where
-  pub rule : wish g ≡ sets
+  pub rule : wish g ≡ toSet
   pub one : 1 ≤ g .«max_interval»
 
 -- "nothing later configures or clears it"

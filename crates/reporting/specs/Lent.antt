@@ -1,9 +1,10 @@
--- The table's operations on the bytes that carry it: what each says, and the bytes afterwards. Bytes that are no table are refused,
--- and stay as they are. Assumes nothing: these are definitions.
-use mathlib.Core.Bool.{true, false, cond}
+-- Definitions. The table's operations on the bytes that carry it: what each says, and the bytes afterwards. Bytes that are no table are refused, and
+-- stay as they are.
+use mathlib.Core.Bool.{Bool, true, false, cond}
 use mathlib.Core.List.{List, map}
 use Prim.Native.Nat.{ℕ}
 use lib.IntN.{ℤ}
+use Rattle.frame.specs.Answer.{refusalNumber}
 use Rattle.frame.specs.declared.answer.Refusal.the-variants.{NotATable}
 use Rattle.reporting.specs.declared.entry.Key.{Key}
 use Rattle.reporting.specs.declared.entry.ReportingConfig.{ReportingConfig}
@@ -13,12 +14,12 @@ use Rattle.reporting.specs.declared.table.Change.the-variants as ChangeV
 use Rattle.reporting.specs.declared.table.Report.the-variants as ReportV
 use Rattle.reporting.specs.declared.table.Setting.the-variants as SettingV
 use Rattle.reporting.specs.Entries.{acceptsL, configureL, clearL, markL}
-use Rattle.reporting.specs.Table.{room, Table, sound, bad, holding, ChangeTold, changeTold, ReportTold, reportTold, askT, SettingTold, settingTold, configurationT}
-use Rattle.reporting.specs.Carried.{quieted, tableIn, isTable, tableBytes, Reading, seen, readT, Written, written}
+use Rattle.reporting.specs.Table.{capacity, Table, holding, bad, ChangeTold, changeTold, ReportTold, reportTold, askT, SettingTold, settingTold, configurationT}
+use Rattle.reporting.specs.Carried.{quieted, tableIn, isTable, tableBytes, Written, written}
 
 -- of a table's entries what `rest` says; of other bytes the refusal
 unfoldable pub onLent : {R : Type 0} → List ℕ → R → (List Entry → R) → R
-onLent bs refusal rest = cond (isTable room bs) (rest (tableIn bs)) refusal
+onLent bs refusal rest = cond (isTable capacity bs) (rest (tableIn bs)) refusal
 
 unfoldable pub askLent : Key → ℕ → ℤ → List ℕ → ReportTold
 askLent k now v bs = onLent bs (reportTold (ReportV.Refused NotATable)) (λ l. askT k now v (holding l))
@@ -26,12 +27,16 @@ askLent k now v bs = onLent bs (reportTold (ReportV.Refused NotATable)) (λ l. a
 unfoldable pub configurationLent : Key → List ℕ → SettingTold
 configurationLent k bs = onLent bs (settingTold (SettingV.Refused NotATable)) (λ l. configurationT k (holding l))
 
+-- the number that a Boolean tells: whether the bytes were a table
+abbrev pub tableNumber : Bool → ℕ
+tableNumber known = cond known 0 (refusalNumber NotATable)
+
 -- whether the bytes were a table, and the bytes afterwards
 unfoldable pub markLent : Key → ℕ → ℤ → List ℕ → Written
-markLent k now v bs = onLent bs (written false bs) (λ l. written true (tableBytes room (markL k now v l)))
+markLent k now v bs = onLent bs (written false bs) (λ l. written true (tableBytes capacity (markL k now v l)))
 
 unfoldable pub clearLent : Key → List ℕ → Written
-clearLent k bs = onLent bs (written false bs) (λ l. written true (tableBytes room (clearL k l)))
+clearLent k bs = onLent bs (written false bs) (λ l. written true (tableBytes capacity (clearL k l)))
 
 -- what configuring says, and the bytes afterwards
 pub record ChangeLeft : Type 0 where
@@ -44,27 +49,14 @@ leftAs answer bytes = record { told = changeTold answer; bytes = bytes }
 unfoldable pub configureLent : Key → ReportingConfig → List ℕ → ChangeLeft
 configureLent k g bs =
     onLent bs (leftAs (ChangeV.Refused NotATable) bs)
-    (λ l. leftAs (cond (acceptsL room k l) ChangeV.Done ChangeV.Full) (tableBytes room (configureL room k g l)))
-
--- ---- on bytes that are known to be a table: what is said, and the table that the bytes are afterwards
-
-pub record ChangeKept : Type 0 where
-  pub told : ChangeTold
-  pub table : Reading
-
-abbrev pub keptAs : Change → List ℕ → ChangeKept
-keptAs answer bytes = record { told = changeTold answer; table = readT room bytes }
-
-unfoldable pub configureIn : Key → ReportingConfig → List Entry → ChangeKept
-configureIn k g l =
-    record { told = changeTold (cond (acceptsL room k l) ChangeV.Done ChangeV.Full); table = seen true (configureL room k g l) }
+    (λ l. leftAs (cond (acceptsL capacity k l) ChangeV.Done ChangeV.Full) (tableBytes capacity (configureL capacity k g l)))
 
 -- the bytes of a table where it is one; else they stay
 abbrev pub bytesAfter : List ℕ → Table → List ℕ
-bytesAfter bs (sound n l) = tableBytes room l
+bytesAfter bs (holding l) = tableBytes capacity l
 bytesAfter bs (bad t) = bs
 
 -- the table that the bytes of a table are
 abbrev pub quietedT : Table → Table
-quietedT (sound n l) = sound n (map quieted l)
+quietedT (holding l) = holding (map quieted l)
 quietedT (bad t) = bad t

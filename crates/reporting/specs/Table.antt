@@ -1,9 +1,10 @@
--- The table as a value of sixteen slots and a count, what its operations say, and what they leave (document 01, "The reporting
--- table ..", and number 8 of "What a call says back"). Assumes nothing: these are definitions.
+-- Definitions. The table as a value of sixteen slots and a count, what its operations say, and what they leave (document 01, "The reporting table
+-- ..", and number 8 of "What a call says back").
 use mathlib.Core.Path.{_≡_}
+use mathlib.Core.Logic.{_⊎_}
 use mathlib.Core.Bool.{Bool, true, false, cond}
 use mathlib.Core.Option.{Option, none, some}
-use mathlib.Core.List.{List}
+use mathlib.Core.List.{List, []}
 use Prim.Native.Nat.{ℕ, _<_}
 use lib.ListN.{length, take}
 use lib.Dec.{ltb}
@@ -27,14 +28,14 @@ use Rattle.reporting.specs.Entries.{lookupL, acceptsL, configureL, clear
 use Rattle.reporting.specs.Due.{dueL}
 
 -- how many entries a table has room for
-abbrev pub room : ℕ
-room = 16
+abbrev pub capacity : ℕ
+capacity = 16
 
 -- ---- tables
 
--- A table is its count and the entries below the count. With a count above the room it is none, and then every slot counts.
+-- A table is the entries below its count. With a count above the room it is none, and then every slot counts.
 pub data Table : Type 0 where
-  sound : ℕ → List Entry → Table
+  holding : List Entry → Table
   bad : ReportingTable → Table
 
 -- "Slots past the count are no part of it"
@@ -42,17 +43,17 @@ abbrev pub live : ReportingTable → List Entry
 live t = take (t .count) (t .entries)
 
 abbrev pub tableOf : ReportingTable → Table
-tableOf t = cond (ltb room (t .count)) (bad t) (sound (t .count) (live t))
+tableOf t = cond (ltb capacity (t .count)) (bad t) (holding (live t))
 
--- the table of these entries
-abbrev pub holding : List Entry → Table
-holding l = sound (length l) l
+-- the entries of a table
+abbrev pub entriesOf : Table → List Entry
+entriesOf (holding l) = l
+entriesOf (bad t) = []
 
--- Two values are alike as tables: one count and the same entries below it; and where it is no table, the same in every slot.
+-- Two values are alike as tables: the same entries below their counts; and where one is no table, the same in every slot.
 pub record Alike (t u : ReportingTable) : Type 0 where
-  pub count : t .count ≡ u .count
   pub entries : live t ≡ live u
-  pub whole : room < t .count → t ≡ u
+  pub whole : (capacity < t .count) ⊎ (capacity < u .count) → t ≡ u
 
 -- ---- what each answer says: document 01's number, and the values
 
@@ -100,39 +101,39 @@ lengthTold (LengthV.Refused why) = record { number = refusalNumber why; length =
 -- ---- the operations that may change the table
 
 -- all that such an operation hands back
-pub record Outcome : Type 0 where
+pub record HandedBack : Type 0 where
   pub told : ChangeTold
   pub table : Table
 
-abbrev pub outcome : Changed → Outcome
-outcome r = record { told = changeTold (r .answer); table = tableOf (r .table) }
+abbrev pub handedBack : Changed → HandedBack
+handedBack r = record { told = changeTold (r .answer); table = tableOf (r .table) }
 
-abbrev pub doneT : List Entry → Outcome
+abbrev pub doneT : List Entry → HandedBack
 doneT l = record { told = changeTold ChangeV.Done; table = holding l }
 
-abbrev pub fullT : List Entry → Outcome
+abbrev pub fullT : List Entry → HandedBack
 fullT l = record { told = changeTold ChangeV.Full; table = holding l }
 
 -- "table count above 16": refused with number 8, and handed back as it came, every slot and the count
-abbrev pub refusedT : ReportingTable → Outcome
+abbrev pub refusedT : ReportingTable → HandedBack
 refusedT t = record { told = changeTold (ChangeV.Refused NotATable); table = bad t }
 
-abbrev pub configureT : ℕ → Key → ReportingConfig → Table → Outcome
-configureT limit k g (sound n l) = cond (acceptsL limit k l) (doneT (configureL limit k g l)) (fullT l)
+abbrev pub configureT : ℕ → Key → ReportingConfig → Table → HandedBack
+configureT limit k g (holding l) = cond (acceptsL limit k l) (doneT (configureL limit k g l)) (fullT l)
 configureT limit k g (bad t) = refusedT t
 
-abbrev pub clearT : Key → Table → Outcome
-clearT k (sound n l) = doneT (clearL k l)
+abbrev pub clearT : Key → Table → HandedBack
+clearT k (holding l) = doneT (clearL k l)
 clearT k (bad t) = refusedT t
 
-abbrev pub markT : Key → ℕ → ℤ → Table → Outcome
-markT k now v (sound n l) = doneT (markL k now v l)
+abbrev pub markT : Key → ℕ → ℤ → Table → HandedBack
+markT k now v (holding l) = doneT (markL k now v l)
 markT k now v (bad t) = refusedT t
 
 -- ---- the operations that only look
 
 abbrev pub askT : Key → ℕ → ℤ → Table → ReportTold
-askT k now v (sound n l) = record { number = 0; due = dueL k now v l }
+askT k now v (holding l) = record { number = 0; due = dueL k now v l }
 askT k now v (bad t) = reportTold (ReportV.Refused NotATable)
 
 abbrev pub settingO : Option Entry → SettingTold
@@ -140,9 +141,9 @@ settingO none = settingTold SettingV.Nothing
 settingO (some e) = settingTold (SettingV.Given (e .config))
 
 abbrev pub configurationT : Key → Table → SettingTold
-configurationT k (sound n l) = settingO (lookupL k l)
+configurationT k (holding l) = settingO (lookupL k l)
 configurationT k (bad t) = settingTold (SettingV.Refused NotATable)
 
 abbrev pub lengthT : Table → LengthTold
-lengthT (sound n l) = lengthTold (LengthV.Entries (length l))
+lengthT (holding l) = lengthTold (LengthV.Entries (length l))
 lengthT (bad t) = lengthTold (LengthV.Refused NotATable)

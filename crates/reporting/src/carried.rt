@@ -6,8 +6,8 @@ ghost use Prim.Native.Nat.{_+_, _^_, _≤_};
 ghost use lib.ListN.{length, take, drop};
 ghost use lib.Seq.{sets};
 ghost use Rattle.types.specs.Number.{allZero, residue};
-ghost use Rattle.reporting.specs.Carried.{widths, laid, numbersIn, rowsIn, told, numbersOf, entryOf, quieted, Clean, inForm, allInForm};
-ghost use Rattle.reporting.specs.Carried.{isTable, reading, seen, readT, written, writeT};
+ghost use Rattle.reporting.specs.Carried.{widths, laid, numbersIn, rowsIn, ifMarked, numbersOf, entryOf, quieted, isSlot, areSlots, isTable, reading, tableRead, readT, written, writeT};
+ghost use Rattle.reporting.specs.Claims.RoundTrip.{Clean};
 use super::entry::Entry;
 use super::entry::Key;
 use super::entry::ReportingConfig;
@@ -50,7 +50,7 @@ fn bits_u64(x: i64) -> u64
 
 // What is written of an entry's last report: 0 where there was none.
 fn told_if(marked: bool, n: u64) -> u64
-    ensures { λ r. ⌜ r ≡ told marked n ⌝ }
+    ensures { λ r. ⌜ r ≡ ifMarked marked n ⌝ }
 {
     if marked {
         return n;
@@ -71,7 +71,7 @@ fn zero_from(bytes: &[u8], from: usize) -> bool
 // Whether the slot at `at` is in its one form. The window of time and value has a fixed length, so that no loop is left of it.
 fn slot_in_form(bytes: &[u8], at: usize) -> bool
     requires { ⌜ at + 29 ≤ length (now bytes) ⌝ }
-    ensures { λ r. ⌜ r ≡ inForm (numbersIn widths (drop at (now (bytes .entry)))) ⌝ }
+    ensures { λ r. ⌜ r ≡ isSlot (numbersIn widths (drop at (now (bytes .entry)))) ⌝ }
 {
     let flag = bytes[at + 16];
     if 1 < flag {
@@ -86,7 +86,7 @@ fn slot_in_form(bytes: &[u8], at: usize) -> bool
 // Whether the first `count` slots are in their one form.
 fn slots_in_form(bytes: &[u8], count: usize) -> bool
     requires { ⌜ (count ≤ 16) × (465 ≤ length (now bytes)) ⌝ }
-    ensures { λ r. ⌜ r ≡ allInForm (rowsIn widths count (drop 1 (now (bytes .entry)))) ⌝ }
+    ensures { λ r. ⌜ r ≡ areSlots (rowsIn widths count (drop 1 (now (bytes .entry)))) ⌝ }
 {
     let mut i = 0;
     while i < count {
@@ -165,29 +165,22 @@ pub(crate) fn write_slot(bytes: &mut [u8], at: usize, e: Entry)
     put_u64_in(bytes, at + 21, told_if(e.marked, bits_u64(last_value)));
 }
 
-// A table without entries: its count, which is all that the code here asks of it.
-fn empty() -> ReportingTable
-    ensures { λ r. ⌜ r .count ≡ 0 ⌝ }
-{
-    ReportingTable::new()
-}
-
 // What is handed back for bytes that are no table.
 fn unknown() -> ReadTable
-    ensures { λ r. ⌜ reading r ≡ seen false [] ⌝ }
+    ensures { λ r. ⌜ reading r ≡ tableRead false [] ⌝ }
 {
     ReadTable {
         known: false,
-        table: empty(),
+        table: ReportingTable::new(),
     }
 }
 
 // The table of the first `count` slots.
 fn read_slots(bytes: &[u8], count: usize) -> ReadTable
     requires { ⌜ (count ≤ 16) × (465 ≤ length (now bytes)) ⌝ }
-    ensures { λ r. ⌜ reading r ≡ seen true (map entryOf (rowsIn widths count (drop 1 (now (bytes .entry))))) ⌝ }
+    ensures { λ r. ⌜ reading r ≡ tableRead true (map entryOf (rowsIn widths count (drop 1 (now (bytes .entry))))) ⌝ }
 {
-    let mut table = empty();
+    let mut table = ReportingTable::new();
     let mut i = 0;
     while i < count {
         table.entries[i] = read_slot(bytes, 1 + SLOT * i);
@@ -212,7 +205,7 @@ pub fn read_table(bytes: &[u8]) -> ReadTable
 // that table; but an entry that was never marked carries no time and no value there.
 pub fn write_table(bytes: &mut [u8], table: ReportingTable) -> bool
     ensures { λ r. ⌜ written r (now (bytes .exit)) ≡ writeT 16 table (now (bytes .entry)) ⌝ }
-    ensures { λ r. ⌜ (r ≡ true → readT 16 (now (bytes .exit)) ≡ seen true (map quieted (take (table .count) (table .entries)))) ⌝ }
+    ensures { λ r. ⌜ (r ≡ true → readT 16 (now (bytes .exit)) ≡ tableRead true (map quieted (take (table .count) (table .entries)))) ⌝ }
 {
     if bytes.len() != TABLE_BYTES {
         return false;

@@ -5,12 +5,13 @@ ghost use mathlib.Core.Path.{_≡_};
 ghost use mathlib.Core.Bool.{true};
 ghost use Prim.Native.Nat.{_+_, _≤_};
 ghost use lib.ListN.{length, drop};
+ghost use lib.Seq.{sets};
 ghost use Rattle.types.specs.Number.{zeros};
-ghost use Rattle.frame.specs.Reply.{over};
 ghost use Rattle.reporting.specs.Entries.{matches, findL, clearL};
-ghost use Rattle.reporting.specs.Table.{room, holding, reportTold, settingTold, configurationT};
-ghost use Rattle.reporting.specs.Carried.{widths, numbersIn, entryOf, tableIn, isTable, seen, readT, written};
-ghost use Rattle.reporting.specs.Lent.{askLent, configurationLent, markLent, leftAs, configureLent, clearLent, keptAs, configureIn};
+ghost use Rattle.reporting.specs.Table.{capacity, holding, reportTold, settingTold, configurationT};
+ghost use Rattle.reporting.specs.Carried.{widths, numbersIn, entryOf, tableIn, isTable, tableRead, readT, written};
+ghost use Rattle.reporting.specs.Lent.{askLent, configurationLent, markLent, leftAs, configureLent, clearLent};
+ghost use Rattle.reporting.specs.Inside.{keptAs, configureIn};
 use super::carried::LIMIT;
 use super::carried::SLOT;
 use super::carried::is_table;
@@ -38,7 +39,7 @@ fn slot_is_of(bytes: &[u8], at: usize, key: Key) -> bool
 
 // The place of the key's first slot, or the count where there is none. Not public: the bytes must be a table.
 fn find_slot(bytes: &[u8], key: Key) -> usize
-    requires { ⌜ isTable room (now bytes) ≡ true ⌝ }
+    requires { ⌜ isTable capacity (now bytes) ≡ true ⌝ }
     ensures { λ r. ⌜ r ≡ findL key (tableIn (now (bytes .entry))) ⌝ }
 {
     let n = bytes[0] as usize;
@@ -75,7 +76,7 @@ pub fn ask_lent(bytes: &[u8], key: Key, now: u32, value: i64) -> Report
 
 // The key's configuration. Public for crate `configure` alone, no entry point: the bytes must be a table.
 pub fn configuration_in(bytes: &[u8], key: Key) -> Setting
-    requires { ⌜ isTable room (now bytes) ≡ true ⌝ }
+    requires { ⌜ isTable capacity (now bytes) ≡ true ⌝ }
     ensures { λ r. ⌜ settingTold r ≡ configurationT key (holding (tableIn (now (bytes .entry)))) ⌝ }
 {
     let n = bytes[0] as usize;
@@ -120,7 +121,7 @@ pub fn mark_lent(bytes: &mut [u8], key: Key, now: u32, value: i64) -> bool
 // Sets the key's configuration, and forgets its last report. A new key takes the slot behind the last one. Public for crate
 // `configure` alone, no entry point: the bytes must be a table.
 pub fn configure_in(bytes: &mut [u8], key: Key, config: ReportingConfig) -> Change
-    requires { ⌜ isTable room (now bytes) ≡ true ⌝ }
+    requires { ⌜ isTable capacity (now bytes) ≡ true ⌝ }
     ensures { λ r. ⌜ keptAs r (now (bytes .exit)) ≡ configureIn key config (tableIn (now (bytes .entry))) ⌝ }
 {
     let n = bytes[0] as usize;
@@ -148,7 +149,7 @@ pub fn configure_lent(bytes: &mut [u8], key: Key, config: ReportingConfig) -> Ch
 // Zeros in the slot at `at`.
 fn blank_slot(bytes: &mut [u8], at: usize)
     requires { ⌜ at + 29 ≤ length (now bytes) ⌝ }
-    ensures { λ _. ⌜ now (bytes .exit) ≡ over (now (bytes .entry)) at (zeros 29) ⌝ }
+    ensures { λ _. ⌜ now (bytes .exit) ≡ sets (now (bytes .entry)) at (zeros 29) ⌝ }
 {
     clear(&mut bytes[at..at + SLOT]);
 }
@@ -156,8 +157,8 @@ fn blank_slot(bytes: &mut [u8], at: usize)
 // Takes the key's entry out: the last slot moves into its place, and zeros into the last. Public for crate `configure` alone, no
 // entry point: the bytes must be a table.
 pub fn clear_in(bytes: &mut [u8], key: Key)
-    requires { ⌜ isTable room (now bytes) ≡ true ⌝ }
-    ensures { λ _. ⌜ readT room (now (bytes .exit)) ≡ seen true (clearL key (tableIn (now (bytes .entry)))) ⌝ }
+    requires { ⌜ isTable capacity (now bytes) ≡ true ⌝ }
+    ensures { λ _. ⌜ readT capacity (now (bytes .exit)) ≡ tableRead true (clearL key (tableIn (now (bytes .entry)))) ⌝ }
 {
     let n = bytes[0] as usize;
     let at = find_slot(bytes, key);

@@ -3,7 +3,7 @@ ghost use mathlib.Core.Path.{_≡_};
 ghost use mathlib.Core.List.{[]};
 ghost use Prim.Native.Nat.{_≤_};
 ghost use Rattle.reporting.specs.Entries.{findL};
-ghost use Rattle.reporting.specs.Table.{room, live, tableOf, holding, outcome, settingTold, reportTold, lengthTold, configureT, clearT, markT, configurationT, askT, lengthT};
+ghost use Rattle.reporting.specs.Table.{capacity, live, tableOf, holding, handedBack, settingTold, reportTold, lengthTold, configureT, clearT, markT, configurationT, askT, lengthT};
 use super::entry::Entry;
 use super::entry::Key;
 use super::entry::ReportingConfig;
@@ -76,7 +76,7 @@ impl ReportingTable {
 
     // The place of the key's first entry, or the count where there is none. Not public: the count must be within the room.
     fn find(self, key: Key) -> usize
-        requires { ⌜ self .count ≤ room ⌝ }
+        requires { ⌜ self .count ≤ capacity ⌝ }
         ensures { λ r. ⌜ r ≡ findL key (live self) ⌝ }
     {
         let n = self.count;
@@ -95,7 +95,7 @@ impl ReportingTable {
 
     // Sets the key's configuration, and forgets its last report. A new key takes the place behind the last entry.
     pub fn configure(mut self, key: Key, config: ReportingConfig) -> Changed
-        ensures { λ r. ⌜ outcome r ≡ configureT room key config (tableOf self) ⌝ }
+        ensures { λ r. ⌜ handedBack r ≡ configureT capacity key config (tableOf self) ⌝ }
     {
         let n = self.count;
         if ROOM < n {
@@ -124,7 +124,7 @@ impl ReportingTable {
 
     // Takes the key's entry out: the last entry moves into its place.
     pub fn clear(mut self, key: Key) -> Changed
-        ensures { λ r. ⌜ outcome r ≡ clearT key (tableOf self) ⌝ }
+        ensures { λ r. ⌜ handedBack r ≡ clearT key (tableOf self) ⌝ }
     {
         let n = self.count;
         if ROOM < n {
@@ -152,7 +152,7 @@ impl ReportingTable {
 
     // Keeps the time and the value of a report (`reported` in the Rust).
     pub fn mark(mut self, key: Key, now: u32, value: i64) -> Changed
-        ensures { λ r. ⌜ outcome r ≡ markT key now value (tableOf self) ⌝ }
+        ensures { λ r. ⌜ handedBack r ≡ markT key now value (tableOf self) ⌝ }
     {
         let n = self.count;
         if ROOM < n {

@@ -2,7 +2,7 @@
 use mathlib.Core.Path.{_≡_, refl, sym, ap, _∙_, subst}
 use mathlib.Core.Logic.{_⊎_, inl, inr}
 use mathlib.Core.Bool.{Bool, true, false, cond, _&&_}
-use mathlib.Core.List.{List, [], _∷_, _++_, append-nil, append-assoc}
+use mathlib.Core.List.{List, [], _∷_, _++_}
 use Prim.Native.Nat.{ℕ, _≤_}
 use native.Mathlib.Omega.{arith}
 use lib.ListN.{length, take, drop}
@@ -14,34 +14,35 @@ use Rattle.frame.specs.declared.header.HeaderRead.{HeaderRead}
 use Rattle.frame.specs.declared.header.HeaderRead.the-variants.{Header}
 use Rattle.frame.specs.declared.header.FrameType.{FrameType}
 use Rattle.frame.specs.declared.command_identifier.CommandIdentifier.the-variants.{ConfigureReporting, ConfigureReportingResponse}
-use Rattle.frame.specs.declared.status.Status.the-variants.{UnreportableAttribute, InvalidDataType}
+use Rattle.frame.specs.declared.status.Status.{Status}
 use Rattle.frame.specs.declared.answer.Refusal.the-variants.{ReplyTooLong, OtherCluster, NotAStore}
 use Rattle.frame.specs.Status.{statusCode}
-use Rattle.frame.specs.Header.{headerOf, replyHead}
+use Rattle.frame.specs.Header.{headerOf, replyHead, isGlobal}
 use Rattle.frame.specs.CommandIdentifier.{commandCode, commandOf}
-use Rattle.frame.specs.Answer.{Outcome, replied, refused}
-use Rattle.frame.specs.Walk.{Ending, done, cut, Records, Way, through, broken, stopped, walk, reached, All}
+use Rattle.frame.specs.Answer.{Outcome, within, replied, refused}
+use Rattle.frame.specs.Walk.{Ending, done, cut, Way, through, broken, stopped, walk, reached, taken}
 use Rattle.frame.specs.Encoded.{encodeAll, fits}
-use Rattle.frame.specs.Failures.{Did, did, Doing, Sofar, sofar, noted, turn, passFrom, pass, encodeFailures, answered, concluded, performed, headed}
+use Rattle.frame.specs.Failures.{Did, did, Doing, Sofar, sofar, also, doneWith, passFrom, pass, encodeFailures, answered, concluded, performed, headed}
 use Rattle.frame.proofs.Buffer.{take-padded}
-use Rattle.frame.proofs.Walks.{walk-keeps}
-use Rattle.store.specs.declared.lookup.Found.{Found}
-use Rattle.store.specs.declared.lookup.Found.the-variants.{At, Nothing}
-use Rattle.store.specs.Contents.{nameOf, findOf, reportable, clusterOf}
+use Rattle.frame.proofs.Codes.{code-of}
+use Rattle.frame.proofs.Walks.{any, walk-keeps}
+use Rattle.store.specs.Contents.{nameOf, findOf, clusterOf}
 use Rattle.store.specs.Layout.{isStore}
 use Rattle.reporting.specs.declared.entry.Key.{Key}
 use Rattle.reporting.specs.declared.entry.ReportingConfig.{ReportingConfig}
 use Rattle.reporting.specs.declared.entry.Entry.{Entry}
 use Rattle.reporting.specs.Entries.{acceptsL}
 use Rattle.reporting.specs.Table.{holding}
-use Rattle.reporting.specs.Events.{Event, configured, run, Wish, clears, wrong, sets, wish, statusW, eventsW}
-use Rattle.configure.specs.Request.{keyFor, ConfigureRecord, received, reported, configures}
-use Rattle.configure.specs.Configure.{Failure, failing, encode, checked, setting, tried, configuring, configureEvents, configureOf, left}
-use Rattle.configure.proofs.History.{checked-either}
+use Rattle.reporting.specs.Wish.{Wish, toClear, toRefuse, toSet, wish, statusW}
+use Rattle.reporting.specs.Claims.Events.{Event, configured, eventsW, ifSuccess}
+use Rattle.configure.specs.Request.{keyFor, ConfigureRecord, reported, configures}
+use Rattle.configure.specs.Configure.{Failure, failing, encode, setting, tried, configuring, configureEntries, configureOf}
+use Rattle.configure.specs.Claims.History.{doneEvents, recordEvents, allEvents, recordsDone, configureEvents}
+use Rattle.configure.proofs.History.{checked-case}
 use Rattle.server.specs.Serve.{State, state, tabling, commanded, typed, byHeader, tabled, serve}
-use Rattle.server.specs.UnsupportedCluster.{isGlobal}
-use Rattle.server.specs.History.{Request, headedEvents, requestEvents}
-use Rattle.server.specs.Accepted.{Configures, recordsOf, answerTo, Says, Fails, Among, succeeding, SuccessIsEvents, AcceptedIsConfigured}
+use Rattle.server.specs.Claims.Asks.{Asks}
+use Rattle.server.specs.Claims.History.{Request, headedEvents, requestEvents}
+use Rattle.server.specs.Claims.Accepted.{recordsOf, answerTo, Says, Fails, Among, succeeding, SuccessIsEvents, AcceptedIsConfigured}
 
 -- ---- one of a list
 
@@ -78,33 +79,64 @@ of-reached Q (through x) h = h
 of-reached Q (broken x) h = tt
 of-reached Q (stopped x y) h = tt
 
-any : {A : Type 0} (l : List A) → All (λ (x : A). Unit {0}) l
-any [] = tt
-any (x ∷ l) = (tt, any l)
+-- ---- the records of a frame, one after the other
 
--- what a record brings about and every record keeps
-module _ {S R : Type 0} (step : S → R → S) (fine : S → Bool) (Q : S → Type 0) (keep : (x : S) (r : R) → Q x → Q (step x r)) (one : R) (brings : (x : S) → Q (step x one)) where
-  walk-brings : (e : Ending) (rs : List R) (x : S) → Some (λ r. one ≡ r) rs → OfThrough Q (walk step fine x e rs)
-  unfolding walk
-  walk-brings e (r ∷ rs) x (inl q) = go (fine (step x r))
-    where
-      here : Q (step x r)
-      here = subst (λ z. Q (step x z)) q (brings x)
+module _ (limit : ℕ) (s : List ℕ) (h : ZclHeader) where
+  abbrev doing : Doing (List Entry) ConfigureRecord Failure
+  doing = configuring 8 limit s h
 
-      go : (b : Bool) → OfThrough Q (cond b (walk step fine (step x r) e rs) (stopped x (step x r)))
-      go true = of-reached Q (walk step fine (step x r) e rs) (walk-keeps step fine Q (λ z. Unit {0}) (λ y z h u. keep y z h) e rs (step x r) here (any rs))
-      go false = tt
-  walk-brings e (r ∷ rs) x (inr m) = go (fine (step x r)) (walk-brings e rs (step x r) m)
-    where
-      go : (b : Bool) → OfThrough Q (walk step fine (step x r) e rs) → OfThrough Q (cond b (walk step fine (step x r) e rs) (stopped x (step x r)))
-      go true h = h
-      go false h = tt
+  abbrev eventsFrom : List Entry → List ConfigureRecord → List Event
+  eventsFrom l rs = allEvents 8 limit s h l rs
 
--- ---- one record that the reply does not fail
+  -- that a failure of some kind is listed
+  module _ (N : Failure → Type 0) where
+    abbrev Listed : Sofar (List Entry) Failure → Type 0
+    Listed x = Some N (x .failures)
 
-module _ (limit : ℕ) (s : List ℕ) (l : List Entry) (h : ZclHeader) where
-  abbrev doing : Doing (List Event) ConfigureRecord Failure
-  doing = configuring 8 limit s h l
+    -- the failures only grow
+    also-grows : (fs : List Failure) (b : Bool) (f : Failure) → Some N fs → Some N (cond b fs (fs ++ (f ∷ [])))
+    also-grows fs true f m = m
+    also-grows fs false f m = some-before N fs (f ∷ []) m
+
+    turn-grows : (x : Sofar (List Entry) Failure) (r : ConfigureRecord) → Listed x → Listed (doneWith doing x r)
+    unfolding doneWith
+    turn-grows x r m =
+        let w : Did (List Entry) = tried 8 limit s h (x .state) r in
+        also-grows (x .failures) (eqb (statusCode (w .status)) 0) (failing (w .status) r) m
+
+    -- what holds of no record, and with one record more in front, whose failure stays listed, holds of the records and their events
+    module _ (P : List ConfigureRecord → List Event → Sofar (List Entry) Failure → Type 0) (none : (y : Sofar (List Entry) Failure) → P [] [] y)
+        (one-more : (x : Sofar (List Entry) Failure) (r : ConfigureRecord) (rs : List ConfigureRecord) (es : List Event) (y : Sofar (List Entry) Failure)
+        → (Listed (doneWith doing x r) → Listed y) → P rs es y → P (r ∷ rs) (recordEvents 8 limit s h (x .state) r ++ es) y)
+        (fine : Sofar (List Entry) Failure → Bool) where
+      walk-tells : (e : Ending) (rs : List ConfigureRecord) (x : Sofar (List Entry) Failure)
+          → OfThrough (P rs (eventsFrom (x .state) (taken (doneWith doing) fine x rs))) (walk (doneWith doing) fine x e rs)
+      unfolding walk taken allEvents doneWith
+      walk-tells done [] x = none x
+      walk-tells cut [] x = tt
+      walk-tells e (r ∷ rs) x = go (fine (doneWith doing x r)) (walk-tells e rs (doneWith doing x r))
+        where
+          next : Sofar (List Entry) Failure
+          next = doneWith doing x r
+
+          lists : Listed next → OfThrough Listed (walk (doneWith doing) fine next e rs)
+          lists m =
+              of-reached Listed (walk (doneWith doing) fine next e rs)
+              (walk-keeps (doneWith doing) fine Listed (λ z. Unit {0}) (λ y z k u. turn-grows y z k) e rs next m (any rs))
+
+          onward : (es : List Event) (way : Way (Sofar (List Entry) Failure)) → OfThrough (P rs es) way → (Listed next → OfThrough Listed way)
+              → OfThrough (P (r ∷ rs) (recordEvents 8 limit s h (x .state) r ++ es)) way
+          onward es (through y) p k = one-more x r rs es y k p
+          onward es (broken y) p k = tt
+          onward es (stopped y z) p k = tt
+
+          go : (b : Bool) → OfThrough (P rs (eventsFrom (next .state) (taken (doneWith doing) fine next rs))) (walk (doneWith doing) fine next e rs)
+              → OfThrough (P (r ∷ rs) (recordEvents 8 limit s h (x .state) r ++ eventsFrom (next .state) (cond b (taken (doneWith doing) fine next rs) [])))
+              (cond b (walk (doneWith doing) fine next e rs) (stopped x next))
+          go true w = onward (eventsFrom (next .state) (taken (doneWith doing) fine next rs)) (walk (doneWith doing) fine next e rs) w lists
+          go false w = tt
+
+  -- ---- one record that the reply does not fail
 
   module _ (id t : ℕ) (g : ReportingConfig) (low : 1 ≤ g .«max_interval») (high : g .«max_interval» ≤ 65534) where
     abbrev k : Key
@@ -116,85 +148,79 @@ module _ (limit : ℕ) (s : List ℕ) (l : List Entry) (h : ZclHeader) where
     abbrev Named : Failure → Type 0
     Named f = (f .direction ≡ 0) × (f .id ≡ id)
 
-    abbrev Either : Sofar (List Event) Failure → Type 0
-    Either x = Some Told (x .state) ⊎ Some Named (x .failures)
-
-    -- the events and the failures only grow
-    setting-grows : (j : Key) (f : ReportingConfig) (es : List Event) → Some Told es → Some Told (setting limit l j f es .state)
-    unfolding setting
-    setting-grows j f es m = some-before Told es _ m
-
-    tried-grows : (es : List Event) (r : ConfigureRecord) → Some Told es → Some Told (tried 8 limit s h l es r .state)
-    unfolding tried
-    tried-grows es (received direction i) m = m
-    tried-grows es (reported i u f) m =
-        checked-either (Some Told) (findOf 8 s (nameOf (h .«manufacturer_code» .0) i)) u es (setting limit l (keyFor s h i) f es) m
-        (setting-grows (keyFor s h i) f es m)
-
-    also-grows : (fs : List Failure) (b : Bool) (f : Failure) → Some Named fs → Some Named (cond b fs (fs ++ (f ∷ [])))
-    also-grows fs true f m = m
-    also-grows fs false f m = some-before Named fs (f ∷ []) m
-
-    keeps : (x : Sofar (List Event) Failure) (r : ConfigureRecord) → Either x → Either (turn doing x r)
-    unfolding turn
-    keeps x r (inl m) = inl (tried-grows (x .state) r m)
-    keeps x r (inr m) =
-        let w : Did (List Event) = tried 8 limit s h l (x .state) r in
-        inr (also-grows (x .failures) (eqb (statusCode (w .status)) 0) (failing (w .status) r) m)
-
     -- the rule does not clear
-    not-clears : wish g ≡ clears → ⊥
+    not-clears : wish g ≡ toClear → ⊥
     not-clears e =
         let m : ℕ = g .«max_interval» in
         let a : eqb m 0xffff ≡ false = ne-eqb m 0xffff (λ q. omega (arith, q)) in
         let b : eqb m 0 ≡ false = ne-eqb m 0 (λ q. omega (arith, q)) in
         go (ltb m (g .«min_interval»)) (sym (two a b) ∙ e)
       where
-        two : eqb (g .«max_interval») 0xffff ≡ false → eqb (g .«max_interval») 0 ≡ false → wish g ≡ cond (ltb (g .«max_interval») (g .«min_interval»)) wrong sets
+        two : eqb (g .«max_interval») 0xffff ≡ false → eqb (g .«max_interval») 0 ≡ false → wish g ≡ cond (ltb (g .«max_interval») (g .«min_interval»)) toRefuse toSet
         two a b = rw (a, b)
 
-        IsClears : Wish → Type 0
-        IsClears clears = Unit {0}
-        IsClears wrong = ⊥
-        IsClears sets = ⊥
+        Clears : Wish → Type 0
+        Clears toClear = Unit {0}
+        Clears toRefuse = ⊥
+        Clears toSet = ⊥
 
-        go : (c : Bool) → cond c wrong sets ≡ clears → ⊥
-        go true q = subst IsClears (sym q) tt
-        go false q = subst IsClears (sym q) tt
+        go : (c : Bool) → cond c toRefuse toSet ≡ toClear → ⊥
+        go true q = subst Clears (sym q) tt
+        go false q = subst Clears (sym q) tt
 
-    -- so the record is configured, or listed
-    abbrev NotedEither : List Failure → Did (List Event) → Type 0
-    NotedEither fs w = Either (noted doing fs (reported id t g) w)
+    module _ (fs : List Failure) (es : List Event) (y : Sofar (List Entry) Failure) where
+      -- by what was done with it: it is configured, or it is listed and stays so
+      abbrev Either : Did (List Entry) → Type 0
+      Either w =
+          (Some Named (also fs (w .status) (failing (w .status) (reported id t g))) → Some Named (y .failures))
+          → Some Told (ifSuccess (w .status) (doneEvents s h (reported id t g)) ++ es) ⊎ Some Named (y .failures)
 
-    named : (fs : List Failure) (f : Failure) → Named f → Some Named (fs ++ (f ∷ []))
-    named fs f n = some-behind Named fs (f ∷ []) (inl n)
+      named : (f : Failure) → Named f → Some Named (fs ++ (f ∷ []))
+      named f n = some-behind Named fs (f ∷ []) (inl n)
 
-    setting-either : (es : List Event) (fs : List Failure) → NotedEither fs (setting limit l k g es)
-    unfolding setting
-    setting-either es fs = go (wish g) not-clears (acceptsL limit k (run limit es l))
+      failed-either : (l : List Entry) (why : Status) → eqb (statusCode why) 0 ≡ false → Either (did why l)
+      failed-either l why e =
+          subst
+          (λ (b : Bool). (Some Named (cond b fs (fs ++ (failing why (reported id t g) ∷ []))) → Some Named (y .failures))
+          → Some Told (cond b (doneEvents s h (reported id t g)) [] ++ es) ⊎ Some Named (y .failures))
+          (sym e) (λ stays. inr (stays (named _ (refl, refl))))
+
+      setting-either : (l : List Entry) → Either (setting limit k g l)
+      unfolding setting
+      setting-either l = go (wish g) not-clears (acceptsL limit k l)
+        where
+          go : (w : Wish) → (w ≡ toClear → ⊥) → (a : Bool)
+              → (Some Named (also fs (statusW w a) (failing (statusW w a) (reported id t g))) → Some Named (y .failures))
+              → Some Told (ifSuccess (statusW w a) (eventsW w k g) ++ es) ⊎ Some Named (y .failures)
+          go toClear n a stays = absurd (n refl)
+          go toRefuse n a stays = inr (stays (named _ (refl, refl)))
+          go toSet n true stays = inl (inl refl)
+          go toSet n false stays = inr (stays (named _ (refl, refl)))
+
+      tried-either : (l : List Entry) → Either (tried 8 limit s h l (reported id t g))
+      unfolding tried
+      tried-either l = checked-case Either (findOf 8 s (nameOf (h .«manufacturer_code» .0) id)) t l (setting limit k g l) (failed-either l) (setting-either l)
+
+    -- so among the events of records that contain it is its own, or a failure names it
+    abbrev Brings : List ConfigureRecord → List Event → Sofar (List Entry) Failure → Type 0
+    Brings rs es y = Some (λ r. reported id t g ≡ r) rs → Some Told es ⊎ Some Named (y .failures)
+
+    brings-more : (x : Sofar (List Entry) Failure) (r : ConfigureRecord) (rs : List ConfigureRecord) (es : List Event) (y : Sofar (List Entry) Failure)
+        → (Some Named (doneWith doing x r .failures) → Some Named (y .failures)) → Brings rs es y → Brings (r ∷ rs) (recordEvents 8 limit s h (x .state) r ++ es) y
+    unfolding doneWith recordEvents
+    brings-more x r rs es y stays p (inl q) =
+        subst
+        (λ (z : ConfigureRecord). (Some Named (doneWith doing x z .failures) → Some Named (y .failures))
+        → Some Told (recordEvents 8 limit s h (x .state) z ++ es) ⊎ Some Named (y .failures))
+        q (tried-either (x .failures) es y (x .state)) stays
+    brings-more x r rs es y stays p (inr m) = go (p m)
       where
-        go : (w : Wish) → (w ≡ clears → ⊥) → (a : Bool) → NotedEither fs (did (statusW w a) (es ++ eventsW w a k g))
-        go clears n a = absurd (n refl)
-        go wrong n a = inr (named fs _ (refl, refl))
-        go sets n true = inl (some-behind Told es (configured k g ∷ []) (inl refl))
-        go sets n false = inr (named fs _ (refl, refl))
+        go : Some Told es ⊎ Some Named (y .failures) → Some Told (recordEvents 8 limit s h (x .state) r ++ es) ⊎ Some Named (y .failures)
+        go (inl e) = inl (some-behind Told (recordEvents 8 limit s h (x .state) r) es e)
+        go (inr f) = inr f
 
-    checked-noted : (f : Found) (es : List Event) (fs : List Failure) (fine : Did (List Event)) → NotedEither fs fine → NotedEither fs (checked f t es fine)
-    checked-noted Nothing es fs fine q = inr (named fs _ (refl, refl))
-    checked-noted (At a) es fs fine q = go (reportable a) (eqb (a .«type_id» .0) t)
-      where
-        go : (b c : Bool) → NotedEither fs (cond b (cond c fine (did InvalidDataType es)) (did UnreportableAttribute es))
-        go true true = q
-        go true false = inr (named fs _ (refl, refl))
-        go false c = inr (named fs _ (refl, refl))
-
-    brings : (x : Sofar (List Event) Failure) → Either (turn doing x (reported id t g))
-    unfolding turn tried
-    brings x = checked-noted (findOf 8 s (nameOf (h .«manufacturer_code» .0) id)) (x .state) (x .failures) _ (setting-either (x .state) (x .failures))
-
-    pass-brings : (fine : List Failure → Bool) (rs : Records ConfigureRecord) → Some (λ r. reported id t g ≡ r) (rs .list) → OfThrough Either (pass doing fine rs [])
-    unfolding passFrom
-    pass-brings fine rs m = walk-brings (turn doing) (λ y. fine (y .failures)) Either keeps (reported id t g) brings (rs .ending) (rs .list) (sofar [] []) m
+    brings-none : (y : Sofar (List Entry) Failure) → Brings [] [] y
+    brings-none y m = absurd m
 
     -- a failure is listed in the reply
     listed : (fs : List Failure) → Some Named fs → Fails id (encodeAll encode fs)
@@ -208,91 +234,23 @@ module _ (limit : ℕ) (s : List ℕ) (l : List Entry) (h : ZclHeader) where
 
   -- ---- a reply of one 00
 
-  abbrev Full : Sofar (List Event) Failure → Type 0
-  Full x = Some (λ (f : Failure). Unit {0}) (x .failures)
-
-  full-stays : (x : Sofar (List Event) Failure) (r : ConfigureRecord) → Full x → Full (turn doing x r)
-  unfolding turn
-  full-stays x r m = go (eqb (statusCode (tried 8 limit s h l (x .state) r .status)) 0)
-    where
-      go : (b : Bool) → Some (λ (f : Failure). Unit {0}) (cond b (x .failures) (x .failures ++ (failing (tried 8 limit s h l (x .state) r .status) r ∷ [])))
-      go true = m
-      go false = some-before (λ f. Unit {0}) (x .failures) _ m
-
-  -- a record fails, or it is its events
-  abbrev FullOr : List Failure → List Event → List Event → ConfigureRecord → Did (List Event) → Type 0
-  FullOr fs es own r w = Full (noted doing fs r w) ⊎ (noted doing fs r w ≡ sofar (es ++ own) fs)
-
-  abbrev ownEvents : ConfigureRecord → List Event
-  ownEvents (received direction id) = []
-  ownEvents (reported id t g) = eventsW (wish g) true (keyFor s h id) g
-
-  full : (fs : List Failure) (f : Failure) → Some (λ (x : Failure). Unit {0}) (fs ++ (f ∷ []))
-  full fs f = some-behind (λ x. Unit {0}) fs (f ∷ []) (inl tt)
-
-  module _ (id t : ℕ) (g : ReportingConfig) (es : List Event) (fs : List Failure) where
-    setting-or : FullOr fs es (eventsW (wish g) true (keyFor s h id) g) (reported id t g) (setting limit l (keyFor s h id) g es)
-    unfolding setting
-    setting-or = go (wish g) (acceptsL limit (keyFor s h id) (run limit es l))
-      where
-        go : (w : Wish) (a : Bool) → FullOr fs es (eventsW w true (keyFor s h id) g) (reported id t g) (did (statusW w a) (es ++ eventsW w a (keyFor s h id) g))
-        go clears a = inr refl
-        go wrong a = inl (full fs _)
-        go sets true = inr refl
-        go sets false = inl (full fs _)
-
-    checked-or : (f : Found) (own : List Event) (fine : Did (List Event)) → FullOr fs es own (reported id t g) fine → FullOr fs es own (reported id t g) (checked f t es fine)
-    checked-or Nothing own fine q = inl (full fs _)
-    checked-or (At a) own fine q = go (reportable a) (eqb (a .«type_id» .0) t)
-      where
-        go : (b c : Bool) → FullOr fs es own (reported id t g) (cond b (cond c fine (did InvalidDataType es)) (did UnreportableAttribute es))
-        go true true = q
-        go true false = inl (full fs _)
-        go false c = inl (full fs _)
-
-  turn-or : (x : Sofar (List Event) Failure) (r : ConfigureRecord) → Full (turn doing x r) ⊎ (turn doing x r ≡ sofar (x .state ++ ownEvents r) (x .failures))
-  unfolding turn tried
-  turn-or x (received direction id) = inl (full (x .failures) _)
-  turn-or x (reported id t g) = checked-or id t g (x .state) (x .failures) (findOf 8 s (nameOf (h .«manufacturer_code» .0) id)) _ _ (setting-or id t g (x .state) (x .failures))
+  abbrev AnyFailure : Failure → Type 0
+  AnyFailure f = Unit {0}
 
   -- without a failure the events are the records'
-  abbrev Whole : List Event → List ConfigureRecord → Sofar (List Event) Failure → Type 0
-  Whole es rs y = Full y ⊎ (y .state ≡ es ++ succeeding s h rs)
+  abbrev Whole : List ConfigureRecord → List Event → Sofar (List Entry) Failure → Type 0
+  Whole rs es y = Some AnyFailure (y .failures) ⊎ (es ≡ succeeding s h rs)
 
-  own-first : (es : List Event) (r : ConfigureRecord) (rs : List ConfigureRecord) → (es ++ ownEvents r) ++ succeeding s h rs ≡ es ++ succeeding s h (r ∷ rs)
-  own-first es (received direction id) rs = ap (λ (x : List Event). x ++ succeeding s h rs) (append-nil es)
-  own-first es (reported id t g) rs = append-assoc es (eventsW (wish g) true (keyFor s h id) g) (succeeding s h rs)
-
-  module _ (fine : Sofar (List Event) Failure → Bool) where
-    walk-whole : (e : Ending) (rs : List ConfigureRecord) (x : Sofar (List Event) Failure) → OfThrough (Whole (x .state) rs) (walk (turn doing) fine x e rs)
-    unfolding walk
-    walk-whole done [] x = inr (sym (append-nil (x .state)))
-    walk-whole cut [] x = tt
-    walk-whole e (r ∷ rs) x = go (fine (turn doing x r)) (turn-or x r) (λ y. walk-whole e rs y)
-      where
-        full-on : Full (turn doing x r) → OfThrough (Whole (x .state) (r ∷ rs)) (walk (turn doing) fine (turn doing x r) e rs)
-        full-on m =
-            of-reached (Whole (x .state) (r ∷ rs)) (walk (turn doing) fine (turn doing x r) e rs)
-            (inl (walk-keeps (turn doing) fine Full (λ z. Unit {0}) (λ y z f u. full-stays y z f) e rs (turn doing x r) m (any rs)))
-
-        onward : (way : Way (Sofar (List Event) Failure)) → OfThrough (Whole (x .state ++ ownEvents r) rs) way → OfThrough (Whole (x .state) (r ∷ rs)) way
-        onward (through y) (inl m) = inl m
-        onward (through y) (inr q) = inr (q ∙ own-first (x .state) r rs)
-        onward (broken y) m = tt
-        onward (stopped y z) m = tt
-
-        go : (b : Bool) → Full (turn doing x r) ⊎ (turn doing x r ≡ sofar (x .state ++ ownEvents r) (x .failures))
-            → ((y : Sofar (List Event) Failure) → OfThrough (Whole (y .state) rs) (walk (turn doing) fine y e rs))
-            → OfThrough (Whole (x .state) (r ∷ rs)) (cond b (walk (turn doing) fine (turn doing x r) e rs) (stopped x (turn doing x r)))
-        go true (inl m) rec = full-on m
-        go true (inr q) rec =
-            subst (λ (y : Sofar (List Event) Failure). OfThrough (Whole (x .state) (r ∷ rs)) (walk (turn doing) fine y e rs)) (sym q)
-            (onward (walk (turn doing) fine (sofar (x .state ++ ownEvents r) (x .failures)) e rs) (rec (sofar (x .state ++ ownEvents r) (x .failures))))
-        go false w rec = tt
-
-  pass-whole : (fine : List Failure → Bool) (rs : Records ConfigureRecord) → OfThrough (Whole [] (rs .list)) (pass doing fine rs [])
-  unfolding passFrom
-  pass-whole fine rs = walk-whole (λ y. fine (y .failures)) (rs .ending) (rs .list) (sofar [] [])
+  whole-more : (x : Sofar (List Entry) Failure) (r : ConfigureRecord) (rs : List ConfigureRecord) (es : List Event) (y : Sofar (List Entry) Failure)
+      → (Some AnyFailure (doneWith doing x r .failures) → Some AnyFailure (y .failures)) → Whole rs es y → Whole (r ∷ rs) (recordEvents 8 limit s h (x .state) r ++ es) y
+  unfolding doneWith recordEvents
+  whole-more x r rs es y = go (eqb (statusCode (tried 8 limit s h (x .state) r .status)) 0) (failing (tried 8 limit s h (x .state) r .status) r)
+    where
+      go : (b : Bool) (f : Failure) → (Some AnyFailure (cond b (x .failures) (x .failures ++ (f ∷ []))) → Some AnyFailure (y .failures)) → Whole rs es y
+          → Whole (r ∷ rs) (cond b (doneEvents s h r) [] ++ es) y
+      go true f stays (inl m) = inl m
+      go true f stays (inr q) = inr (ap (λ (own : List Event). doneEvents s h r ++ own) q)
+      go false f stays w = inl (stays (some-behind AnyFailure (x .failures) (f ∷ []) (inl tt)))
 
 -- a reply of one 00 lists no failure
 one-lists-none : (fs : List Failure) → Some (λ (f : Failure). Unit {0}) fs → encodeFailures encode fs ≡ 0x00 ∷ [] → ⊥
@@ -305,12 +263,12 @@ same-behind : (a b c : List ℕ) → a ++ b ≡ a ++ c → b ≡ c
 same-behind [] b c e = e
 same-behind (x ∷ a) b c e = same-behind a b c (ap (λ (l : List ℕ). drop 1 l) e)
 
-module _ (room : ℕ) (head body : List ℕ) (Q : Sofar (List Event) Failure → Type 0) (P : List Event → Type 0)
-    (so : (x : Sofar (List Event) Failure) → Q x → encodeFailures encode (x .failures) ≡ body → P (x .state)) where
-  abbrev Seen : Outcome (List Event) → Type 0
-  Seen o = o .number ≡ 0 → take (o .size) (o .reply) ≡ head ++ body → P (o .state)
+module _ (room : ℕ) (head body : List ℕ) (Q : Sofar (List Entry) Failure → Type 0) (P : Type 0)
+    (so : (x : Sofar (List Entry) Failure) → Q x → encodeFailures encode (x .failures) ≡ body → P) where
+  abbrev Seen : Outcome (List Entry) → Type 0
+  Seen o = o .number ≡ 0 → take (o .size) (o .reply) ≡ head ++ body → P
 
-  concluded-seen : (way : Way (Sofar (List Event) Failure)) → OfThrough Q way → Seen (concluded encode room head way)
+  concluded-seen : (way : Way (Sofar (List Entry) Failure)) → OfThrough Q way → Seen (concluded encode room head way)
   unfolding concluded answered
   concluded-seen (through x) q = go (leb (length (head ++ encodeFailures encode (x .failures))) room)
     where
@@ -320,29 +278,48 @@ module _ (room : ℕ) (head body : List ℕ) (Q : Sofar (List Event) Failure →
   concluded-seen (broken x) q = λ n e. absurd (omega (arith, n))
   concluded-seen (stopped x y) q = λ n e. absurd (omega (arith, n))
 
-module _ (limit : ℕ) (s : List ℕ) (l : List Entry) (h : ZclHeader) (frame-body body : List ℕ) (room : ℕ) (Q : Sofar (List Event) Failure → Type 0) (P : List Event → Type 0)
-    (so : (x : Sofar (List Event) Failure) → Q x → encodeFailures encode (x .failures) ≡ body → P (x .state))
-    (passes : (fine : List Failure → Bool) → OfThrough Q (pass (configuring 8 limit s h l) fine (configures frame-body) [])) where
+-- what the records of a frame and their events have, whatever stops them
+abbrev Tells : ℕ → List ℕ → ZclHeader → List Entry → List ℕ → (List Event → Sofar (List Entry) Failure → Type 0) → Type 0
+Tells limit s h l frame-body Q =
+    (fine : Sofar (List Entry) Failure → Bool)
+    → OfThrough (Q (allEvents 8 limit s h l (taken (doneWith (configuring 8 limit s h)) fine (sofar l []) (configures frame-body .list))))
+    (walk (doneWith (configuring 8 limit s h)) fine (sofar l []) (configures frame-body .ending) (configures frame-body .list))
+
+module _ (limit : ℕ) (s : List ℕ) (l : List Entry) (h : ZclHeader) (frame-body body : List ℕ) (room : ℕ) (Q : List Event → Sofar (List Entry) Failure → Type 0) (P : List Event → Type 0)
+    (so : (es : List Event) (x : Sofar (List Entry) Failure) → Q es x → encodeFailures encode (x .failures) ≡ body → P es) (tells : Tells limit s h l frame-body Q) where
   abbrev head : List ℕ
   head = replyHead h ConfigureReportingResponse
 
-  configure-seen : Seen room head body Q P so (configureEvents 8 limit s l h frame-body room)
-  unfolding configureEvents headed performed
+  configure-seen : configureEntries 8 limit s l h frame-body room .number ≡ 0
+      → take (configureEntries 8 limit s l h frame-body room .size) (configureEntries 8 limit s l h frame-body room .reply) ≡ head ++ body
+      → P (configureEvents 8 limit s l h frame-body room)
+  unfolding configureEntries configureEvents recordsDone headed performed passFrom
   configure-seen = go (leb (length head) room)
     where
-      go : (b : Bool) → Seen room head body Q P so (cond b (performed (configuring 8 limit s h l) (configures frame-body) [] room head) (refused room ReplyTooLong []))
-      go true = concluded-seen room head body Q P so (pass (configuring 8 limit s h l) (fits encode room (length head)) (configures frame-body) []) (passes (fits encode room (length head)))
+      es : List Event
+      es = allEvents 8 limit s h l (recordsDone 8 limit s h l frame-body room (length head))
+
+      came : Bool → Outcome (List Entry)
+      came b = cond b (performed (configuring 8 limit s h) (configures frame-body) l room head) (refused room ReplyTooLong l)
+
+      go : (b : Bool) → came b .number ≡ 0 → take (came b .size) (came b .reply) ≡ head ++ body → P (cond b es [])
+      go true =
+          concluded-seen room head body (Q es) (P es) (so es) (pass (configuring 8 limit s h) (fits encode room (length head)) (configures frame-body) l)
+          (tells (λ x. fits encode room (length head) (x .failures)))
       go false = λ n e. absurd (omega (arith, n))
 
 -- ---- a Configure Reporting frame that is answered with number 0 was configured
 
-module _ (limit : ℕ) (r : Request) (l : List Entry) (h : ZclHeader) (c : Configures (r .frame) h) where
-  abbrev events : Outcome (List Event)
+module _ (limit : ℕ) (r : Request) (l : List Entry) (h : ZclHeader) (c : Asks ConfigureReporting (r .frame) h) where
+  abbrev came : Outcome (List Entry)
+  came = configureEntries 8 limit (r .store) l h (drop (h .body) (r .frame)) (r .room)
+
+  abbrev events : List Event
   events = configureEvents 8 limit (r .store) l h (drop (h .body) (r .frame)) (r .room)
 
   record Was (o : Outcome State) (es : List Event) : Type 0 where
-    answer : o ≡ tabling (r .store) (left limit l events)
-    told : es ≡ events .state
+    answer : o ≡ tabling (r .store) (within holding came)
+    told : es ≡ events
 
   abbrev body-served : HeaderRead → Outcome State
   body-served x = byHeader 8 limit (r .store) (holding l) (r .unicast) (r .frame) (r .room) x
@@ -352,12 +329,12 @@ module _ (limit : ℕ) (r : Request) (l : List Entry) (h : ZclHeader) (c : Confi
   by-header =
       subst
       (λ (k : FrameType). Was (typed 8 limit (r .store) (holding l) (r .unicast) h (drop (h .body) (r .frame)) (r .room) k)
-      (cond (isGlobal k && eqb (h .«command_identifier» .0) (commandCode ConfigureReporting)) (events .state) []))
+      (cond (isGlobal k && eqb (h .«command_identifier» .0) (commandCode ConfigureReporting)) events []))
       (sym (c .global))
       (subst
       (λ (n : ℕ). Was (commanded 8 limit (r .store) (holding l) (r .unicast) h (drop (h .body) (r .frame)) (r .room) (commandOf n))
-      (cond (eqb n (commandCode ConfigureReporting)) (events .state) []))
-      (sym (c .command)) (record { answer = refl; told = refl }))
+      (cond (eqb n (commandCode ConfigureReporting)) events []))
+      (ap commandCode (sym (c .command)) ∙ code-of (h .«command_identifier» .0)) (record { answer = refl; told = refl }))
 
   was : answerTo limit r l .number ≡ 0 → Was (answerTo limit r l) (requestEvents limit r l)
   unfolding serve tabled requestEvents
@@ -372,14 +349,14 @@ module _ (limit : ℕ) (r : Request) (l : List Entry) (h : ZclHeader) (c : Confi
       go false b n = absurd (omega (arith, n))
 
   -- so what follows from the reply of the command follows from that of the request
-  module _ (body : List ℕ) (says : Says limit r l h body) (Q : Sofar (List Event) Failure → Type 0) (P : List Event → Type 0)
-      (so : (x : Sofar (List Event) Failure) → Q x → encodeFailures encode (x .failures) ≡ body → P (x .state))
-      (passes : (fine : List Failure → Bool) → OfThrough Q (pass (configuring 8 limit (r .store) h l) fine (configures (drop (h .body) (r .frame))) [])) where
+  module _ (body : List ℕ) (says : Says limit r l h body) (Q : List Event → Sofar (List Entry) Failure → Type 0) (P : List Event → Type 0)
+      (so : (es : List Event) (x : Sofar (List Entry) Failure) → Q es x → encodeFailures encode (x .failures) ≡ body → P es)
+      (tells : Tells limit (r .store) h l (drop (h .body) (r .frame)) Q) where
     request-seen : P (requestEvents limit r l)
     request-seen =
         let w = was (says .number) in
         subst P (sym (w .told))
-        (configure-seen limit (r .store) l h (drop (h .body) (r .frame)) body (r .room) Q P so passes
+        (configure-seen limit (r .store) l h (drop (h .body) (r .frame)) body (r .room) Q P so tells
         (sym (ap (λ (o : Outcome State). o .number) (w .answer)) ∙ says .number)
         (sym (ap (λ (o : Outcome State). take (o .size) (o .reply)) (w .answer)) ∙ says .reply))
 
@@ -387,19 +364,25 @@ module _ (limit : ℕ) (r : Request) (l : List Entry) (h : ZclHeader) (c : Confi
 
 pub success-is-events : SuccessIsEvents
 success-is-events limit r l h c says =
-    request-seen limit r l h c (0x00 ∷ []) says (Whole limit (r .store) l h [] (recordsOf (r .frame) h)) (λ es. es ≡ succeeding (r .store) h (recordsOf (r .frame) h)) so
-    (λ fine. pass-whole limit (r .store) l h fine (configures (drop (h .body) (r .frame))))
+    request-seen limit r l h c (0x00 ∷ []) says (Whole limit (r .store) h (recordsOf (r .frame) h)) (λ es. es ≡ succeeding (r .store) h (recordsOf (r .frame) h)) so
+    (λ fine. walk-tells limit (r .store) h (AnyFailure limit (r .store) h) (Whole limit (r .store) h) (λ y. inr refl) (whole-more limit (r .store) h) fine _ (recordsOf (r .frame) h) (sofar l []))
   where
-    so : (x : Sofar (List Event) Failure) → Whole limit (r .store) l h [] (recordsOf (r .frame) h) x → encodeFailures encode (x .failures) ≡ 0x00 ∷ [] → x .state ≡ succeeding (r .store) h (recordsOf (r .frame) h)
-    so x (inl m) e = absurd (one-lists-none (x .failures) m e)
-    so x (inr q) e = q
+    so : (es : List Event) (x : Sofar (List Entry) Failure) → Whole limit (r .store) h (recordsOf (r .frame) h) es x → encodeFailures encode (x .failures) ≡ 0x00 ∷ []
+        → es ≡ succeeding (r .store) h (recordsOf (r .frame) h)
+    so es x (inl m) e = absurd (one-lists-none (x .failures) m e)
+    so es x (inr q) e = q
 
 pub accepted-is-configured : AcceptedIsConfigured
 accepted-is-configured limit r l h body id t g c says among not low high =
     among-some (configured (keyFor (r .store) h id) g) (requestEvents limit r l)
-    (request-seen limit r l h c body says (Either limit (r .store) l h id t g low high) (Some (λ e. configured (keyFor (r .store) h id) g ≡ e)) so
-    (λ fine. pass-brings limit (r .store) l h id t g low high fine (configures (drop (h .body) (r .frame))) (some-among (reported id t g) (recordsOf (r .frame) h) among)))
+    (request-seen limit r l h c body says (Brings limit (r .store) h id t g low high (recordsOf (r .frame) h)) (Some (λ e. configured (keyFor (r .store) h id) g ≡ e)) so
+    (λ fine. walk-tells limit (r .store) h (Named limit (r .store) h id t g low high) (Brings limit (r .store) h id t g low high) (brings-none limit (r .store) h id t g low high)
+    (brings-more limit (r .store) h id t g low high) fine _ (recordsOf (r .frame) h) (sofar l [])))
   where
-    so : (x : Sofar (List Event) Failure) → Either limit (r .store) l h id t g low high x → encodeFailures encode (x .failures) ≡ body → Some (λ e. configured (keyFor (r .store) h id) g ≡ e) (x .state)
-    so x (inl m) e = m
-    so x (inr m) e = absurd (not (subst (Fails id) e (listed-failures limit (r .store) l h id t g low high (x .failures) m)))
+    so : (es : List Event) (x : Sofar (List Entry) Failure) → Brings limit (r .store) h id t g low high (recordsOf (r .frame) h) es x → encodeFailures encode (x .failures) ≡ body
+        → Some (λ e. configured (keyFor (r .store) h id) g ≡ e) es
+    so es x m e = go (m (some-among (reported id t g) (recordsOf (r .frame) h) among))
+      where
+        go : Some (λ e. configured (keyFor (r .store) h id) g ≡ e) es ⊎ Some (Named limit (r .store) h id t g low high) (x .failures) → Some (λ e. configured (keyFor (r .store) h id) g ≡ e) es
+        go (inl w) = w
+        go (inr f) = absurd (not (subst (Fails id) e (listed-failures limit (r .store) h id t g low high (x .failures) f)))

@@ -20,14 +20,14 @@ use Rattle.frame.specs.Answer.{Outcome, refused}
 use Rattle.store.specs.Contents.{clusterOf}
 use Rattle.store.specs.Layout.{isStore}
 use Rattle.reporting.specs.declared.entry.Entry.{Entry}
-use Rattle.reporting.specs.Table.{Table, sound, bad}
+use Rattle.reporting.specs.Table.{Table, holding, bad}
 use Rattle.read.specs.Read.{readOf}
 use Rattle.write.specs.Write.{writeAttributes, writeUndivided, writeSilently}
 use Rattle.discover.specs.Discover.{discoverOf}
 use Rattle.configure.specs.Configure.{configureOf}
 use Rattle.configure.specs.Configuration.{configurationOf}
 use Rattle.server.specs.Serve.{State, state, neither, storing, tabling, unsupported, commanded, typed, byHeader, tabled, serve}
-use Rattle.server.specs.Left.{When, before, inside, never, when, Early}
+use Rattle.server.specs.Claims.Left.{When, before, inside, never, when, Early}
 
 -- ---- the seven commands and the rest, as functions of the request's header
 
@@ -76,17 +76,17 @@ apart why e o = subst IsBefore (sym e ∙ o) tt
 
 module _ (form limit : ℕ) (s : List ℕ) (unicast : Bool) (room : ℕ) (Q : Table → Outcome State → Type 0)
     (early : (t : Table) (why : Refusal) → Early why → Q t (refused room why (state s t)))
-    (own : (n : ℕ) (l : List Entry) (h : ZclHeader) (body : List ℕ) (c : CommandIdentifier) → Q (sound n l) (commanded form limit s (sound n l) unicast h body room c)) where
-  typed-case : (n : ℕ) (l : List Entry) (h : ZclHeader) (body : List ℕ) (k : FrameType) → Q (sound n l) (typed form limit s (sound n l) unicast h body room k)
+    (own : (l : List Entry) (h : ZclHeader) (body : List ℕ) (c : CommandIdentifier) → Q (holding l) (commanded form limit s (holding l) unicast h body room c)) where
+  typed-case : (l : List Entry) (h : ZclHeader) (body : List ℕ) (k : FrameType) → Q (holding l) (typed form limit s (holding l) unicast h body room k)
   unfolding typed commanded
-  typed-case n l h body GlobalCommand = own n l h body (commandOf (h .«command_identifier» .0))
-  typed-case n l h body ClusterCommand = own n l h body ReadAttributesResponse
-  typed-case n l h body Reserved = early (sound n l) ReservedFrameType refl
+  typed-case l h body GlobalCommand = own l h body (commandOf (h .«command_identifier» .0))
+  typed-case l h body ClusterCommand = own l h body ReadAttributesResponse
+  typed-case l h body Reserved = early (holding l) ReservedFrameType refl
 
-  header-case : (n : ℕ) (l : List Entry) (frame : List ℕ) (r : HeaderRead) → Q (sound n l) (byHeader form limit s (sound n l) unicast frame room r)
+  header-case : (l : List Entry) (frame : List ℕ) (r : HeaderRead) → Q (holding l) (byHeader form limit s (holding l) unicast frame room r)
   unfolding byHeader
-  header-case n l frame (Header h) = typed-case n l h _ _
-  header-case n l frame Short = early (sound n l) HeaderShort refl
+  header-case l frame (Header h) = typed-case l h _ _
+  header-case l frame Short = early (holding l) HeaderShort refl
 
   either : (t : Table) (b : Bool) (x : Outcome State) (why : Refusal) → Early why → Q t x → Q t (cond b x (refused room why (state s t)))
   either t true x why e q = q
@@ -95,7 +95,7 @@ module _ (form limit : ℕ) (s : List ℕ) (unicast : Bool) (room : ℕ) (Q : Ta
   module _ (cluster : ℕ) (frame : List ℕ) where
     tabled-case : (t : Table) → Q t (tabled form limit s cluster unicast frame room t)
     unfolding tabled
-    tabled-case (sound n l) = either (sound n l) (eqb cluster (clusterOf s)) _ OtherCluster refl (header-case n l frame (headerOf frame))
+    tabled-case (holding l) = either (holding l) (eqb cluster (clusterOf s)) _ OtherCluster refl (header-case l frame (headerOf frame))
     tabled-case (bad t) = early (bad t) NotATable refl
 
     pub serve-case : (t : Table) → Q t (serve form limit s t cluster unicast frame room)

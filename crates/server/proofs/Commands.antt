@@ -10,13 +10,12 @@ use Rattle.frame.specs.declared.header.FrameType.{FrameType}
 use Rattle.frame.specs.declared.header.FrameType.the-variants.{GlobalCommand, ClusterCommand, Reserved}
 use Rattle.frame.specs.declared.command_identifier.CommandIdentifier.{CommandIdentifier}
 use Rattle.frame.specs.declared.command_identifier.CommandIdentifier.the-variants.{ReadAttributes, ReadAttributesResponse, WriteAttributes, WriteAttributesUndivided, WriteAttributesResponse, WriteAttributesNoResponse, ConfigureReporting, ConfigureReportingResponse, ReadReportingConfiguration, ReadReportingConfigurationResponse, ReportAttributes, DefaultResponse, DiscoverAttributes, DiscoverAttributesResponse, Other}
-use Rattle.frame.specs.Header.{frameTypeOf}
+use Rattle.frame.specs.Header.{frameTypeOf, isGlobal}
 use Rattle.frame.specs.CommandIdentifier.{commandOf}
 use Rattle.frame.proofs.command_identifier.CommandIdentifier as command-identifier
 use Rattle.reporting.specs.Table.{Table}
 use Rattle.server.specs.Serve.{storing, unsupported, commanded, typed}
-use Rattle.server.specs.UnsupportedCluster.{isGlobal}
-use Rattle.server.specs.WithoutTable.{usesTable, storeAlone, TableNotNeeded}
+use Rattle.server.specs.Claims.WithoutTable.{usesTable, storeAlone, TableNotNeeded}
 
 -- ---- all but the seven
 

@@ -7,7 +7,7 @@ use native.Mathlib.Omega.{arith}
 use lib.ListN.{length, length-append, length-replicate}
 use borrow.Author.Tests.{le-leb, lt-leb}
 use Rattle.types.specs.Number.{zeros}
-use Rattle.frame.specs.Reply.{putting, put}
+use Rattle.frame.specs.Inside.Buffer.{putting, put}
 use Rattle.frame.specs.Header.{replyHead}
 use Rattle.frame.specs.Status.{statusCode}
 use Rattle.frame.specs.Answer.{noState, seen, replied, refused}

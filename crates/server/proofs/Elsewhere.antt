@@ -5,7 +5,7 @@ use mathlib.Core.List.{List, [], _∷_, _++_}
 use Prim.Native.Nat.{ℕ, _+_, _≤_}
 use native.Mathlib.Omega.{arith}
 use lib.ListN.{length, length-append}
-use lib.Dec.{leb}
+use lib.Dec.{leb, ltb}
 use borrow.Author.Tests.{leb-true}
 use Rattle.frame.specs.declared.header.HeaderRead.{HeaderRead}
 use Rattle.frame.specs.declared.header.HeaderRead.the-variants.{Header, Short}
@@ -13,15 +13,17 @@ use Rattle.frame.specs.declared.command_identifier.CommandIdentifier.the-varian
 use Rattle.frame.specs.declared.status.Status.the-variants.{UnsupportedCluster}
 use Rattle.frame.specs.declared.answer.Refusal.the-variants.{HeaderShort, ReplyTooLong, NothingToSend, NotAStore, EmptyReport, NotReportable}
 use Rattle.frame.specs.Header.{headerOf, replyHead}
-use Rattle.frame.specs.Answer.{Outcome, noState, refused}
+use Rattle.frame.specs.Answer.{noState, refused}
+use Rattle.frame.specs.Walk.{done}
 use Rattle.frame.specs.Encoded.{encodeAll, fits}
+use Rattle.frame.proofs.Walks.{any, walk-keeps}
 use Rattle.store.specs.declared.lookup.Found.{Found}
 use Rattle.store.specs.declared.lookup.Found.the-variants.{At, Nothing}
 use Rattle.store.specs.Contents.{nameOf, findOf, reportable}
 use Rattle.store.specs.Layout.{isStore}
-use Rattle.server.specs.Left.{ResponderClears, ResponderThenZeros, ResponderLength, ReportClears, ReportThenZeros, ReportLength}
-use Rattle.server.specs.Report.{ReportRecord, encode, recordOf, Reported, all, trouble, reportBy, reportFrom, reportReply, unasked, listed, reportOf}
-use Rattle.server.specs.UnsupportedCluster.{among, isDefaultResponse, respond, unsupportedCluster}
+use Rattle.server.specs.Claims.Left.{ResponderClears, ResponderThenZeros, ResponderLength, ReportClears, ReportThenZeros, ReportLength}
+use Rattle.server.specs.Report.{ReportRecord, encode, recordOf, Reported, all, trouble, reportBy, reportOne, goesOn, reportFrom, reportReply, unasked, reportOf}
+use Rattle.server.specs.UnsupportedCluster.{isServed, isDefaultResponse, respond, unsupportedCluster}
 use Rattle.server.proofs.Shapes.{default-shape}
 use Rattle.server.proofs.Says.{Says, sends, declines, says-either, says-clears, says-zeros, says-long, shape-says}
 
@@ -41,7 +43,7 @@ respond-says unicast room Short = declines HeaderShort refl
 pub responder-says : (served : List ℕ) (cluster : ℕ) (unicast : Bool) (frame : List ℕ) (room : ℕ) → Says (headOf (headerOf frame)) room (unsupportedCluster served cluster unicast frame room)
 unfolding unsupportedCluster
 responder-says served cluster unicast frame room =
-    says-either (headOf (headerOf frame)) room (among cluster served) _ _ (declines NothingToSend refl) (respond-says unicast room (headerOf frame))
+    says-either (headOf (headerOf frame)) room (isServed cluster served) _ _ (declines NothingToSend refl) (respond-says unicast room (headerOf frame))
 
 pub responder-clears : ResponderClears
 responder-clears served cluster unicast frame room = says-clears _ room _ (responder-says served cluster unicast frame room)
@@ -63,35 +65,31 @@ module _ (form : ℕ) (s : List ℕ) (room : ℕ) where
   unfolding encodeAll
   none-fit head h = omega arith
 
-  by-fits : (head id : ℕ) (rs : List ReportRecord) (rest : List ReportRecord → Reported)
-      → ((longer : List ReportRecord) → head + length (encodeAll encode longer) ≤ room → Fit head (rest longer))
-      → (f : Found) → Fit head (reportBy s room head id rs rest f)
+  by-fits : (head : ℕ) (rs : List ReportRecord) (id : ℕ) (f : Found) → Fit head (reportBy s room head rs id f)
   unfolding fits
-  by-fits head id rs rest k (At a) = go (reportable a) (leb (head + length (encodeAll encode longer)) room) refl
+  by-fits head rs id (At a) = go (reportable a) (leb (head + length (encodeAll encode longer)) room) refl
     where
       longer : List ReportRecord
       longer = rs ++ (recordOf s id a ∷ [])
 
-      go : (a b : Bool) → leb (head + length (encodeAll encode longer)) room ≡ b → Fit head (cond a (cond b (rest longer) (trouble ReplyTooLong)) (trouble NotReportable))
-      go true true e = k longer (leb-true _ _ e)
+      go : (a b : Bool) → leb (head + length (encodeAll encode longer)) room ≡ b → Fit head (cond a (cond b (all longer) (trouble ReplyTooLong)) (trouble NotReportable))
+      go true true e = leb-true _ _ e
       go true false e = tt
       go false b e = tt
-  by-fits head id rs rest k Nothing = tt
+  by-fits head rs id Nothing = tt
+
+  turn-fits : (head : ℕ) (y : Reported) (id : ℕ) → Fit head y → Unit {0} → Fit head (reportOne form s room head y id)
+  turn-fits head (all rs) id h u = by-fits head rs id (findOf form s (nameOf 0 id))
+  turn-fits head (trouble why) id h u = tt
 
   from-fits : (head : ℕ) (ids : List ℕ) (rs : List ReportRecord) → head + length (encodeAll encode rs) ≤ room → Fit head (reportFrom form s room head rs ids)
   unfolding reportFrom
-  from-fits head [] rs h = h
-  from-fits head (id ∷ ids) rs h =
-      by-fits head id rs (λ longer. reportFrom form s room head longer ids) (λ longer w. from-fits head ids longer w) (findOf form s (nameOf 0 id))
+  from-fits head ids rs h = walk-keeps (reportOne form s room head) goesOn (Fit head) (λ id. Unit {0}) (turn-fits head) done ids (all rs) h (any ids)
 
   reply-says : (head : List ℕ) (y : Reported) → Fit (length head) y → Says head room (reportReply room head y)
   unfolding reportReply
   reply-says head (all rs) h = sends (encodeAll encode rs) (omega (arith, length-append head (encodeAll encode rs))) refl
   reply-says head (trouble why) h = declines why refl
-
-  listed-says : (head ids : List ℕ) (o : Outcome (Unit {0})) → Says head room o → Says head room (listed ids room o)
-  listed-says head [] o h = declines EmptyReport refl
-  listed-says head (id ∷ ids) o h = h
 
   pub report-says : (sequence : ℕ) (ids : List ℕ) → Says (replyHead (unasked sequence) ReportAttributes) room (reportOf form s sequence ids room)
   unfolding reportOf
@@ -102,8 +100,10 @@ module _ (form : ℕ) (s : List ℕ) (room : ℕ) where
       head = replyHead (unasked sequence) ReportAttributes
 
       go : (b : Bool) → leb (length head) room ≡ b
-          → Says head room (cond b (listed ids room (reportReply room head (reportFrom form s room (length head) [] ids))) (refused room ReplyTooLong noState))
-      go true e = listed-says head ids _ (reply-says head _ (from-fits (length head) ids [] (none-fit (length head) (leb-true _ _ e))))
+          → Says head room
+          (cond b (cond (ltb 0 (length ids)) (reportReply room head (reportFrom form s room (length head) [] ids)) (refused room EmptyReport noState)) (refused room ReplyTooLong noState))
+      go true e =
+          says-either head room (ltb 0 (length ids)) _ _ (reply-says head _ (from-fits (length head) ids [] (none-fit (length head) (leb-true _ _ e)))) (declines EmptyReport refl)
       go false e = declines ReplyTooLong refl
 
 pub report-clears : ReportClears

@@ -18,25 +18,24 @@ use Rattle.types.proofs.Readings.{magnitude-within}
 use Rattle.frame.specs.declared.header.ZclHeader.{ZclHeader}
 use Rattle.frame.specs.declared.header.HeaderRead.{HeaderRead}
 use Rattle.frame.specs.declared.header.HeaderRead.the-variants.{Header, Short}
-use Rattle.frame.specs.declared.command_identifier.CommandIdentifier.the-variants.{ConfigureReporting, ConfigureReportingResponse}
-use Rattle.frame.specs.Header.{frameTypeOf, headerOf}
+use Rattle.frame.specs.declared.command_identifier.CommandIdentifier.the-variants.{ConfigureReporting}
+use Rattle.frame.specs.Header.{frameTypeOf, headerOf, isGlobal}
 use Rattle.frame.specs.CommandIdentifier.{commandCode}
 use Rattle.frame.specs.Walk.{Item, item, unread, recordsFrom, All}
 use Rattle.frame.proofs.Walks.{records-all}
-use Rattle.frame.proofs.States.{headed-keeps, performed-keeps}
-use Rattle.store.specs.Contents.{nameOf, findOf, clusterOf}
+use Rattle.store.specs.Contents.{clusterOf}
 use Rattle.store.specs.Layout.{isStore}
 use Rattle.reporting.specs.declared.entry.Key.{Key}
 use Rattle.reporting.specs.declared.entry.ReportingConfig.{ReportingConfig}
 use Rattle.reporting.specs.declared.entry.Entry.{Entry}
 use Rattle.reporting.specs.Entries.{fresh}
-use Rattle.reporting.specs.Carried.{Clean}
-use Rattle.reporting.specs.Events.{Event, configured, cleared, asked, marked, run, Wish, clears, wrong, sets, wish, eventsW, events, configRecord}
+use Rattle.reporting.specs.Claims.RoundTrip.{Clean}
+use Rattle.reporting.specs.Wish.{Wish, toClear, toRefuse, toSet, wish}
+use Rattle.reporting.specs.Claims.Events.{Event, configured, cleared, asked, marked, eventsW}
 use Rattle.configure.specs.Request.{keyFor, ConfigureRecord, received, reported, configAt, configureAt, configures, changeWidth}
-use Rattle.configure.specs.Configure.{setting, tried, configuring, configureEvents}
-use Rattle.configure.proofs.History.{checked-either}
-use Rattle.server.specs.UnsupportedCluster.{isGlobal}
-use Rattle.server.specs.History.{Request, headedEvents, requestEvents}
+use Rattle.configure.specs.Claims.History.{doneEvents, configureEvents}
+use Rattle.configure.proofs.History.{configure-keeps}
+use Rattle.server.specs.Claims.History.{Request, headedEvents, requestEvents}
 
 -- ---- what an event puts into a table is within its width
 
@@ -123,29 +122,17 @@ module _ (s : List ℕ) (store : AllBytes s) (h : ZclHeader) where
   unfolding recordsFrom
   records-fit body b = records-all (configureAt body) (length body) Fitting (λ p r q e. subst FittingItem e (item-fits body p b)) _ 0
 
-  record-fits : (k : Key) (g : ReportingConfig) (w : Wish) (accepted : Bool) → Clean (fresh k g) → AllFit (eventsW w accepted k g)
-  record-fits k g clears accepted c = (tt, tt)
-  record-fits k g wrong accepted c = tt
-  record-fits k g sets true c = (c, tt)
-  record-fits k g sets false c = tt
+  wish-fits : (k : Key) (g : ReportingConfig) (w : Wish) → Clean (fresh k g) → AllFit (eventsW w k g)
+  wish-fits k g toClear c = (tt, tt)
+  wish-fits k g toRefuse c = tt
+  wish-fits k g toSet c = (c, tt)
 
-  module _ (limit : ℕ) (l : List Entry) where
-    setting-fits : (k : Key) (g : ReportingConfig) (es : List Event) → AllFit es → Clean (fresh k g) → AllFit (setting limit l k g es .state)
-    unfolding setting
-    setting-fits k g es d c = fit-append es (events limit (configRecord k g) (run limit es l)) d (record-fits k g (wish g) _ c)
+  record-fits : (r : ConfigureRecord) → Fitting r → AllFit (doneEvents s h r)
+  record-fits (received direction id) c = tt
+  record-fits (reported id t g) c = wish-fits (keyFor s h id) g (wish g) c
 
-    tried-fits : (es : List Event) (r : ConfigureRecord) → AllFit es → Fitting r → AllFit (tried 8 limit s h l es r .state)
-    unfolding tried
-    tried-fits es (received direction id) d c = d
-    tried-fits es (reported id t g) d c =
-        checked-either AllFit (findOf 8 s (nameOf (h .«manufacturer_code» .0) id)) t es (setting limit l (keyFor s h id) g es) d
-        (setting-fits (keyFor s h id) g es d c)
-
-    configure-fits : (body : List ℕ) (room : ℕ) → AllBytes body → AllFit (configureEvents 8 limit s l h body room .state)
-    unfolding configureEvents
-    configure-fits body room b =
-        headed-keeps AllFit h ConfigureReportingResponse [] room _ tt
-        (λ head. performed-keeps (configuring 8 limit s h l) AllFit Fitting tried-fits (configures body) (records-fit body b) [] room head tt)
+  configure-fits : (limit : ℕ) (l : List Entry) (body : List ℕ) (room : ℕ) → AllBytes body → AllFit (configureEvents 8 limit s l h body room)
+  configure-fits limit l body room b = configure-keeps 8 limit s h AllFit Fitting tt fit-append record-fits l body room (records-fit body b)
 
 module _ (limit : ℕ) (r : Request) (l : List Entry) (store : AllBytes (r .store)) (frame : AllBytes (r .frame)) where
   headed-fits : (x : HeaderRead) → AllFit (headedEvents limit r l x)

@@ -5,35 +5,34 @@ use mathlib.Core.List.{List, [], _∷_, _++_, append-assoc}
 use Prim.Native.Nat.{ℕ}
 use lib.ListN.{drop}
 use lib.Dec.{eqb}
-use Rattle.frame.specs.Walk.{All}
 use Rattle.frame.specs.declared.header.ZclHeader.{ZclHeader}
 use Rattle.frame.specs.declared.header.HeaderRead.{HeaderRead}
 use Rattle.frame.specs.declared.header.HeaderRead.the-variants.{Header, Short}
-use Rattle.frame.specs.declared.command_identifier.CommandIdentifier.the-variants.{ConfigureReporting, ConfigureReportingResponse}
-use Rattle.frame.specs.Header.{frameTypeOf, headerOf}
+use Rattle.frame.specs.declared.command_identifier.CommandIdentifier.the-variants.{ConfigureReporting}
+use Rattle.frame.specs.Header.{frameTypeOf, headerOf, isGlobal}
 use Rattle.frame.specs.CommandIdentifier.{commandCode}
-use Rattle.frame.proofs.States.{headed-keeps, performed-keeps}
-use Rattle.store.specs.Contents.{nameOf, findOf, clusterOf}
+use Rattle.frame.proofs.Walks.{any}
+use Rattle.store.specs.Contents.{clusterOf}
 use Rattle.store.specs.Layout.{isStore}
 use Rattle.reporting.specs.declared.entry.Key.{Key}
 use Rattle.reporting.specs.declared.entry.ReportingConfig.{ReportingConfig}
 use Rattle.reporting.specs.declared.entry.Entry.{Entry}
-use Rattle.reporting.specs.Events.{Event, configured, cleared, asked, marked, run, Honest, Wish, clears, wrong, sets, wish, eventsW, events, configRecord}
+use Rattle.reporting.specs.Wish.{Wish, toClear, toRefuse, toSet, wish}
+use Rattle.reporting.specs.Claims.Events.{Event, configured, cleared, asked, marked, Honest, eventsW}
 use Rattle.reporting.proofs.Histories.{leads-then}
 use Rattle.reporting.proofs.Promise.{demand-3}
 use Rattle.configure.specs.Request.{keyFor, ConfigureRecord, received, reported, configures}
-use Rattle.configure.specs.Configure.{setting, tried, configuring, configureEvents}
-use Rattle.configure.proofs.History.{checked-either}
-use Rattle.server.specs.UnsupportedCluster.{isGlobal}
-use Rattle.server.specs.History.{Request, requested, headedEvents, requestEvents, uses, served}
-use Rattle.server.specs.Demand3.{laterOf, Demand3OfFrames}
+use Rattle.configure.specs.Claims.History.{doneEvents}
+use Rattle.configure.proofs.History.{configure-keeps}
+use Rattle.server.specs.Claims.History.{Request, requested, headedEvents, requestEvents, uses, usesEvents}
+use Rattle.server.specs.Claims.Demand3.{laterOf, Demand3OfFrames}
 use Rattle.server.proofs.Histories.{request-is, uses-are-events}
 
 -- ---- every configuration among the events is one that the record's rule accepts
 
 abbrev Ruled : List Event → Type 0
 Ruled [] = Unit {0}
-Ruled (configured k g ∷ es) = (wish g ≡ sets) × Ruled es
+Ruled (configured k g ∷ es) = (wish g ≡ toSet) × Ruled es
 Ruled (cleared k ∷ es) = Ruled es
 Ruled (asked k now v a ∷ es) = Ruled es
 Ruled (marked k now v ∷ es) = Ruled es
@@ -45,7 +44,7 @@ ruled-append (cleared j ∷ es) fs h k = ruled-append es fs h k
 ruled-append (asked j now v a ∷ es) fs h k = ruled-append es fs h k
 ruled-append (marked j now v ∷ es) fs h k = ruled-append es fs h k
 
-ruled-at : (es : List Event) (k : Key) (g : ReportingConfig) (fs : List Event) → Ruled (es ++ (configured k g ∷ fs)) → wish g ≡ sets
+ruled-at : (es : List Event) (k : Key) (g : ReportingConfig) (fs : List Event) → Ruled (es ++ (configured k g ∷ fs)) → wish g ≡ toSet
 ruled-at [] k g fs h = h .0
 ruled-at (configured j f ∷ es) k g fs h = ruled-at es k g fs (h .1)
 ruled-at (cleared j ∷ es) k g fs h = ruled-at es k g fs h
@@ -54,33 +53,14 @@ ruled-at (marked j now v ∷ es) k g fs h = ruled-at es k g fs h
 
 -- ---- of a record, a frame and a request
 
-record-ruled : (k : Key) (g : ReportingConfig) (w : Wish) → wish g ≡ w → (accepted : Bool) → Ruled (eventsW w accepted k g)
-record-ruled k g clears e accepted = tt
-record-ruled k g wrong e accepted = tt
-record-ruled k g sets e true = (e, tt)
-record-ruled k g sets e false = tt
+wish-ruled : (k : Key) (g : ReportingConfig) (w : Wish) → wish g ≡ w → Ruled (eventsW w k g)
+wish-ruled k g toClear e = tt
+wish-ruled k g toRefuse e = tt
+wish-ruled k g toSet e = (e, tt)
 
-any : (rs : List ConfigureRecord) → All (λ (r : ConfigureRecord). Unit {0}) rs
-any [] = tt
-any (r ∷ rs) = (tt, any rs)
-
-module _ (form limit : ℕ) (s : List ℕ) (l : List Entry) (h : ZclHeader) where
-  setting-ruled : (k : Key) (g : ReportingConfig) (es : List Event) → Ruled es → Ruled (setting limit l k g es .state)
-  unfolding setting
-  setting-ruled k g es d = ruled-append es (events limit (configRecord k g) (run limit es l)) d (record-ruled k g (wish g) refl _)
-
-  tried-ruled : (es : List Event) (r : ConfigureRecord) → Ruled es → Ruled (tried form limit s h l es r .state)
-  unfolding tried
-  tried-ruled es (received direction id) d = d
-  tried-ruled es (reported id t g) d =
-      checked-either Ruled (findOf form s (nameOf (h .«manufacturer_code» .0) id)) t es (setting limit l (keyFor s h id) g es) d
-      (setting-ruled (keyFor s h id) g es d)
-
-  configure-ruled : (body : List ℕ) (room : ℕ) → Ruled (configureEvents form limit s l h body room .state)
-  unfolding configureEvents
-  configure-ruled body room =
-      headed-keeps Ruled h ConfigureReportingResponse [] room _ tt
-      (λ head. performed-keeps (configuring form limit s h l) Ruled (λ r. Unit {0}) (λ es r d u. tried-ruled es r d) (configures body) (any (configures body .list)) [] room head tt)
+record-ruled : (s : List ℕ) (h : ZclHeader) (r : ConfigureRecord) → Ruled (doneEvents s h r)
+record-ruled s h (received direction id) = tt
+record-ruled s h (reported id t g) = wish-ruled (keyFor s h id) g (wish g) refl
 
 -- what holds of events, and of none, holds of either
 ruled-either : (b : Bool) (es : List Event) → Ruled es → Ruled (cond b es [])
@@ -92,7 +72,8 @@ module _ (limit : ℕ) (r : Request) (l : List Entry) where
   headed-ruled Short = tt
   headed-ruled (Header h) =
       ruled-either (isGlobal (frameTypeOf (h .«frame_control» .0)) && eqb (h .«command_identifier» .0) (commandCode ConfigureReporting)) _
-      (configure-ruled 8 limit (r .store) l h (drop (h .body) (r .frame)) (r .room))
+      (configure-keeps 8 limit (r .store) h Ruled (λ x. Unit {0}) tt ruled-append (λ x u. record-ruled (r .store) h x) l (drop (h .body) (r .frame)) (r .room)
+      (any (configures (drop (h .body) (r .frame)) .list)))
 
   -- WHAT A REQUEST CONFIGURES, THE RULE ACCEPTS
   pub request-ruled : Ruled (requestEvents limit r l)
@@ -113,9 +94,9 @@ pub demand-3-of-frames : Demand3OfFrames
 demand-3-of-frames limit before r k g earlier rest G after p low high s =
     let l : List Entry = uses limit before [] in
     let m : List Entry = requested limit r l in
-    let A : List Event = served limit before [] in
+    let A : List Event = usesEvents limit before [] in
     let B : List Event = requestEvents limit r l in
-    let C : List Event = served limit after m in
+    let C : List Event = usesEvents limit after m in
     let behind = leads-then limit B C l m (uses limit after m) (request-is limit r l) (uses-are-events limit after m) in
     let whole = leads-then limit A (B ++ C) [] l (uses limit after m) (uses-are-events limit before []) behind in
     demand-3 limit (A ++ earlier) k g G (laterOf limit rest after m)

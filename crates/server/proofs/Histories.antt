@@ -17,7 +17,7 @@ use Rattle.frame.specs.declared.header.FrameType.the-variants.{GlobalCommand, C
 use Rattle.frame.specs.declared.command_identifier.CommandIdentifier.{CommandIdentifier}
 use Rattle.frame.specs.declared.command_identifier.CommandIdentifier.the-variants.{ReadAttributes, ReadAttributesResponse, WriteAttributes, WriteAttributesUndivided, WriteAttributesResponse, WriteAttributesNoResponse, ConfigureReporting, ConfigureReportingResponse, ReadReportingConfiguration, ReadReportingConfigurationResponse, ReportAttributes, DefaultResponse, DiscoverAttributes, DiscoverAttributesResponse, Other}
 use Rattle.frame.specs.declared.answer.Refusal.the-variants.{OtherCluster, NotAStore}
-use Rattle.frame.specs.Header.{frameTypeOf, headerOf}
+use Rattle.frame.specs.Header.{frameTypeOf, headerOf, isGlobal}
 use Rattle.frame.specs.CommandIdentifier.{commandCode, commandOf}
 use Rattle.frame.specs.Answer.{refused}
 use Rattle.frame.proofs.command_identifier.CommandIdentifier as command-identifier
@@ -25,14 +25,14 @@ use Rattle.frame.proofs.Codes.{code-of, of-code}
 use Rattle.store.specs.Contents.{clusterOf}
 use Rattle.store.specs.Layout.{isStore}
 use Rattle.reporting.specs.declared.entry.Entry.{Entry}
-use Rattle.reporting.specs.Table.{Table, sound, holding}
-use Rattle.reporting.specs.Events.{Event, Leads}
+use Rattle.reporting.specs.Table.{Table, holding, entriesOf}
+use Rattle.reporting.specs.Claims.Events.{Event, Leads}
 use Rattle.reporting.proofs.Histories.{call-is, leads-then}
-use Rattle.configure.specs.Configure.{configureEvents, configureOf}
+use Rattle.configure.specs.Configure.{configureOf}
+use Rattle.configure.specs.Claims.History.{configureEvents}
 use Rattle.configure.proofs.History.{configure-leads}
 use Rattle.server.specs.Serve.{state, commanded, typed, byHeader, tabled, serve}
-use Rattle.server.specs.UnsupportedCluster.{isGlobal}
-use Rattle.server.specs.History.{Request, entriesOf, requested, headedEvents, requestEvents, Use, request, direct, used, useEvents, uses, served, UsesAreEvents}
+use Rattle.server.specs.Claims.History.{Request, requested, headedEvents, requestEvents, Use, request, direct, used, useEvents, uses, usesEvents, UsesAreEvents}
 use Rattle.server.proofs.Cases.{commanded-case, serve-case}
 
 -- no events leave the entries
@@ -45,7 +45,7 @@ module _ (limit : ℕ) (r : Request) (l : List Entry) where
   module _ (h : ZclHeader) where
     -- what the header's body would be as a Configure Reporting frame
     abbrev own : List Event
-    own = configureEvents 8 limit (r .store) l h (drop (h .body) (r .frame)) (r .room) .state
+    own = configureEvents 8 limit (r .store) l h (drop (h .body) (r .frame)) (r .room)
 
     -- only Configure Reporting changes the table, and only it has the code 06
     by-command : (c : CommandIdentifier) → commandOf (commandCode c) ≡ c
@@ -110,26 +110,17 @@ abbrev Held : Table → Type 0
 Held t = t ≡ holding (entriesOf t)
 
 module _ (limit : ℕ) (r : Request) where
-  commanded-held : (n : ℕ) (l : List Entry) (h : ZclHeader) (body : List ℕ) (c : CommandIdentifier) → Held (sound n l)
-      → Held (commanded 8 limit (r .store) (sound n l) (r .unicast) h body (r .room) c .state .table)
+  commanded-held : (l : List Entry) (h : ZclHeader) (body : List ℕ) (c : CommandIdentifier)
+      → Held (commanded 8 limit (r .store) (holding l) (r .unicast) h body (r .room) c .state .table)
   unfolding configureOf
-  commanded-held n l h body =
-      commanded-case 8 limit (r .store) (sound n l) (r .unicast) body (r .room) (λ f. Held (sound n l) → Held (f h .state .table))
-      (record {
-        read = λ e. e;
-        write = λ e. e;
-        undivided = λ e. e;
-        silently = λ e. e;
-        configure = λ e. refl;
-        configuration = λ e. e;
-        discover = λ e. e;
-        other = λ e. e;
-      })
+  commanded-held l h body =
+      commanded-case 8 limit (r .store) (holding l) (r .unicast) body (r .room) (λ f. Held (f h .state .table))
+      (record { read = refl; write = refl; undivided = refl; silently = refl; configure = refl; configuration = refl; discover = refl; other = refl })
 
   pub request-holds : (l : List Entry) → serve 8 limit (r .store) (holding l) (r .cluster) (r .unicast) (r .frame) (r .room) .state .table ≡ holding (requested limit r l)
   unfolding requested
   request-holds l =
-      serve-case 8 limit (r .store) (r .unicast) (r .room) (λ t o. Held t → Held (o .state .table)) (λ t why e h. h) commanded-held (r .cluster) (r .frame) (holding l) refl
+      serve-case 8 limit (r .store) (r .unicast) (r .room) (λ t o. Held t → Held (o .state .table)) (λ t why e h. h) (λ l h body c e. commanded-held l h body c) (r .cluster) (r .frame) (holding l) refl
 
 -- ---- uses
 
@@ -140,5 +131,5 @@ use-is limit (direct c) l = call-is limit c l
 pub uses-are-events : UsesAreEvents
 uses-are-events limit [] l = nothing limit l
 uses-are-events limit (u ∷ us) l =
-    leads-then limit (useEvents limit u l) (served limit us (used limit u l)) l (used limit u l) (uses limit us (used limit u l)) (use-is limit u l)
+    leads-then limit (useEvents limit u l) (usesEvents limit us (used limit u l)) l (used limit u l) (uses limit us (used limit u l)) (use-is limit u l)
     (uses-are-events limit us (used limit u l))

@@ -16,15 +16,16 @@ use Rattle.frame.specs.declared.command_identifier.CommandIdentifier.the-varian
 use Rattle.frame.specs.declared.status.Status.the-variants.{UnsupportedCluster}
 use Rattle.frame.specs.declared.answer.Refusal.the-variants.{OtherCluster, HeaderShort, NothingToSend, NotAStore}
 use Rattle.frame.specs.CommandIdentifier.{commandCode}
-use Rattle.frame.specs.Header.{frameTypeOf, hasCode, headerOf}
+use Rattle.frame.specs.Header.{frameTypeOf, isGlobal, hasCode, headerOf}
 use Rattle.frame.specs.Answer.{Outcome, noState, refused}
 use Rattle.frame.proofs.Headers.{header-plain, header-coded, header-short, header-coded-short}
 use Rattle.store.specs.Contents.{clusterOf}
 use Rattle.store.specs.Layout.{isStore}
-use Rattle.reporting.specs.Table.{Table, sound, bad}
+use Rattle.reporting.specs.Table.{Table, holding, bad}
 use Rattle.server.specs.DefaultResponse.{defaultResponse}
-use Rattle.server.specs.Serve.{State, state, typed, byHeader, tabled, serve, ControlBitsDoNotMatter, ManufacturerCodeDoesNotMatter}
-use Rattle.server.specs.UnsupportedCluster.{among, isGlobal, isDefaultResponse, respond, unsupportedCluster, ResponderControlBitsDoNotMatter, ResponderManufacturerCodeDoesNotMatter}
+use Rattle.server.specs.Serve.{State, state, typed, byHeader, tabled, serve}
+use Rattle.server.specs.Claims.Indifferent.{ControlBitsDoNotMatter, ManufacturerCodeDoesNotMatter, ResponderControlBitsDoNotMatter, ResponderManufacturerCodeDoesNotMatter}
+use Rattle.server.specs.UnsupportedCluster.{isServed, isDefaultResponse, respond, unsupportedCluster}
 use Rattle.server.proofs.Sees.{bare, default-sees, typed-sees}
 
 -- a request with this sequence number and command, and no more of a header
@@ -128,8 +129,8 @@ module _ (form limit : ℕ) (s : List ℕ) where
       (same : (t : Table) → byHeader form limit s t unicast frame room (headerOf frame) ≡ byHeader form limit s t unicast other room (headerOf other)) where
     tabled-alike : (t : Table) → tabled form limit s cluster unicast frame room t ≡ tabled form limit s cluster unicast other room t
     unfolding tabled
-    tabled-alike (sound n l) =
-        ap (λ (o : Outcome State). cond (eqb cluster (clusterOf s)) o (refused room OtherCluster (state s (sound n l)))) (same (sound n l))
+    tabled-alike (holding l) =
+        ap (λ (o : Outcome State). cond (eqb cluster (clusterOf s)) o (refused room OtherCluster (state s (holding l)))) (same (holding l))
     tabled-alike (bad t) = refl
 
     -- what holds from the header on holds from the start
@@ -165,7 +166,7 @@ module _ (unicast : Bool) (room : ℕ) where
 responded-alike : (served : List ℕ) (cluster : ℕ) (unicast : Bool) (room : ℕ) (frame other : List ℕ) → respond unicast room (headerOf frame) ≡ respond unicast room (headerOf other)
     → unsupportedCluster served cluster unicast frame room ≡ unsupportedCluster served cluster unicast other room
 unfolding unsupportedCluster
-responded-alike served cluster unicast room frame other e = ap (cond (among cluster served) (refused room NothingToSend noState)) e
+responded-alike served cluster unicast room frame other e = ap (cond (isServed cluster served) (refused room NothingToSend noState)) e
 
 pub responder-control-bits : ResponderControlBitsDoNotMatter
 responder-control-bits served cluster unicast room control other rest e =

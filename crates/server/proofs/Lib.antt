@@ -15,6 +15,11 @@ pub mod Refusals  -- what every answer leaves
 pub mod Elsewhere  -- what the responder and a report leave
 pub mod Starting  -- how every reply starts
 pub mod Stays  -- a store stays a store
+pub mod Heard  -- a frame reaches its command, or not
+pub mod Troubles  -- which trouble counts in a write, and in a configure request
+pub mod Undivided  -- and in an undivided write
+pub mod WorkedTroubles  -- frames that meet what is supposed there of writes, computed
+pub mod WorkedConfigureTroubles  -- and of configure requests
 pub mod Unique  -- no second answer fits
 pub mod Histories  -- a request is its events
 pub mod Frames  -- demand 3 with frames

@@ -11,7 +11,7 @@ use types.Run.{OneOf, miss}
 use denote.Enum.Declared.{tagOf}
 use Rattle.frame.proofs.header.FrameType as frame-type
 use Rattle.frame.specs.Answer.{noState, refused}
-use Rattle.frame.specs.Header.{headerOf}
+use Rattle.frame.specs.Header.{isGlobal, headerOf}
 use Rattle.frame.specs.declared.header.ZclHeader.{ZclHeader}
 use Rattle.frame.specs.declared.header.HeaderRead.the-variants.{Header, Short}
 use Rattle.frame.specs.declared.header.FrameType.{FrameType}
@@ -19,21 +19,21 @@ use Rattle.frame.specs.declared.header.FrameType.the-variants.{GlobalCommand, C
 use Rattle.frame.specs.declared.status.Status.the-variants.{UnsupportedCluster}
 use Rattle.frame.specs.declared.answer.Refusal.the-variants.{HeaderShort, NothingToSend}
 use Rattle.server.specs.DefaultResponse.{defaultResponse}
-use Rattle.server.specs.UnsupportedCluster.{among, isGlobal, isDefaultResponse, respond, unsupportedCluster}
+use Rattle.server.specs.UnsupportedCluster.{isServed, isDefaultResponse, respond, unsupportedCluster}
 
 -- ---- the scan: what is left of the list decides as the whole does
 
-module _ (wanted : ℕ) (l : List ℕ) (i : ℕ) (so-far : among wanted (drop i l) ≡ among wanted l) where
-  pub served-here : i < length l → getD l i 0 ≡ wanted → true ≡ among wanted l
-  unfolding among
+module _ (wanted : ℕ) (l : List ℕ) (i : ℕ) (so-far : isServed wanted (drop i l) ≡ isServed wanted l) where
+  pub served-here : i < length l → getD l i 0 ≡ wanted → true ≡ isServed wanted l
+  unfolding isServed
   served-here h e = sym (rw (drop-cons l i 0 h, eq-eqb (getD l i 0) wanted e) refl) ∙ so-far
 
-  pub served-further : i < length l → (getD l i 0 ≡ wanted → ⊥) → among wanted (drop (i + 1) l) ≡ among wanted l
-  unfolding among
+  pub served-further : i < length l → (getD l i 0 ≡ wanted → ⊥) → isServed wanted (drop (i + 1) l) ≡ isServed wanted l
+  unfolding isServed
   served-further h e = sym (rw (drop-cons l i 0 h, ne-eqb (getD l i 0) wanted e, add-one i) refl) ∙ so-far
 
-  pub served-nowhere : length l ≤ i → false ≡ among wanted l
-  unfolding among
+  pub served-nowhere : length l ≤ i → false ≡ isServed wanted l
+  unfolding isServed
   served-nowhere h = sym (rw (drop-of-length-le l h) refl) ∙ so-far
 
 -- ---- the responder
@@ -45,11 +45,11 @@ not-global ClusterCommand o b = refl
 not-global Reserved o b = refl
 
 module _ (served : List ℕ) (cluster : ℕ) (unicast : Bool) (frame : List ℕ) (room : ℕ) where
-  pub respond-served : among cluster served ≡ true → refused room NothingToSend noState ≡ unsupportedCluster served cluster unicast frame room
+  pub respond-served : isServed cluster served ≡ true → refused room NothingToSend noState ≡ unsupportedCluster served cluster unicast frame room
   unfolding unsupportedCluster
   respond-served e = rw e
 
-  module _ (other : among cluster served ≡ false) where
+  module _ (other : isServed cluster served ≡ false) where
     responds : respond unicast room (headerOf frame) ≡ unsupportedCluster served cluster unicast frame room
     unfolding unsupportedCluster
     responds = rw other

@@ -10,7 +10,7 @@ use Rattle.frame.specs.Answer.{refusalNumber, Outcome, refused}
 use Rattle.frame.proofs.Codes.{refusal-same, refusal-nonzero}
 use Rattle.reporting.specs.Table.{Table}
 use Rattle.server.specs.Serve.{State, state, serve}
-use Rattle.server.specs.Left.{Early, RefusalClears, ReplyThenZeros, ReplyLength, Untouched}
+use Rattle.server.specs.Claims.Left.{Early, RefusalClears, ReplyThenZeros, ReplyLength, Untouched}
 use Rattle.server.proofs.Cases.{Own, apart, serve-case}
 use Rattle.server.proofs.Shapes.{Shape, replies, refuses, commanded-shape}
 use Rattle.server.proofs.Says.{Says, sends, declines, says-clears, says-zeros, says-long}
@@ -22,7 +22,7 @@ pub data Ways (room : ℕ) (s : List ℕ) (t : Table) (o : Outcome State) : Type
 
 pub serve-ways : (form limit : ℕ) (s : List ℕ) (unicast : Bool) (room cluster : ℕ) (frame : List ℕ) (t : Table) → Ways room s t (serve form limit s t cluster unicast frame room)
 serve-ways form limit s unicast room =
-    serve-case form limit s unicast room (Ways room s) (λ t why e. first why e refl) (λ n l h body c. then _ (commanded-shape form limit s n l unicast h body room c))
+    serve-case form limit s unicast room (Ways room s) (λ t why e. first why e refl) (λ l h body c. then _ (commanded-shape form limit s l unicast h body room c))
 
 -- ---- what each way leaves
 

@@ -1,5 +1,5 @@
 -- A call replies, behind a head, or refuses, whatever else it may change; so its reply buffer is left as the claims say. Assumes nothing.
-use mathlib.Core.Path.{_≡_, refl, sym, ap, _∙_}
+use mathlib.Core.Path.{_≡_, sym, ap, _∙_}
 use mathlib.Core.Bool.{Bool, true, false, cond}
 use mathlib.Core.List.{List, _++_}
 use Prim.Native.Nat.{ℕ, _≤_}
@@ -13,8 +13,8 @@ use Rattle.frame.specs.Reply.{padded}
 use Rattle.frame.specs.Answer.{Outcome, replied, refused}
 use Rattle.frame.proofs.Buffer.{length-padded, take-padded}
 use Rattle.frame.proofs.Codes.{refusal-nonzero}
-use Rattle.server.specs.Left.{Clears, ThenZeros, AsLong}
-use Rattle.server.specs.Starts.{Starts}
+use Rattle.server.specs.Claims.Left.{Clears, ThenZeros, AsLong}
+use Rattle.server.specs.Claims.Starts.{Starts}
 use Rattle.server.proofs.Shapes.{Shape, replies, refuses}
 
 pub data Says {S : Type 0} (head : List ℕ) (room : ℕ) (o : Outcome S) : Type 0 where

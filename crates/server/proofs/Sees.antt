@@ -4,7 +4,7 @@
 -- Where a case stands in between (a walk's end, a record), it is split first.
 use mathlib.Core.Path.{_≡_, refl, ap, _∙_, fun-ext}
 use mathlib.Core.Bool.{Bool, false, _&&_, and-false}
-use mathlib.Core.List.{List, []}
+use mathlib.Core.List.{List}
 use Prim.Native.Nat.{ℕ, _/_, _%_}
 use lib.ListN.{length}
 use lib.Dec.{eqb}
@@ -16,21 +16,21 @@ use Rattle.frame.specs.declared.status.Status.the-variants.{UnsupCommand}
 use Rattle.frame.specs.declared.command_identifier.CommandIdentifier.{CommandIdentifier}
 use Rattle.frame.specs.declared.command_identifier.CommandIdentifier.the-variants.{WriteAttributesResponse, ConfigureReportingResponse}
 use Rattle.frame.specs.Header.{replyHead}
+use Rattle.frame.specs.Answer.{within}
 use Rattle.frame.specs.Status.{statusCode}
 use Rattle.frame.specs.CommandIdentifier.{commandOf}
 use Rattle.frame.specs.Walk.{Way, through, broken, stopped}
 use Rattle.frame.specs.Encoded.{fits}
 use Rattle.frame.specs.Failures.{Did, Sofar, pass, performed, headed}
 use Rattle.reporting.specs.declared.entry.Entry.{Entry}
-use Rattle.reporting.specs.Table.{Table, sound, bad}
-use Rattle.reporting.specs.Events.{Event}
+use Rattle.reporting.specs.Table.{Table, holding, bad}
 use Rattle.read.specs.Read.{recordFor, readOf}
 use Rattle.write.specs.Request.{records}
 use Rattle.write.specs.Reply.{Failure, encode}
 use Rattle.write.specs.Write.{written, checked, checking, undivided, writeAttributes, writeUndivided, writeSilently}
 use Rattle.discover.specs.Discover.{discoverOf}
 use Rattle.configure.specs.Request.{ConfigureRecord, received, reported, configures}
-use Rattle.configure.specs.Configure.{failing, encode as failed, tried, configureEvents, left, configureOf}
+use Rattle.configure.specs.Configure.{failing, encode as failed, tried, configureEntries, configureOf}
 use Rattle.configure.specs.Configuration.{recordFor as settingFor, configurationOf}
 use Rattle.server.specs.DefaultResponse.{silences, defaultReply, defaultResponse}
 use Rattle.server.specs.Serve.{neither, storing, tabling, unsupported, commanded, typed}
@@ -58,21 +58,21 @@ module _ (form : ℕ) (s : List ℕ) (h : ZclHeader) (body : List ℕ) (room : �
   unfolding writeUndivided checked headed replyHead
   undivided-sees = ap (headed h WriteAttributesResponse s room) (fun-ext (λ head. undivided-by head (pass (checking form h) (fits encode room (length head)) (records body) s)))
 
-  tried-sees : (limit : ℕ) (l : List Entry) (es : List Event) (r : ConfigureRecord) → tried form limit s h l es r ≡ tried form limit s (bare h) l es r
+  tried-sees : (limit : ℕ) (l : List Entry) (r : ConfigureRecord) → tried form limit s h l r ≡ tried form limit s (bare h) l r
   unfolding tried
-  tried-sees limit l es (received direction id) = refl
-  tried-sees limit l es (reported id t g) = refl
+  tried-sees limit l (received direction id) = refl
+  tried-sees limit l (reported id t g) = refl
 
   configure-sees : (limit : ℕ) (t : Table) → configureOf form limit s t h body room ≡ configureOf form limit s t (bare h) body room
-  unfolding configureOf configureEvents headed replyHead
-  configure-sees limit (sound n l) =
-      ap (λ (does : List Event → ConfigureRecord → Did (List Event)). left limit l (headed h ConfigureReportingResponse [] room (performed (record { does = does; fails = failing; bytes = failed }) (configures body) [] room)))
-      (fun-ext (λ es. fun-ext (tried-sees limit l es)))
+  unfolding configureOf configureEntries headed replyHead
+  configure-sees limit (holding l) =
+      ap (λ (does : List Entry → ConfigureRecord → Did (List Entry)). within holding (headed h ConfigureReportingResponse l room (performed (record { does = does; fails = failing; bytes = failed }) (configures body) l room)))
+      (fun-ext (λ m. fun-ext (tried-sees limit m)))
   configure-sees limit (bad t) = refl
 
   configuration-sees : (t : Table) → configurationOf form s t h body room ≡ configurationOf form s t (bare h) body room
   unfolding configurationOf settingFor replyHead
-  configuration-sees (sound n l) = refl
+  configuration-sees (holding l) = refl
   configuration-sees (bad t) = refl
 
 -- bit 4 silences a SUCCESS only

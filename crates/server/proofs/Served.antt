@@ -3,55 +3,53 @@ use mathlib.Core.Path.{_≡_, refl, sym, ap, _∙_}
 use mathlib.Core.Bool.{Bool, true, false, cond, false≢true}
 use mathlib.Core.List.{List, map}
 use Prim.Native.Nat.{ℕ, _≤_}
-use native.Mathlib.Omega.{arith}
-use lib.ListN.{length, take, length-map}
+use lib.ListN.{length, take}
 use lib.Dec.{leb}
-use borrow.Author.Tests.{eq-eqb, ne-eqb, le-ltb, lt-ltb, leb-true, leb-false}
+use borrow.Author.Tests.{eq-eqb, ne-eqb, lt-ltb, leb-true, leb-false}
 use Rattle.types.specs.Number.{AllBytes}
 use Rattle.frame.specs.declared.header.HeaderRead.{HeaderRead}
 use Rattle.frame.specs.declared.answer.Answer.{Answer}
 use Rattle.frame.specs.declared.answer.Refusal.the-variants.{OtherCluster, NotAStore, NotATable}
 use Rattle.frame.specs.Header.{headerOf}
-use Rattle.frame.specs.Answer.{noState, seen, refused}
+use Rattle.frame.specs.Answer.{within, noState, seen, refused}
 use Rattle.frame.proofs.Outcome.{refused-with}
 use Rattle.store.specs.Contents.{clusterOf}
 use Rattle.store.specs.Layout.{isStore}
 use Rattle.reporting.specs.declared.entry.Entry.{Entry}
 use Rattle.reporting.specs.declared.table.ReportingTable.{ReportingTable}
 use Rattle.reporting.specs.declared.carried.ReadTable.{ReadTable}
-use Rattle.reporting.specs.Table.{room, Table, sound, bad, live, tableOf, holding}
+use Rattle.reporting.specs.Table.{capacity, Table, bad, live, tableOf, holding}
 use Rattle.reporting.specs.Carried.{quieted, isTable, tableIn, tableBytes, Reading, reading, readT, Written, written, writeT}
 use Rattle.reporting.specs.Carried as Carried
 use Rattle.reporting.specs.Lent.{quietedT}
-use Rattle.reporting.proofs.CarriageTable.{bytes-back, table-count}
-use Rattle.reporting.proofs.CarriageLoops.{known-count, table-size}
-use Rattle.reporting.proofs.Slots.{live-length}
-use Rattle.configure.proofs.Settings.{carries-is, carries-own}
-use Rattle.server.specs.Serve.{state, within, byHeader, tabled, serve}
+use Rattle.reporting.proofs.CarriageTable.{bytes-back, read-own, read-is}
+use Rattle.reporting.proofs.CarriageLoops.{table-size}
+use Rattle.reporting.proofs.Slots.{is-table}
+use Rattle.server.specs.Serve.{state, byHeader, tabled, serve}
 use Rattle.server.specs.Lent.{Lent, lent, carried, serveLent}
-use Rattle.server.specs.Inside.{Over}
+use Rattle.server.specs.Inside.{OverBytes}
 
 -- ---- the checks, one by one
 
 module _ (s : List ℕ) (l : List Entry) (cluster : ℕ) (unicast : Bool) (frame : List ℕ) (n : ℕ) where
-  pub serve-no-store : isStore 8 s ≡ false → refused n NotAStore (state s (holding l)) ≡ serve 8 room s (holding l) cluster unicast frame n
+  pub serve-no-store : isStore 8 s ≡ false → refused n NotAStore (state s (holding l)) ≡ serve 8 capacity s (holding l) cluster unicast frame n
   unfolding serve
   serve-no-store e = rw e
 
   module _ (store : isStore 8 s ≡ true) (own : ℕ) (is : own ≡ clusterOf s) where
-    pub serve-other : (own ≡ cluster → ⊥) → refused n OtherCluster (state s (holding l)) ≡ serve 8 room s (holding l) cluster unicast frame n
+    pub serve-other : (own ≡ cluster → ⊥) → refused n OtherCluster (state s (holding l)) ≡ serve 8 capacity s (holding l) cluster unicast frame n
     unfolding serve tabled
     serve-other q = rw (store, ne-eqb cluster (clusterOf s) (λ p. q (is ∙ sym p)))
 
-    pub serve-read : own ≡ cluster → (r : HeaderRead) → r ≡ headerOf frame → byHeader 8 room s (holding l) unicast frame n r ≡ serve 8 room s (holding l) cluster unicast frame n
+    pub serve-read : own ≡ cluster → (r : HeaderRead) → r ≡ headerOf frame → byHeader 8 capacity s (holding l) unicast frame n r ≡ serve 8 capacity s (holding l) cluster unicast frame n
     unfolding serve tabled
-    serve-read q r e = ap (byHeader 8 room s (holding l) unicast frame n) e ∙ rw (store, eq-eqb cluster (clusterOf s) (sym q ∙ is))
+    serve-read q r e = ap (byHeader 8 capacity s (holding l) unicast frame n) e ∙ rw (store, eq-eqb cluster (clusterOf s) (sym q ∙ is))
 
 -- ---- over bytes of which it is known whether they are a table
 
 module _ (s bs : List ℕ) (cluster : ℕ) (unicast : Bool) (frame : List ℕ) (n : ℕ) (known : Bool) (a : Answer) (d : List ℕ) where
-  pub over-no-store : isStore 8 s ≡ false → (known ≡ true → isTable room bs ≡ true) → seen a d noState ≡ refused n NotAStore noState
-      → Over known s bs cluster unicast frame n a d s bs
+  pub over-no-store : isStore 8 s ≡ false → (known ≡ true → isTable capacity bs ≡ true) → seen a d noState ≡ refused n NotAStore noState
+      → OverBytes known s bs cluster unicast frame n a d s bs
   over-no-store h is e =
       record {
         stays = is;
@@ -59,7 +57,7 @@ module _ (s bs : List ℕ) (cluster : ℕ) (unicast : Bool) (frame : List ℕ) (
         fails = λ k. refused-with a d n NotAStore (lent s bs) e ∙ ap (λ (b : Bool). refused n (cond b NotATable NotAStore) (lent s bs)) (sym h);
       }
 
-  pub over-no-table : isStore 8 s ≡ true → known ≡ false → seen a d noState ≡ refused n NotATable noState → Over known s bs cluster unicast frame n a d s bs
+  pub over-no-table : isStore 8 s ≡ true → known ≡ false → seen a d noState ≡ refused n NotATable noState → OverBytes known s bs cluster unicast frame n a d s bs
   over-no-table h none e =
       record {
         stays = λ k. absurd (false≢true (sym none ∙ k));
@@ -67,26 +65,26 @@ module _ (s bs : List ℕ) (cluster : ℕ) (unicast : Bool) (frame : List ℕ) (
         fails = λ k. refused-with a d n NotATable (lent s bs) e ∙ ap (λ (b : Bool). refused n (cond b NotATable NotAStore) (lent s bs)) (sym h);
       }
 
-  pub over-table : known ≡ true → (s′ bs′ : List ℕ) → isTable room bs′ ≡ true
-      → seen a d (state s′ (holding (tableIn bs′))) ≡ serve 8 room s (holding (tableIn bs)) cluster unicast frame n → Over known s bs cluster unicast frame n a d s′ bs′
+  pub over-table : known ≡ true → (s′ bs′ : List ℕ) → isTable capacity bs′ ≡ true
+      → seen a d (state s′ (holding (tableIn bs′))) ≡ serve 8 capacity s (holding (tableIn bs)) cluster unicast frame n → OverBytes known s bs cluster unicast frame n a d s′ bs′
   over-table one s′ bs′ is e = record { stays = λ k. is; served = λ k. e; fails = λ k. absurd (false≢true (sym k ∙ one)) }
 
 -- ---- over bytes
 
 module _ (s bs : List ℕ) (cluster : ℕ) (unicast : Bool) (frame : List ℕ) (n : ℕ) (a : Answer) (d : List ℕ) where
   -- that are no table
-  lent-refused : isTable room bs ≡ false → refused n (cond (isStore 8 s) NotATable NotAStore) (lent s bs) ≡ serveLent s bs cluster unicast frame n
+  lent-refused : isTable capacity bs ≡ false → refused n (cond (isStore 8 s) NotATable NotAStore) (lent s bs) ≡ serveLent s bs cluster unicast frame n
   unfolding serveLent
   lent-refused is = rw is
 
   -- that are one: they are one still, and these are its bytes
-  lent-served : isTable room bs ≡ true → (s′ bs′ : List ℕ) → AllBytes bs′ → isTable room bs′ ≡ true
-      → seen a d (state s′ (holding (tableIn bs′))) ≡ serve 8 room s (holding (tableIn bs)) cluster unicast frame n → seen a d (lent s′ bs′) ≡ serveLent s bs cluster unicast frame n
+  lent-served : isTable capacity bs ≡ true → (s′ bs′ : List ℕ) → AllBytes bs′ → isTable capacity bs′ ≡ true
+      → seen a d (state s′ (holding (tableIn bs′))) ≡ serve 8 capacity s (holding (tableIn bs)) cluster unicast frame n → seen a d (lent s′ bs′) ≡ serveLent s bs cluster unicast frame n
   unfolding serveLent
   lent-served is s′ bs′ b is′ e =
-      ap (λ (x : List ℕ). seen a d (lent s′ x)) (sym (bytes-back room bs′ b is′)) ∙ ap (within (carried bs)) e ∙ rw is
+      ap (λ (x : List ℕ). seen a d (lent s′ x)) (sym (bytes-back capacity bs′ b is′)) ∙ ap (within (carried bs)) e ∙ rw is
 
-  pub lent-over : (known : Bool) → known ≡ isTable room bs → (s′ bs′ : List ℕ) → AllBytes bs′ → Over known s bs cluster unicast frame n a d s′ bs′
+  pub lent-over : (known : Bool) → known ≡ isTable capacity bs → (s′ bs′ : List ℕ) → AllBytes bs′ → OverBytes known s bs cluster unicast frame n a d s′ bs′
       → seen a d (lent s′ bs′) ≡ serveLent s bs cluster unicast frame n
   lent-over true is s′ bs′ b o = lent-served (sym is) s′ bs′ b (o .stays refl) (o .served refl)
   lent-over false is s′ bs′ b o = o .fails refl ∙ lent-refused (sym is)
@@ -108,13 +106,13 @@ module _ (t : ReportingTable) (bs : List ℕ) (size : length bs ≡ 465) (w : Bo
 
   -- a count above the limit
   pub not-written : w ≡ false → tableOf t ≡ bad t
-  not-written q = rw (lt-ltb room (t .count) (leb-false (t .count) 16 (sym is-written ∙ q)))
+  not-written q = rw (lt-ltb capacity (t .count) (leb-false (t .count) 16 (sym is-written ∙ q)))
 
-  pub was-written : w ≡ true → t .count ≤ room
+  pub was-written : w ≡ true → t .count ≤ capacity
   was-written q = leb-true (t .count) 16 (sym is-written ∙ q)
 
 module _ (s : List ℕ) (t : ReportingTable) (cluster : ℕ) (unicast : Bool) (frame : List ℕ) (n : ℕ) (a : Answer) (d : List ℕ) where
-  refused-bad : (u : ReportingTable) → refused n (cond (isStore 8 s) NotATable NotAStore) (state s (bad u)) ≡ serve 8 room s (bad u) cluster unicast frame n
+  refused-bad : (u : ReportingTable) → refused n (cond (isStore 8 s) NotATable NotAStore) (state s (bad u)) ≡ serve 8 capacity s (bad u) cluster unicast frame n
   unfolding serve tabled
   refused-bad u = go (isStore 8 s)
     where
@@ -124,32 +122,19 @@ module _ (s : List ℕ) (t : ReportingTable) (cluster : ℕ) (unicast : Bool) (f
 
   -- that is no table
   pub value-refused : tableOf t ≡ bad t → (bs s′ bs′ : List ℕ) → seen a d (lent s′ bs′) ≡ refused n (cond (isStore 8 s) NotATable NotAStore) (lent s bs)
-      → seen a d (state s′ (tableOf t)) ≡ serve 8 room s (quietedT (tableOf t)) cluster unicast frame n
+      → seen a d (state s′ (tableOf t)) ≡ serve 8 capacity s (quietedT (tableOf t)) cluster unicast frame n
   value-refused h bs s′ bs′ e =
       ap (within (λ (x : Lent). state (x .store) (tableOf t))) e
       ∙ ap (λ (x : Table). refused n (cond (isStore 8 s) NotATable NotAStore) (state s x)) h
       ∙ refused-bad t
-      ∙ sym (ap (λ (x : Table). serve 8 room s (quietedT x) cluster unicast frame n) h)
+      ∙ sym (ap (λ (x : Table). serve 8 capacity s (quietedT x) cluster unicast frame n) h)
 
   -- that is one: as its bytes, and the table read from them afterwards
-  pub value-served : t .count ≤ room → length (t .entries) ≡ room → (bs : List ℕ) → readT 16 bs ≡ Carried.seen true (map quieted (live t))
-      → (s′ bs′ : List ℕ) → isTable room bs′ ≡ true → seen a d (state s′ (holding (tableIn bs′))) ≡ serve 8 room s (holding (tableIn bs)) cluster unicast frame n
-      → (r : ReadTable) → reading r ≡ readT 16 bs′ → seen a d (state s′ (tableOf (r .table))) ≡ serve 8 room s (quietedT (tableOf t)) cluster unicast frame n
-  value-served small slots bs c s′ bs′ is′ e r g =
-      ap (λ (x : Table). seen a d (state s′ x)) (read-back r bs′ is′ g)
+  pub value-served : t .count ≤ capacity → (bs : List ℕ) → readT 16 bs ≡ Carried.tableRead true (map quieted (live t))
+      → (s′ bs′ : List ℕ) → isTable capacity bs′ ≡ true → seen a d (state s′ (holding (tableIn bs′))) ≡ serve 8 capacity s (holding (tableIn bs)) cluster unicast frame n
+      → (r : ReadTable) → reading r ≡ readT 16 bs′ → seen a d (state s′ (tableOf (r .table))) ≡ serve 8 capacity s (quietedT (tableOf t)) cluster unicast frame n
+  value-served small bs c s′ bs′ is′ e r g =
+      ap (λ (x : Reading). seen a d (state s′ (x .table))) (g ∙ read-own capacity bs′ is′)
       ∙ e
-      ∙ ap (λ (l : List Entry). serve 8 room s (holding l) cluster unicast frame n) (carries-is bs (map quieted (live t)) c .1)
-      ∙ sym (ap (λ (x : Table). serve 8 room s (quietedT x) cluster unicast frame n) is-sound ∙ ap (λ (k : ℕ). serve 8 room s (sound k (map quieted (live t))) cluster unicast frame n) counted)
-    where
-      is-sound : tableOf t ≡ sound (t .count) (live t)
-      is-sound = rw (le-ltb room (t .count) small)
-
-      counted : t .count ≡ length (map quieted (live t))
-      counted = sym (length-map (live t) quieted ∙ live-length t slots small)
-
-      read-back : (r : ReadTable) (bs′ : List ℕ) → isTable room bs′ ≡ true → reading r ≡ readT 16 bs′ → tableOf (r .table) ≡ holding (tableIn bs′)
-      read-back r bs′ is g =
-          let p = g ∙ carries-own bs′ is in
-          let k : r .table .count ≡ length (tableIn bs′) = ap (λ (x : Reading). x .count) p in
-          rw (le-ltb room (r .table .count) (omega (arith, k, table-count bs′, known-count bs′ is)))
-          (λ i. sound (k i) (ap (λ (x : Reading). x .entries) p i))
+      ∙ ap (λ (l : List Entry). serve 8 capacity s (holding l) cluster unicast frame n) (read-is capacity bs (map quieted (live t)) c .1)
+      ∙ sym (ap (λ (x : Table). serve 8 capacity s (quietedT x) cluster unicast frame n) (is-table t small))

@@ -14,7 +14,7 @@ use Rattle.frame.specs.declared.command_identifier.CommandIdentifier.{CommandId
 use Rattle.frame.specs.declared.command_identifier.CommandIdentifier.the-variants.{ReadAttributes, ReadAttributesResponse, WriteAttributes, WriteAttributesUndivided, WriteAttributesResponse, WriteAttributesNoResponse, ConfigureReporting, ConfigureReportingResponse, ReadReportingConfiguration, ReadReportingConfigurationResponse, ReportAttributes, DefaultResponse, DiscoverAttributes, DiscoverAttributesResponse, Other}
 use Rattle.frame.specs.declared.answer.Refusal.{Refusal}
 use Rattle.frame.specs.declared.answer.Refusal.the-variants.{RecordCut, ReplyTooLong, NothingToSend}
-use Rattle.frame.specs.Answer.{Outcome, noState, replied, refused}
+use Rattle.frame.specs.Answer.{Outcome, within, noState, replied, refused}
 use Rattle.frame.specs.Header.{replyHead}
 use Rattle.frame.specs.Status.{statusCode}
 use Rattle.frame.specs.Walk.{Records, Way, through, broken, stopped}
@@ -24,8 +24,7 @@ use Rattle.frame.specs.Failures.{Doing, Sofar, pass, encodeFailures, answered, 
 use Rattle.frame.proofs.Shortened.{shortened-within}
 use Rattle.store.specs.declared.lookup.Attribute.{Attribute}
 use Rattle.reporting.specs.declared.entry.Entry.{Entry}
-use Rattle.reporting.specs.Table.{sound, holding}
-use Rattle.reporting.specs.Events.{run}
+use Rattle.reporting.specs.Table.{holding}
 use Rattle.read.specs.Read.{readOf}
 use Rattle.write.specs.Request.{records}
 use Rattle.write.specs.Reply.{Failure, encode}
@@ -33,11 +32,11 @@ use Rattle.write.specs.Write.{writing, ifNone, undivided, writeAttributes, writ
 use Rattle.discover.specs.Discover.{listed, completeByte, discoverReply, discoverOf}
 use Rattle.discover.specs.Inside.{recordsOf}
 use Rattle.discover.proofs.Choice.{listed-within}
-use Rattle.configure.specs.Configure.{configureEvents, configureOf}
+use Rattle.configure.specs.Configure.{configureEntries, configureOf}
 use Rattle.configure.specs.Configuration.{configurationOf}
 use Rattle.server.specs.DefaultResponse.{silences, defaultReply, defaultResponse}
-use Rattle.server.specs.Serve.{state, within, unsupported, commanded}
-use Rattle.server.specs.Starts.{replyTo}
+use Rattle.server.specs.Serve.{state, unsupported, commanded}
+use Rattle.server.specs.Claims.Starts.{replyTo}
 use Rattle.server.proofs.Cases.{Own}
 
 -- what may have changed is left open: it is told of apart (Refusals, Stays)
@@ -165,29 +164,29 @@ module _ (form : ℕ) (s : List ℕ) (h : ZclHeader) (body : List ℕ) (room : �
   discover-shape = shape-either (replyHead h DiscoverAttributesResponse) room (leb 3 (length body)) _ _ (discover-by _ _ _) (shape-refused (replyHead h DiscoverAttributesResponse) room RecordCut noState refl)
 
   -- of a table that is one
-  configure-shape : (limit n : ℕ) (l : List Entry) → Shape (replyHead h ConfigureReportingResponse) room (configureOf form limit s (sound n l) h body room)
-  unfolding configureOf configureEvents
-  configure-shape limit n l = shape-within (replyHead h ConfigureReportingResponse) room (λ es. holding (run limit es l)) _ (headed-shape room h _ [] _ (performed-shape room _ _ []))
+  configure-shape : (limit : ℕ) (l : List Entry) → Shape (replyHead h ConfigureReportingResponse) room (configureOf form limit s (holding l) h body room)
+  unfolding configureOf configureEntries
+  configure-shape limit l = shape-within (replyHead h ConfigureReportingResponse) room holding _ (headed-shape room h _ l _ (performed-shape room _ _ l))
 
-  configuration-shape : (n : ℕ) (l : List Entry) → Shape (replyHead h ReadReportingConfigurationResponse) room (configurationOf form s (sound n l) h body room)
+  configuration-shape : (l : List Entry) → Shape (replyHead h ReadReportingConfigurationResponse) room (configurationOf form s (holding l) h body room)
   unfolding configurationOf
-  configuration-shape n l = shortened-shape _ _ _ _ room
+  configuration-shape l = shortened-shape _ _ _ _ room
 
 -- ---- any command
 
-module _ (form limit : ℕ) (s : List ℕ) (n : ℕ) (l : List Entry) (unicast : Bool) (h : ZclHeader) (body : List ℕ) (room : ℕ) where
-  pub unsupported-shape : Shape (replyHead h DefaultResponse) room (unsupported s (sound n l) unicast h room)
-  unsupported-shape = shape-within (replyHead h DefaultResponse) room (λ u. state s (sound n l)) _ (default-shape h unicast UnsupCommand room)
+module _ (form limit : ℕ) (s : List ℕ) (l : List Entry) (unicast : Bool) (h : ZclHeader) (body : List ℕ) (room : ℕ) where
+  pub unsupported-shape : Shape (replyHead h DefaultResponse) room (unsupported s (holding l) unicast h room)
+  unsupported-shape = shape-within (replyHead h DefaultResponse) room (λ u. state s (holding l)) _ (default-shape h unicast UnsupCommand room)
 
-  pub commanded-shape : (c : CommandIdentifier) → Shape (replyHead h (replyTo c)) room (commanded form limit s (sound n l) unicast h body room c)
+  pub commanded-shape : (c : CommandIdentifier) → Shape (replyHead h (replyTo c)) room (commanded form limit s (holding l) unicast h body room c)
   unfolding commanded
-  commanded-shape ReadAttributes = shape-within _ room (λ u. state s (sound n l)) _ (read-shape form s h body room)
-  commanded-shape WriteAttributes = shape-within _ room (λ x. state x (sound n l)) _ (write-shape form s h body room)
-  commanded-shape WriteAttributesUndivided = shape-within _ room (λ x. state x (sound n l)) _ (undivided-shape form s h body room)
-  commanded-shape WriteAttributesNoResponse = shape-within _ room (λ x. state x (sound n l)) _ (silent-shape form s h body room)
-  commanded-shape ConfigureReporting = shape-within _ room (state s) _ (configure-shape form s h body room limit n l)
-  commanded-shape ReadReportingConfiguration = shape-within _ room (λ u. state s (sound n l)) _ (configuration-shape form s h body room n l)
-  commanded-shape DiscoverAttributes = shape-within _ room (λ u. state s (sound n l)) _ (discover-shape form s h body room)
+  commanded-shape ReadAttributes = shape-within _ room (λ u. state s (holding l)) _ (read-shape form s h body room)
+  commanded-shape WriteAttributes = shape-within _ room (λ x. state x (holding l)) _ (write-shape form s h body room)
+  commanded-shape WriteAttributesUndivided = shape-within _ room (λ x. state x (holding l)) _ (undivided-shape form s h body room)
+  commanded-shape WriteAttributesNoResponse = shape-within _ room (λ x. state x (holding l)) _ (silent-shape form s h body room)
+  commanded-shape ConfigureReporting = shape-within _ room (state s) _ (configure-shape form s h body room limit l)
+  commanded-shape ReadReportingConfiguration = shape-within _ room (λ u. state s (holding l)) _ (configuration-shape form s h body room l)
+  commanded-shape DiscoverAttributes = shape-within _ room (λ u. state s (holding l)) _ (discover-shape form s h body room)
   commanded-shape ReadAttributesResponse = unsupported-shape
   commanded-shape WriteAttributesResponse = unsupported-shape
   commanded-shape ConfigureReportingResponse = unsupported-shape

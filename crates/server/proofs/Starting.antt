@@ -17,10 +17,10 @@ use Rattle.frame.specs.Header.{frameTypeOf, headerOf, replyHead}
 use Rattle.store.specs.Contents.{clusterOf}
 use Rattle.store.specs.Layout.{isStore}
 use Rattle.reporting.specs.declared.entry.Entry.{Entry}
-use Rattle.reporting.specs.Table.{Table, sound, bad}
+use Rattle.reporting.specs.Table.{Table, holding, bad}
 use Rattle.server.specs.Report.{unasked}
 use Rattle.server.specs.Serve.{typed, byHeader, tabled, serve}
-use Rattle.server.specs.Starts.{answering, RepliesStart, ResponsesStart, ReportsStart}
+use Rattle.server.specs.Claims.Starts.{answering, RepliesStart, ResponsesStart, ReportsStart}
 use Rattle.server.specs.UnsupportedCluster.{unsupportedCluster}
 use Rattle.server.proofs.Elsewhere.{headOf, responder-says, report-says}
 use Rattle.server.proofs.Shapes.{unsupported-shape, commanded-shape}
@@ -32,24 +32,24 @@ module _ (form limit : ℕ) (s : List ℕ) (cluster : ℕ) (unicast : Bool) (fra
   abbrev headBy : FrameType → List ℕ
   headBy k = replyHead h (answering k (h .«command_identifier» .0))
 
-  typed-says : (n : ℕ) (l : List Entry) (body : List ℕ) (k : FrameType) → Says (headBy k) room (typed form limit s (sound n l) unicast h body room k)
+  typed-says : (l : List Entry) (body : List ℕ) (k : FrameType) → Says (headBy k) room (typed form limit s (holding l) unicast h body room k)
   unfolding typed
-  typed-says n l body GlobalCommand = shape-says _ room _ (commanded-shape form limit s n l unicast h body room (commandOf (h .«command_identifier» .0)))
-  typed-says n l body ClusterCommand = shape-says _ room _ (unsupported-shape form limit s n l unicast h body room)
-  typed-says n l body Reserved = declines ReservedFrameType refl
+  typed-says l body GlobalCommand = shape-says _ room _ (commanded-shape form limit s l unicast h body room (commandOf (h .«command_identifier» .0)))
+  typed-says l body ClusterCommand = shape-says _ room _ (unsupported-shape form limit s l unicast h body room)
+  typed-says l body Reserved = declines ReservedFrameType refl
 
   module _ (e : headerOf frame ≡ Header h) where
     abbrev head : List ℕ
     head = headBy (frameTypeOf (h .«frame_control» .0))
 
-    header-says : (n : ℕ) (l : List Entry) → Says head room (byHeader form limit s (sound n l) unicast frame room (headerOf frame))
+    header-says : (l : List Entry) → Says head room (byHeader form limit s (holding l) unicast frame room (headerOf frame))
     unfolding byHeader
-    header-says n l =
-        subst (λ (r : HeaderRead). Says head room (byHeader form limit s (sound n l) unicast frame room r)) (sym e) (typed-says n l (drop (h .body) frame) (frameTypeOf (h .«frame_control» .0)))
+    header-says l =
+        subst (λ (r : HeaderRead). Says head room (byHeader form limit s (holding l) unicast frame room r)) (sym e) (typed-says l (drop (h .body) frame) (frameTypeOf (h .«frame_control» .0)))
 
     tabled-says : (t : Table) → Says head room (tabled form limit s cluster unicast frame room t)
     unfolding tabled
-    tabled-says (sound n l) = says-either head room (eqb cluster (clusterOf s)) _ _ (header-says n l) (declines OtherCluster refl)
+    tabled-says (holding l) = says-either head room (eqb cluster (clusterOf s)) _ _ (header-says l) (declines OtherCluster refl)
     tabled-says (bad t) = declines NotATable refl
 
     serve-says : (t : Table) → Says head room (serve form limit s t cluster unicast frame room)

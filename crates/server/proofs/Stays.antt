@@ -6,11 +6,11 @@ use Prim.Native.Nat.{ℕ, _≤_}
 use Rattle.frame.specs.declared.header.ZclHeader.{ZclHeader}
 use Rattle.frame.specs.declared.command_identifier.CommandIdentifier.{CommandIdentifier}
 use Rattle.store.specs.Layout.{isStore}
-use Rattle.store.specs.Stays.{StoreLike}
-use Rattle.reporting.specs.Table.{Table, sound}
+use Rattle.store.specs.Claims.Stays.{StoreLike}
+use Rattle.reporting.specs.Table.{Table, holding}
 use Rattle.write.proofs.Kept.{write-keeps}
 use Rattle.server.specs.Serve.{commanded}
-use Rattle.server.specs.Left.{StoreStays}
+use Rattle.server.specs.Claims.Left.{StoreStays}
 use Rattle.server.proofs.Cases.{commanded-case, serve-case}
 
 module _ (form limit : ℕ) (s : List ℕ) (wide : 8 ≤ form) (is : isStore form s ≡ true) (unicast : Bool) (room : ℕ) where
@@ -36,4 +36,4 @@ module _ (form limit : ℕ) (s : List ℕ) (wide : 8 ≤ form) (is : isStore for
 pub store-stays : StoreStays
 store-stays form limit s t cluster unicast frame room wide is =
     serve-case form limit s unicast room (λ t o. StoreLike form s (o .state .store)) (λ t why e. itself form limit s wide is unicast room)
-    (λ n l h body c. commanded-stays form limit s wide is unicast room (sound n l) h body c) cluster frame t
+    (λ l h body c. commanded-stays form limit s wide is unicast room (holding l) h body c) cluster frame t

@@ -6,7 +6,7 @@ use Prim.Native.Nat.{ℕ}
 use lib.ListN.{length}
 use Rattle.frame.specs.Answer.{Outcome, seen}
 use Rattle.frame.proofs.Outcome.{only-one, only-answer}
-use Rattle.reporting.specs.Table.{room, Alike, tableOf}
+use Rattle.reporting.specs.Table.{capacity, Alike, tableOf}
 use Rattle.reporting.specs.Lent.{quietedT}
 use Rattle.reporting.proofs.Unique.{alike}
 use Rattle.server.specs.declared.serve.Served.{Served}
@@ -15,7 +15,7 @@ use Rattle.server.specs.Report.{reportOf}
 use Rattle.server.specs.Serve.{State, state, serve}
 use Rattle.server.specs.Lent.{Lent, lent, serveLent}
 use Rattle.server.specs.UnsupportedCluster.{unsupportedCluster}
-use Rattle.server.specs.Unique.{DefaultResponseOnce, ReportOnce, HandleRequestLentOnce, HandleRequestOnce, UnsupportedClusterOnce}
+use Rattle.server.specs.Claims.Unique.{DefaultResponseOnce, ReportOnce, HandleRequestLentOnce, HandleRequestOnce, UnsupportedClusterOnce}
 
 -- ---- what is seen of a call tells all that it left
 
@@ -43,7 +43,7 @@ handle-request-lent-once store table cluster unicast request reply r q x y s u b
     (w .0, (w .1 .0, (ap (λ (z : Lent). z .store) (w .1 .1), ap (λ (z : Lent). z .table) (w .1 .1))))
 
 pub handle-request-once : HandleRequestOnce
-handle-request-once store table cluster unicast request reply r q x y s u e f = one-served (serve 8 room store (quietedT (tableOf table)) (cluster .0) unicast request (length reply)) r q x y s u e f
+handle-request-once store table cluster unicast request reply r q x y s u e f = one-served (serve 8 capacity store (quietedT (tableOf table)) (cluster .0) unicast request (length reply)) r q x y s u e f
 
 -- src/unsupported_cluster.rt
 

@@ -1,15 +1,15 @@
 -- A report: the store, the header, the list, and its ids. Assumes nothing.
-use mathlib.Core.Path.{_≡_, refl, ap, _∙_}
+use mathlib.Core.Path.{_≡_, ap, _∙_}
 use mathlib.Core.Bool.{true, false}
-use mathlib.Core.List.{List, [], _∷_}
+use mathlib.Core.List.{List, []}
 use Prim.Native.Nat.{ℕ, _≤_, _<_}
 use native.Mathlib.Omega.{arith}
 use lib.ListN.{length, length-replicate}
-use borrow.Author.Tests.{le-leb, lt-leb}
+use borrow.Author.Tests.{le-leb, lt-leb, le-ltb, lt-ltb}
 use Rattle.types.specs.Number.{zeros}
-use Rattle.frame.specs.Reply.{putting, put}
+use Rattle.frame.specs.Inside.Buffer.{putting, put}
 use Rattle.frame.specs.Header.{replyHead}
-use Rattle.frame.specs.Answer.{Outcome, noState, seen, refused}
+use Rattle.frame.specs.Answer.{noState, seen, refused}
 use Rattle.frame.specs.declared.header.ZclHeader.{ZclHeader}
 use Rattle.frame.specs.declared.command_identifier.CommandIdentifier.the-variants.{ReportAttributes}
 use Rattle.frame.specs.declared.reply.Put.{Put}
@@ -20,18 +20,8 @@ use Rattle.frame.specs.declared.answer.Refusal.the-variants.{ReplyTooLong, NotA
 use Rattle.frame.proofs.Buffer.{PutAt, shows-cleared, shows-put, shows-full}
 use Rattle.frame.proofs.Outcome.{seen-refused}
 use Rattle.store.specs.Layout.{isStore}
-use Rattle.server.specs.Report.{reportFrom, reportReply, unasked, listed, reportOf}
+use Rattle.server.specs.Report.{reportFrom, reportReply, unasked, reportOf}
 use Rattle.server.specs.Inside.{ReportsAll}
-
--- ---- the list
-
-listed-none : (ids : List ℕ) (room : ℕ) (rest : Outcome (Unit {0})) → length ids ≡ 0 → refused room EmptyReport noState ≡ listed ids room rest
-listed-none [] room rest e = refl
-listed-none (id ∷ ids) room rest e = absurd (omega arith)
-
-listed-some : (ids : List ℕ) (room : ℕ) (rest : Outcome (Unit {0})) → (length ids ≡ 0 → ⊥) → rest ≡ listed ids room rest
-listed-some [] room rest e = absurd (e refl)
-listed-some (id ∷ ids) room rest e = refl
 
 module _ (s : List ℕ) (sequence : ℕ) (ids : List ℕ) (room : ℕ) where
   abbrev head : List ℕ
@@ -47,9 +37,13 @@ module _ (s : List ℕ) (sequence : ℕ) (ids : List ℕ) (room : ℕ) where
     unfolding reportOf
     headless h = rw (store, lt-leb (length head) room h)
 
-    behind-it : length head ≤ room → listed ids room (reportReply room head (reportFrom 8 s room (length head) [] ids)) ≡ reportOf 8 s sequence ids room
+    listless : length head ≤ room → length ids ≡ 0 → refused room EmptyReport noState ≡ reportOf 8 s sequence ids room
     unfolding reportOf
-    behind-it h = rw (store, le-leb (length head) room h)
+    listless h e = rw (store, le-leb (length head) room h, le-ltb 0 (length ids) (omega arith))
+
+    behind-it : length head ≤ room → (length ids ≡ 0 → ⊥) → reportReply room head (reportFrom 8 s room (length head) [] ids) ≡ reportOf 8 s sequence ids room
+    unfolding reportOf
+    behind-it h e = rw (store, le-leb (length head) room h, lt-ltb 0 (length ids) (omega (arith, e)))
 
     -- a cleared buffer, and the header put there
     module _ (d₀ : List ℕ) (z : d₀ ≡ zeros room) (request : ZclHeader) (is : request ≡ unasked sequence) (r : Put) (d₁ : List ℕ)
@@ -78,15 +72,11 @@ module _ (s : List ℕ) (sequence : ℕ) (ids : List ℕ) (room : ℕ) where
         pub report-empty : length ids ≡ 0 → (a : Answer) (after : List ℕ) → seen a after noState ≡ refused (length d₁) EmptyReport noState
             → seen a after noState ≡ reportOf 8 s sequence ids room
         report-empty e a after g =
-            g
-            ∙ ap (λ (k : ℕ). refused k EmptyReport noState) (fitted .same ∙ len)
-            ∙ listed-none ids room (reportReply room head (reportFrom 8 s room (length head) [] ids)) e
-            ∙ behind-it within
+            g ∙ ap (λ (k : ℕ). refused k EmptyReport noState) (fitted .same ∙ len) ∙ listless within e
 
         -- its ids, behind the header
         pub report-all : (length ids ≡ 0 → ⊥) → (a : Answer) (after : List ℕ) → ReportsAll s ids d₁ from a after → seen a after noState ≡ reportOf 8 s sequence ids room
         report-all e a after g =
             g head (fitted .shows)
             ∙ ap (λ (k : ℕ). reportReply k head (reportFrom 8 s k (length head) [] ids)) (fitted .same ∙ len)
-            ∙ listed-some ids room (reportReply room head (reportFrom 8 s room (length head) [] ids)) e
-            ∙ behind-it within
+            ∙ behind-it within e

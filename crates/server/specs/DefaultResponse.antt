@@ -1,4 +1,4 @@
--- The Default Response (document 01, "Commands, step by step"; ZCL 2.5.12). Assumes nothing: these are definitions.
+-- Definitions. The Default Response (document 01, "Commands, step by step"; ZCL 2.5.12).
 use Prim.Native.Nat.{ℕ, _/_, _%_}
 use mathlib.Core.Bool.{Bool, cond, not, _&&_}
 use mathlib.Core.List.{List, [], _∷_, _++_}

@@ -1,4 +1,4 @@
--- What inner functions say; nothing that a caller of this crate must believe. Assumes nothing: these are definitions.
+-- Inside. What inner functions say; nothing that a caller must believe.
 use mathlib.Core.Path.{_≡_}
 use Prim.Native.Nat.{ℕ}
 use mathlib.Core.Bool.{Bool, true, false, cond}
@@ -10,49 +10,46 @@ use Rattle.frame.specs.declared.answer.Refusal.the-variants.{NotAStore, NotATab
 use Rattle.frame.specs.declared.answer.Answer.{Answer}
 use Rattle.frame.specs.declared.answer.Answer.the-variants.{Reply, Refused}
 use Rattle.frame.specs.Answer.{noState, seen, refused}
-use Rattle.frame.specs.Reply.{Shows}
-use Rattle.frame.specs.Encoded.{encodeAll, Longer}
-use Rattle.store.specs.Contents.{nameOf, findOf}
+use Rattle.frame.specs.Inside.Buffer.{Shows, Longer}
+use Rattle.frame.specs.Encoded.{encodeAll}
 use Rattle.store.specs.Layout.{isStore}
-use Rattle.reporting.specs.Table.{room, holding}
+use Rattle.reporting.specs.Table.{capacity, holding}
 use Rattle.reporting.specs.Carried.{isTable, tableIn}
 use Rattle.server.specs.Serve.{state, serve}
 use Rattle.server.specs.Lent.{lent}
-use Rattle.server.specs.Report.{ReportRecord, encode, Reported, trouble, reportBy, reportFrom, reportReply}
+use Rattle.server.specs.Report.{ReportRecord, encode, Reported, all, trouble, reportOne, reportFrom, reportReply}
 
 -- ---- a request over bytes
 
 -- where they are known to be a table, it is served over that one, and they are one afterwards; otherwise it is refused, and nothing changes
-pub record Over (known : Bool) (s bs : List ℕ) (cluster : ℕ) (unicast : Bool) (frame : List ℕ) (size : ℕ) (a : Answer) (d s′ bs′ : List ℕ) : Type 0 where
-  pub stays : known ≡ true → isTable room bs′ ≡ true
-  pub served : known ≡ true → seen a d (state s′ (holding (tableIn bs′))) ≡ serve 8 room s (holding (tableIn bs)) cluster unicast frame size
+pub record OverBytes (known : Bool) (s bs : List ℕ) (cluster : ℕ) (unicast : Bool) (frame : List ℕ) (size : ℕ) (a : Answer) (d s′ bs′ : List ℕ) : Type 0 where
+  pub stays : known ≡ true → isTable capacity bs′ ≡ true
+  pub served : known ≡ true → seen a d (state s′ (holding (tableIn bs′))) ≡ serve 8 capacity s (holding (tableIn bs)) cluster unicast frame size
   pub fails : known ≡ false → seen a d (lent s′ bs′) ≡ refused size (cond (isStore 8 s) NotATable NotAStore) (lent s bs)
 
 -- ---- a report
 
--- what an id does, with these records before it and the rest of the list behind it
-abbrev pub turnOf : List ℕ → ℕ → ℕ → List ReportRecord → ℕ → (List ReportRecord → Reported) → Reported
-turnOf s room head rs id rest = reportBy s room head id rs rest (findOf 8 s (nameOf 0 id))
-
--- its record stands behind the others, and the rest goes on from there
-pub record More (s head : List ℕ) (rs : List ReportRecord) (room id o : ℕ) (after : List ℕ) : Type 0 where
+-- the report so far is these records, and the buffer shows them behind the head
+pub record More (head : List ℕ) (capacity : ℕ) (y : Reported) (o : ℕ) (after : List ℕ) : Type 0 where
   pub records : List ReportRecord
-  pub longer : Longer encode head records room o after
-  pub goes-on : (rest : List ReportRecord → Reported) → turnOf s room (length head) rs id rest ≡ rest records
+  pub is : y ≡ all records
+  pub longer : Longer encode head records capacity o after
 
--- it ends the report, and nothing of it is left in the buffer
-pub record Ends (s head : List ℕ) (rs : List ReportRecord) (room id : ℕ) (why : Refusal) (after : List ℕ) : Type 0 where
-  pub cleared : after ≡ zeros room
-  pub ends : (rest : List ReportRecord → Reported) → turnOf s room (length head) rs id rest ≡ trouble why
+-- it has ended, and nothing of it is left in the buffer
+pub record Over (capacity : ℕ) (y : Reported) (why : Refusal) (after : List ℕ) : Type 0 where
+  pub is : y ≡ trouble why
+  pub cleared : after ≡ zeros capacity
 
-abbrev pub Ways : List ℕ → List ℕ → List ReportRecord → ℕ → ℕ → Answer → List ℕ → Type 0
-Ways s head rs room id (Reply o) after = More s head rs room id o after
-Ways s head rs room id (Refused why) after = Ends s head rs room id why after
+-- the one or the other, by the answer
+abbrev pub Shown : List ℕ → ℕ → Reported → Answer → List ℕ → Type 0
+Shown head capacity y (Reply o) after = More head capacity y o after
+Shown head capacity y (Refused why) after = Over capacity y why after
 
 -- one id was reported, whatever records the buffer showed before it, and behind whatever head
 abbrev pub Reports : List ℕ → ℕ → List ℕ → ℕ → Answer → List ℕ → Type 0
 Reports s id d out r after =
-    (head : List ℕ) (rs : List ReportRecord) → Shows d out (head ++ encodeAll encode rs) → Ways s head rs (length d) id r after
+    (head : List ℕ) (rs : List ReportRecord) → Shows d out (head ++ encodeAll encode rs)
+    → Shown head (length d) (reportOne 8 s (length d) (length head) (all rs) id) r after
 
 -- every id was reported, behind whatever head the buffer showed
 abbrev pub ReportsAll : List ℕ → List ℕ → List ℕ → ℕ → Answer → List ℕ → Type 0

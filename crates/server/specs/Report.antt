@@ -1,9 +1,9 @@
--- The Report Attributes frame (document 01, "Report frames .."; ZCL 2.5.11). Assumes nothing: these are definitions.
+-- Definitions. The Report Attributes frame (document 01, "Report frames .."; ZCL 2.5.11).
 use Prim.Native.Nat.{ℕ}
-use mathlib.Core.Bool.{cond}
+use mathlib.Core.Bool.{Bool, true, false, cond}
 use mathlib.Core.List.{List, [], _∷_, _++_}
 use lib.ListN.{length}
-use lib.Dec.{leb}
+use lib.Dec.{leb, ltb}
 use Rattle.types.specs.Number.{bytesOf}
 use Rattle.frame.specs.declared.header.ZclHeader.{ZclHeader}
 use Rattle.frame.specs.declared.command_identifier.CommandIdentifier.the-variants.{ReportAttributes}
@@ -12,6 +12,7 @@ use Rattle.frame.specs.declared.answer.Refusal.the-variants.{ReplyTooLong, NotA
 use Rattle.frame.specs.Header.{replyHead}
 use Rattle.frame.specs.Answer.{Outcome, noState, replied, refused}
 use Rattle.frame.specs.Encoded.{encodeAll, fits}
+use Rattle.frame.specs.Walk.{done, walk, reached}
 use Rattle.store.specs.declared.lookup.Attribute.{Attribute}
 use Rattle.store.specs.declared.lookup.Found.{Found}
 use Rattle.store.specs.declared.lookup.Found.the-variants.{At, Nothing}
@@ -38,23 +39,32 @@ recordOf s id a = reportRecord id (a .«type_id» .0) (valueOf s a)
 
 -- ---- the list of ids, in its order, repeats as the list says
 
--- the records of all, or the first trouble
+-- the records so far, or the trouble that ended the report
 pub data Reported : Type 0 where
   all : List ReportRecord → Reported
   trouble : Refusal → Reported
 
--- one more record behind these, if it fits: else 5
-abbrev pub more : ℕ → ℕ → List ReportRecord → (List ReportRecord → Reported) → Reported
-more room head rs rest = cond (fits encode room head rs) (rest rs) (trouble ReplyTooLong)
+-- one record more behind these, if it fits: else 5
+abbrev pub added : ℕ → ℕ → List ReportRecord → ReportRecord → Reported
+added room head rs r = cond (fits encode room head (rs ++ (r ∷ []))) (all (rs ++ (r ∷ []))) (trouble ReplyTooLong)
 
 -- an id that is missing or not reportable is 12
-abbrev pub reportBy : List ℕ → ℕ → ℕ → ℕ → List ReportRecord → (List ReportRecord → Reported) → Found → Reported
-reportBy s room head id rs rest (At a) = cond (reportable a) (more room head (rs ++ (recordOf s id a ∷ [])) rest) (trouble NotReportable)
-reportBy s room head id rs rest Nothing = trouble NotReportable
+abbrev pub reportBy : List ℕ → ℕ → ℕ → List ReportRecord → ℕ → Found → Reported
+reportBy s room head rs id (At a) = cond (reportable a) (added room head rs (recordOf s id a)) (trouble NotReportable)
+reportBy s room head rs id Nothing = trouble NotReportable
 
+-- one id; a report that has ended stays as it is
+abbrev pub reportOne : ℕ → List ℕ → ℕ → ℕ → Reported → ℕ → Reported
+reportOne form s room head (all rs) id = reportBy s room head rs id (findOf form s (nameOf 0 id))
+reportOne form s room head (trouble why) id = trouble why
+
+abbrev pub goesOn : Reported → Bool
+goesOn (all rs) = true
+goesOn (trouble why) = false
+
+-- every id, with these records before it
 unfoldable pub reportFrom : ℕ → List ℕ → ℕ → ℕ → List ReportRecord → List ℕ → Reported
-reportFrom form s room head rs [] = all rs
-reportFrom form s room head rs (id ∷ ids) = reportBy s room head id rs (λ longer. reportFrom form s room head longer ids) (findOf form s (nameOf 0 id))
+reportFrom form s room head rs ids = reached (walk (reportOne form s room head) goesOn (all rs) done ids)
 
 unfoldable pub reportReply : ℕ → List ℕ → Reported → Outcome (Unit {0})
 reportReply room head (all rs) = replied room (head ++ encodeAll encode rs) noState
@@ -71,16 +81,14 @@ unasked sequence =
       body = 0;
     }
 
-abbrev pub listed : List ℕ → ℕ → Outcome (Unit {0}) → Outcome (Unit {0})
-listed [] room rest = refused room EmptyReport noState
-listed (id ∷ ids) room rest = rest
-
 -- A REPORT of these attributes: 7, 5 for the header, 11 for an empty list, then 12 or 5 per id
 unfoldable pub reportOf : ℕ → List ℕ → ℕ → List ℕ → ℕ → Outcome (Unit {0})
 reportOf form s sequence ids room =
     let head : List ℕ = replyHead (unasked sequence) ReportAttributes in
     cond (isStore form s)
     (cond (leb (length head) room)
-    (listed ids room (reportReply room head (reportFrom form s room (length head) [] ids)))
+    (cond (ltb 0 (length ids))
+    (reportReply room head (reportFrom form s room (length head) [] ids))
+    (refused room EmptyReport noState))
     (refused room ReplyTooLong noState))
     (refused room NotAStore noState)

@@ -1,8 +1,7 @@
--- A request served (document 01, "What a call says back" and "Commands, step by step"; ZCL 2.5). Assumes nothing: these are definitions.
-use mathlib.Core.Path.{_≡_}
-use Prim.Native.Nat.{ℕ, _+_, _/_, _%_}
+-- Definitions. A request served (document 01, "What a call says back" and "Commands, step by step"; ZCL 2.5).
+use Prim.Native.Nat.{ℕ}
 use mathlib.Core.Bool.{Bool, cond}
-use mathlib.Core.List.{List, _∷_}
+use mathlib.Core.List.{List}
 use lib.ListN.{drop}
 use lib.Dec.{eqb}
 use Rattle.frame.specs.declared.header.ZclHeader.{ZclHeader}
@@ -16,10 +15,10 @@ use Rattle.frame.specs.declared.status.Status.the-variants.{UnsupCommand}
 use Rattle.frame.specs.declared.answer.Refusal.the-variants.{OtherCluster, HeaderShort, ReservedFrameType, NotAStore, NotATable}
 use Rattle.frame.specs.Header.{frameTypeOf, headerOf}
 use Rattle.frame.specs.CommandIdentifier.{commandOf}
-use Rattle.frame.specs.Answer.{Outcome, refused}
+use Rattle.frame.specs.Answer.{Outcome, within, refused}
 use Rattle.store.specs.Contents.{clusterOf}
 use Rattle.store.specs.Layout.{isStore}
-use Rattle.reporting.specs.Table.{Table, sound, bad}
+use Rattle.reporting.specs.Table.{Table, holding, bad}
 use Rattle.read.specs.Read.{readOf}
 use Rattle.write.specs.Write.{writeAttributes, writeUndivided, writeSilently}
 use Rattle.discover.specs.Discover.{discoverOf}
@@ -34,10 +33,6 @@ pub record State : Type 0 where
 
 abbrev pub state : List ℕ → Table → State
 state s t = record { store = s; table = t }
-
--- an outcome, with what it changed put into its place
-abbrev pub within : {S T : Type 0} → (S → T) → Outcome S → Outcome T
-within f o = record { number = o .number; size = o .size; reply = o .reply; state = f (o .state) }
 
 -- a command that changes nothing, the store, or the table
 abbrev pub neither : List ℕ → Table → Outcome (Unit {0}) → Outcome State
@@ -84,10 +79,10 @@ byHeader form limit s t unicast frame room Short = refused room HeaderShort (sta
 
 -- for a table; a count above the limit is 8, another cluster 1
 unfoldable pub tabled : ℕ → ℕ → List ℕ → ℕ → Bool → List ℕ → ℕ → Table → Outcome State
-tabled form limit s cluster unicast frame room (sound n l) =
+tabled form limit s cluster unicast frame room (holding l) =
     cond (eqb cluster (clusterOf s))
-    (byHeader form limit s (sound n l) unicast frame room (headerOf frame))
-    (refused room OtherCluster (state s (sound n l)))
+    (byHeader form limit s (holding l) unicast frame room (headerOf frame))
+    (refused room OtherCluster (state s (holding l)))
 tabled form limit s cluster unicast frame room (bad t) = refused room NotATable (state s (bad t))
 
 -- A REQUEST SERVED. Order: 7, 8, 1, 2, 3, then the command
@@ -96,17 +91,3 @@ serve form limit s t cluster unicast frame room =
     cond (isStore form s)
     (tabled form limit s cluster unicast frame room t)
     (refused room NotAStore (state s t))
-
--- ---- two laws, to be proved
-
--- control bits 3 to 7 do not affect the answer
-abbrev pub ControlBitsDoNotMatter : Type 0
-ControlBitsDoNotMatter =
-    (form limit : ℕ) (s : List ℕ) (t : Table) (cluster : ℕ) (unicast : Bool) (room control other : ℕ) (rest : List ℕ) → control % 8 ≡ other % 8
-    → serve form limit s t cluster unicast (control ∷ rest) room ≡ serve form limit s t cluster unicast (other ∷ rest) room
-
--- nor does the manufacturer code: a frame answers as it does without bit 2 and the two bytes
-abbrev pub ManufacturerCodeDoesNotMatter : Type 0
-ManufacturerCodeDoesNotMatter =
-    (form limit : ℕ) (s : List ℕ) (t : Table) (cluster : ℕ) (unicast : Bool) (room control a b : ℕ) (rest : List ℕ) → control / 4 % 2 ≡ 0
-    → serve form limit s t cluster unicast ((control + 4) ∷ a ∷ b ∷ rest) room ≡ serve form limit s t cluster unicast (control ∷ rest) room

@@ -2,7 +2,7 @@
 ghost use mathlib.Core.Path.{_≡_};
 ghost use lib.ListN.{length};
 ghost use Rattle.frame.specs.Answer.{seen, noState};
-ghost use Rattle.frame.specs.Reply.{putting, put};
+ghost use Rattle.frame.specs.Inside.Buffer.{putting, put};
 ghost use Rattle.server.specs.Report.{encode, reportRecord, unasked as unaskedHeader, reportOf};
 ghost use Rattle.server.specs.Inside.{Reports, ReportsAll};
 use frame::answer::Answer;

@@ -6,12 +6,12 @@ ghost use lib.ListN.{length};
 ghost use Rattle.frame.specs.Answer.{seen};
 ghost use Rattle.frame.specs.Header.{frameTypeOf};
 ghost use Rattle.frame.specs.CommandIdentifier.{commandOf};
-ghost use Rattle.reporting.specs.Table.{room, tableOf, holding};
+ghost use Rattle.reporting.specs.Table.{capacity, tableOf, holding};
 ghost use Rattle.reporting.specs.Carried.{isTable, tableIn};
 ghost use Rattle.reporting.specs.Lent.{quietedT};
 ghost use Rattle.server.specs.Serve.{state, commanded, typed, serve};
 ghost use Rattle.server.specs.Lent.{lent, serveLent};
-ghost use Rattle.server.specs.Inside.{Over};
+ghost use Rattle.server.specs.Inside.{OverBytes};
 use super::default_response::default_response;
 use configure::configuration::read_reporting_configuration;
 use configure::configure::configure_reporting;
@@ -53,9 +53,9 @@ fn global_command(
     unicast: bool,
     reply: &mut [u8],
 ) -> Answer
-    requires { ⌜ isTable room (now table) ≡ true ⌝ }
-    ensures { λ _. ⌜ isTable room (now (table .exit)) ≡ true ⌝ }
-    ensures { λ r. ⌜ seen r (now (reply .exit)) (state (now (store .exit)) (holding (tableIn (now (table .exit))))) ≡ commanded 8 room (now (store .entry)) (holding (tableIn (now (table .entry)))) unicast request (now (body .entry)) (length (now (reply .entry))) (commandOf (request .«command_identifier» .0)) ⌝ }
+    requires { ⌜ isTable capacity (now table) ≡ true ⌝ }
+    ensures { λ _. ⌜ isTable capacity (now (table .exit)) ≡ true ⌝ }
+    ensures { λ r. ⌜ seen r (now (reply .exit)) (state (now (store .exit)) (holding (tableIn (now (table .exit))))) ≡ commanded 8 capacity (now (store .entry)) (holding (tableIn (now (table .entry)))) unicast request (now (body .entry)) (length (now (reply .entry))) (commandOf (request .«command_identifier» .0)) ⌝ }
 {
     let number = request.command_identifier;
     let command = CommandIdentifier::from_bits(number.0);
@@ -88,9 +88,9 @@ fn serve_frame(
     unicast: bool,
     reply: &mut [u8],
 ) -> Answer
-    requires { ⌜ isTable room (now table) ≡ true ⌝ }
-    ensures { λ _. ⌜ isTable room (now (table .exit)) ≡ true ⌝ }
-    ensures { λ r. ⌜ seen r (now (reply .exit)) (state (now (store .exit)) (holding (tableIn (now (table .exit))))) ≡ typed 8 room (now (store .entry)) (holding (tableIn (now (table .entry)))) unicast request (now (body .entry)) (length (now (reply .entry))) (frameTypeOf (request .«frame_control» .0)) ⌝ }
+    requires { ⌜ isTable capacity (now table) ≡ true ⌝ }
+    ensures { λ _. ⌜ isTable capacity (now (table .exit)) ≡ true ⌝ }
+    ensures { λ r. ⌜ seen r (now (reply .exit)) (state (now (store .exit)) (holding (tableIn (now (table .exit))))) ≡ typed 8 capacity (now (store .entry)) (holding (tableIn (now (table .entry)))) unicast request (now (body .entry)) (length (now (reply .entry))) (frameTypeOf (request .«frame_control» .0)) ⌝ }
 {
     let kind = request.frame_control.frame_type();
     let FrameType::GlobalCommand = kind else {
@@ -113,8 +113,8 @@ fn serve_known(
     request: &[u8],
     reply: &mut [u8],
 ) -> Answer
-    requires { ⌜ (known ≡ true → isTable room (now table) ≡ true) ⌝ }
-    ensures { λ r. ⌜ Over known (now (store .entry)) (now (table .entry)) (cluster .0) unicast (now (request .entry)) (length (now (reply .entry))) r (now (reply .exit)) (now (store .exit)) (now (table .exit)) ⌝ }
+    requires { ⌜ (known ≡ true → isTable capacity (now table) ≡ true) ⌝ }
+    ensures { λ r. ⌜ OverBytes known (now (store .entry)) (now (table .entry)) (cluster .0) unicast (now (request .entry)) (length (now (reply .entry))) r (now (reply .exit)) (now (store .exit)) (now (table .exit)) ⌝ }
 {
     if !is_store(store) {
         return refuse(reply, Refusal::NotAStore);
@@ -159,7 +159,7 @@ pub fn handle_request(
     request: &[u8],
     reply: &mut [u8],
 ) -> Served
-    ensures { λ r. ⌜ seen (r .answer) (now (reply .exit)) (state (now (store .exit)) (tableOf (r .table))) ≡ serve 8 room (now (store .entry)) (quietedT (tableOf table)) (cluster .0) unicast (now (request .entry)) (length (now (reply .entry))) ⌝ }
+    ensures { λ r. ⌜ seen (r .answer) (now (reply .exit)) (state (now (store .exit)) (tableOf (r .table))) ≡ serve 8 capacity (now (store .entry)) (quietedT (tableOf table)) (cluster .0) unicast (now (request .entry)) (length (now (reply .entry))) ⌝ }
 {
     let mut bytes = [0; TABLE_BYTES];
     let known = write_table(&mut bytes, table);

@@ -2,7 +2,7 @@
 ghost use mathlib.Core.Path.{_≡_};
 ghost use lib.ListN.{length};
 ghost use Rattle.frame.specs.Answer.{seen, noState};
-ghost use Rattle.server.specs.UnsupportedCluster.{among, isDefaultResponse, unsupportedCluster};
+ghost use Rattle.server.specs.UnsupportedCluster.{isServed, isDefaultResponse, unsupportedCluster};
 use super::default_response::default_response;
 use frame::answer::Answer;
 use frame::answer::Refusal;
@@ -17,7 +17,7 @@ use types::ids::ClusterId;
 
 // Whether a cluster is one of those that are served.
 fn is_served(served: &[u16], cluster: ClusterId) -> bool
-    ensures { λ r. ⌜ r ≡ among (cluster .0) (now (served .entry)) ⌝ }
+    ensures { λ r. ⌜ r ≡ isServed (cluster .0) (now (served .entry)) ⌝ }
 {
     let wanted = cluster.0;
     let mut i: usize = 0;

@@ -10,8 +10,8 @@ use Rattle.frame.specs.declared.status.Status.{Status}
 use native.Mathlib.Omega.{arith}
 use Rattle.frame.proofs.Codes.{refusal-same, refusal-nonzero}
 use Rattle.store.specs.declared.value.Numbered.the-variants.{Is, Refused}
-use Rattle.store.specs.Unique.{PartOnce, IsTextOnce, TextLengthOnce, IsStoreOnce, NameOfOnce, ClusterOfOnce, CountOfOnce, AttributeAtOnce}
-use Rattle.store.specs.Unique.{IsReportableOnce, FindOnce, ValueOfOnce, WriteValueOnce, NumberOfOnce, CheckWriteOnce, WriteOnce}
+use Rattle.store.specs.Claims.Unique.{PartOnce, IsTextOnce, TextLengthOnce, IsStoreOnce, NameOfOnce, ClusterOfOnce, CountOfOnce, AttributeAtOnce}
+use Rattle.store.specs.Claims.Unique.{IsReportableOnce, FindOnce, ValueOfOnce, WriteValueOnce, NumberOfOnce, CheckWriteOnce, WriteOnce}
 
 -- the laws of what a contract sees
 

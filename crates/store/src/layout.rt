@@ -7,7 +7,7 @@ ghost use Rattle.store.specs.Inside.{entryOk};
 use super::lookup::Attribute;
 use super::lookup::attribute_in;
 use super::lookup::count_of;
-use types::ids::Form;
+use types::ids::Shape;
 use types::ids::TypeId;
 use types::number::all_zero;
 use types::number::byte_at;
@@ -54,10 +54,10 @@ fn body_ok(s: &[u8], a: Attribute) -> bool
     ensures { λ r. ⌜ r ≡ allOf (roomOk a ∷ lengthOk (now (s .entry)) a ∷ unusedOk (now (s .entry)) a ∷ []) ⌝ }
 {
     let room = a.room as usize;
-    let layout = a.type_id.form();
+    let layout = a.type_id.shape();
     match layout {
-        Form::Fixed(w) => 1 <= w && w <= 16 && room == w,
-        Form::Text => {
+        Shape::Fixed(w) => 1 <= w && w <= 16 && room == w,
+        Shape::Text => {
             let used = 1 + text_length(s, a);
             if room < used || 255 < room {
                 return false;

@@ -4,7 +4,7 @@ pub mod Readings  -- what signed and unsigned readings say, and reading back wha
 pub mod Machine  -- signed numbers as the machine holds them
 pub mod Finite  -- a rule over all codes, from one computed test
 pub mod Sizes  -- the type table's arms: sizes and classes
-pub mod Forms  -- the type table's arms: forms
+pub mod Shapes  -- the type table's arms: forms
 pub mod Rules  -- rules of the type table
 pub mod Values  -- the number of a value and of a change
 pub mod Extents  -- the definitions of extents, step by step

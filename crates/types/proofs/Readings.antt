@@ -14,7 +14,7 @@ use lib.IntN.{ℤ, pos, negsuc, negℤ}
 use lib.Signed.{mag, _≤ℤ_, _<ℤ_, natAbs-le}
 use borrow.Author.Tests.{ltb-true, ltb-false}
 use Rattle.types.specs.Number.{le, bytesOf, unsignedAt, signedAt, signedOf, residue}
-use Rattle.types.specs.Readings.{SignedWithin, MagnitudeWithin, UnsignedNotNegative, ReadingsAgree, UnsignedPut, SignedPut}
+use Rattle.types.specs.Claims.Readings.{SignedWithin, MagnitudeWithin, UnsignedNotNegative, ReadingsAgree, UnsignedPut, SignedPut}
 use Rattle.types.proofs.Numbers.{pow-half, le-bytes, length-bytes, signed-low, signed-high, unsigned-below}
 
 -- a claim about a signed reading: one proof below the half, one from it on

@@ -5,13 +5,13 @@ use mathlib.Core.List.{List, [], _++_, append-assoc}
 use native.Mathlib.Omega.{arith}
 use native.Mathlib.Nat.{zero-add}
 use lib.ListN.{length, getD, replicate, length-append, length-replicate, List·getD-append}
-use Rattle.types.specs.Ids.{formOf}
-use Rattle.types.specs.declared.ids.Form.{Form}
-use Rattle.types.specs.declared.ids.Form.the-variants.{Fixed, Text, LongText, Series, Structure, Unknown}
-use Rattle.types.specs.Extent.{upto, times, andThen, byForm, valueAt, series, structure, member, count, text, extentOf}
+use Rattle.types.specs.Ids.{shapeOf}
+use Rattle.types.specs.declared.ids.Shape.{Shape}
+use Rattle.types.specs.declared.ids.Shape.the-variants.{Fixed, Text, LongText, Series, Structure, Unknown}
+use Rattle.types.specs.Extent.{upto, times, andThen, byShape, valueAt, series, structure, member, count, text, extentOf}
 use Rattle.types.specs.declared.extent.Extent.{Extent}
 use Rattle.types.specs.declared.extent.Extent.the-variants.{End, Cut, Without}
-use Rattle.types.specs.Settled.{NotCut, ExtentSettled}
+use Rattle.types.specs.Claims.Settled.{NotCut, ExtentSettled}
 use Rattle.types.proofs.Extents.{upto-in, upto-end}
 use Rattle.types.proofs.Ends.{no-cut}
 use Rattle.types.proofs.Follows.{before-more, count-within, member-follows}
@@ -100,20 +100,20 @@ module _ (v : List ℕ → ℕ → ℕ → Extent) (k : (t : ℕ) → Stays (λ 
       let i = times-settled (λ s. member s (v s)) member-stays member-settled (count 2 (s ++ b) p) (s ++ b) q in
       (i .0, rw (count-same (s ++ b) (i .0) p 2 (u .0)) (i .1)))
 
-form-settled : (f : Form) (a b : List ℕ → ℕ → Extent) (s : List ℕ) (p : ℕ) → Settled a s p → Settled b s p → Settled (λ s p. byForm s p f (a s p) (b s p)) s p
-unfolding byForm
-form-settled (Fixed n) a b s p ha hb = upto-settled n s p
-form-settled Text a b s p ha hb = text-settled 1 s p
-form-settled LongText a b s p ha hb = text-settled 2 s p
-form-settled Series a b s p ha hb = ha
-form-settled Structure a b s p ha hb = hb
-form-settled Unknown a b s p ha hb = ([], tt)
+shape-settled : (f : Shape) (a b : List ℕ → ℕ → Extent) (s : List ℕ) (p : ℕ) → Settled a s p → Settled b s p → Settled (λ s p. byShape s p f (a s p) (b s p)) s p
+unfolding byShape
+shape-settled (Fixed n) a b s p ha hb = upto-settled n s p
+shape-settled Text a b s p ha hb = text-settled 1 s p
+shape-settled LongText a b s p ha hb = text-settled 2 s p
+shape-settled Series a b s p ha hb = ha
+shape-settled Structure a b s p ha hb = hb
+shape-settled Unknown a b s p ha hb = ([], tt)
 
 value-settled : (d t : ℕ) (s : List ℕ) (p : ℕ) → Settled (λ s. valueAt d s t) s p
 unfolding valueAt
-value-settled zero t s p = form-settled (formOf t) (λ _ _. Without) (λ _ _. Without) s p ([], tt) ([], tt)
+value-settled zero t s p = shape-settled (shapeOf t) (λ _ _. Without) (λ _ _. Without) s p ([], tt) ([], tt)
 value-settled (suc d) t s p =
-    form-settled (formOf t) (λ s. series s (valueAt d s)) (λ s. structure s (valueAt d s)) s p
+    shape-settled (shapeOf t) (λ s. series s (valueAt d s)) (λ s. structure s (valueAt d s)) s p
     (series-settled (λ s. valueAt d s) (λ t s b p. behind-keeps d s b t p) (λ t s p. value-settled d t s p) s p)
     (structure-settled (λ s. valueAt d s) (λ t s b p. behind-keeps d s b t p) (λ t s p. value-settled d t s p) s p)
 

@@ -1,9 +1,9 @@
 -- No second answer fits a contract: one theorem for each public function, of two results and exit buffers that meet it at the same
 -- entry values. Assumes nothing.
 use mathlib.Core.Path.{sym, _∙_}
-use Rattle.types.specs.Unique.{ExtentAtOnce, FixedSizeOnce, FormOnce, IsAnalogOnce, IsReportableTypeOnce, IsSignedOnce, IsFloatOnce, ByteAtOnce}
-use Rattle.types.specs.Unique.{AllZeroOnce, U16AtOnce, UnsignedAtOnce, BitsI64Once, SignedAtOnce, MagnitudeOnce, PutLeOnce, LeBytesOnce, NumberAtOnce}
-use Rattle.types.specs.Unique.{ChangeAtOnce}
+use Rattle.types.specs.Claims.Unique.{ExtentAtOnce, FixedSizeOnce, ShapeOnce, IsAnalogOnce, IsReportableTypeOnce, IsSignedOnce, IsFloatOnce, ByteAtOnce}
+use Rattle.types.specs.Claims.Unique.{AllZeroOnce, U16AtOnce, UnsignedAtOnce, BitsI64Once, SignedAtOnce, MagnitudeOnce, PutLeOnce, LeBytesOnce, NumberAtOnce}
+use Rattle.types.specs.Claims.Unique.{ChangeAtOnce}
 
 -- src/extent.rt
 pub extent-at-once : ExtentAtOnce
@@ -13,8 +13,8 @@ extent-at-once s p «type_id» r q e f = e ∙ sym f
 pub fixed-size-once : FixedSizeOnce
 fixed-size-once self r q e f = e ∙ sym f
 
-pub form-once : FormOnce
-form-once self r q e f = e ∙ sym f
+pub shape-once : ShapeOnce
+shape-once self r q e f = e ∙ sym f
 
 pub is-analog-once : IsAnalogOnce
 is-analog-once self r q e f = e ∙ sym f

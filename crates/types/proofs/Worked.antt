@@ -4,9 +4,9 @@ use mathlib.Core.Path.{_≡_, refl}
 use mathlib.Core.List.{List, [], _∷_, _++_}
 use lib.IntN.{pos, negℤ, natAbs}
 use Rattle.types.specs.Number.{le, unsignedAt, signedAt, signedOf}
-use Rattle.types.specs.Ids.{sizeOf, formOf, isSigned}
+use Rattle.types.specs.Ids.{sizeOf, shapeOf, isSigned}
 use Rattle.types.specs.Value.{numberAt}
-use Rattle.types.specs.Extent.{upto, times, byForm, valueAt, series, structure, member, count, text, extentOf}
+use Rattle.types.specs.Extent.{upto, times, byShape, valueAt, series, structure, member, count, text, extentOf}
 use Rattle.types.specs.declared.value.Number.{Number}
 use Rattle.types.specs.declared.value.Number.the-variants.{Value, None}
 use Rattle.types.specs.declared.extent.Extent.{Extent}
@@ -76,5 +76,5 @@ extents =
     ∷ []
 
 extents-right : AllSay (λ s t. extentOf s 0 t) extents
-unfolding upto times byForm valueAt series structure member count text formOf sizeOf unsignedAt le
+unfolding upto times byShape valueAt series structure member count text shapeOf sizeOf unsignedAt le
 extents-right = (refl, (refl, (refl, (refl, (refl, (refl, (refl, (refl, (refl, (refl, (refl, (refl, (refl, (refl, (refl, (refl, (refl, tt)))))))))))))))))

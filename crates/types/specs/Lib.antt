@@ -1,8 +1,9 @@
 -- What a reader must believe of this crate, a file for an idea.
-pub mod Ids
-pub mod Number
-pub mod Readings  -- what readings with and without a sign say
-pub mod Value
-pub mod Extent
-pub mod Settled  -- what the answers about a value's end mean when bytes come behind
-pub mod Unique  -- no second answer fits a contract
+
+-- definitions that decide an answer, in the order to read them
+pub mod Ids  -- the type table
+pub mod Number  -- numbers in bytes
+pub mod Value  -- the number of a value, and of a change
+pub mod Extent  -- where a value ends
+-- what is claimed of them
+pub mod Claims

@@ -1,9 +1,9 @@
 // Where a value ends (ZCL 2.6): the role of the `ZclDataType` reader, for every slice, place and type.
 ghost use mathlib.Core.Path.{_≡_};
 ghost use Prim.Native.Nat.{_<_};
-ghost use Rattle.types.specs.Extent.{upto, count, text, byForm, seriesAt, structureAt, extentOf};
+ghost use Rattle.types.specs.Extent.{upto, count, text, byShape, seriesAt, structureAt, extentOf};
 ghost use Rattle.types.specs.declared.extent.Extent.the-variants.{Without};
-use super::ids::Form;
+use super::ids::Shape;
 use super::ids::TypeId;
 use super::number::byte_at;
 use super::number::u16_at;
@@ -64,16 +64,16 @@ fn long_text_extent(s: &[u8], p: usize) -> Extent
 }
 
 // A value that is no collection.
-fn plain_extent(s: &[u8], p: usize, layout: Form) -> Extent
-    ensures { λ r. ⌜ r ≡ byForm (now (s .entry)) p layout Without Without ⌝ }
+fn plain_extent(s: &[u8], p: usize, layout: Shape) -> Extent
+    ensures { λ r. ⌜ r ≡ byShape (now (s .entry)) p layout Without Without ⌝ }
 {
     match layout {
-        Form::Fixed(w) => span(s, p, w),
-        Form::Text => text_extent(s, p),
-        Form::LongText => long_text_extent(s, p),
-        Form::Series => Extent::Without,
-        Form::Structure => Extent::Without,
-        Form::Unknown => Extent::Without,
+        Shape::Fixed(w) => span(s, p, w),
+        Shape::Text => text_extent(s, p),
+        Shape::LongText => long_text_extent(s, p),
+        Shape::Series => Extent::Without,
+        Shape::Structure => Extent::Without,
+        Shape::Unknown => Extent::Without,
     }
 }
 
@@ -89,16 +89,16 @@ fn series_extent(s: &[u8], p: usize, depth: usize) -> Extent
         return Extent::Cut;
     };
     let n = counted(s, p + 1);
-    let layout = TypeId(s[p]).form();
-    if let Form::Fixed(w) = layout {
+    let layout = TypeId(s[p]).shape();
+    if let Shape::Fixed(w) = layout {
         return span(s, first, n * w);
     }
     let mut q = first;
     let mut left = n;
     while 0 < left {
         let e = match layout {
-            Form::Series => series_extent(s, q, depth - 1),
-            Form::Structure => structure_extent(s, q, depth - 1),
+            Shape::Series => series_extent(s, q, depth - 1),
+            Shape::Structure => structure_extent(s, q, depth - 1),
             _ => plain_extent(s, q, layout),
         };
         let Extent::End(next) = e else {
@@ -126,10 +126,10 @@ fn structure_extent(s: &[u8], p: usize, depth: usize) -> Extent
         if s.len() <= q {
             return Extent::Cut;
         }
-        let layout = TypeId(s[q]).form();
+        let layout = TypeId(s[q]).shape();
         let e = match layout {
-            Form::Series => series_extent(s, q + 1, depth - 1),
-            Form::Structure => structure_extent(s, q + 1, depth - 1),
+            Shape::Series => series_extent(s, q + 1, depth - 1),
+            Shape::Structure => structure_extent(s, q + 1, depth - 1),
             _ => plain_extent(s, q + 1, layout),
         };
         let Extent::End(next) = e else {
@@ -145,10 +145,10 @@ fn structure_extent(s: &[u8], p: usize, depth: usize) -> Extent
 pub fn extent_at(s: &[u8], p: usize, type_id: TypeId) -> Extent
     ensures { λ r. ⌜ r ≡ extentOf (now (s .entry)) p («type_id» .0) ⌝ }
 {
-    let layout = type_id.form();
+    let layout = type_id.shape();
     match layout {
-        Form::Series => series_extent(s, p, 15),
-        Form::Structure => structure_extent(s, p, 15),
+        Shape::Series => series_extent(s, p, 15),
+        Shape::Structure => structure_extent(s, p, 15),
         _ => plain_extent(s, p, layout),
     }
 }

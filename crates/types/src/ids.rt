@@ -1,6 +1,6 @@
 // Identifiers, and the type table (ZCL 2.6.2): after types/ids.rs.
 ghost use mathlib.Core.Path.{_≡_};
-ghost use Rattle.types.specs.Ids.{sizeOf, formOf, isAnalog, isReportable, isSigned, isFloat};
+ghost use Rattle.types.specs.Ids.{sizeOf, shapeOf, isAnalog, isReportable, isSigned, isFloat};
 ghost use Rattle.types.specs.Ids.{among as codesAmong};
 
 // Three kinds of numbers that no call can take for one another.
@@ -20,7 +20,7 @@ pub enum Size {
 }
 
 // How a type's values are laid out, and so how one finds their end.
-pub enum Form {
+pub enum Shape {
     Fixed(usize),
     Text,
     LongText,
@@ -176,20 +176,20 @@ impl TypeId {
         }
     }
 
-    // The form of every value.
-    pub fn form(self) -> Form
-        ensures { λ r. ⌜ r ≡ formOf (self .0) ⌝ }
+    // The shape of every value.
+    pub fn shape(self) -> Shape
+        ensures { λ r. ⌜ r ≡ shapeOf (self .0) ⌝ }
     {
         if let Size::Bytes(w) = self.fixed_size() {
-            return Form::Fixed(w);
+            return Shape::Fixed(w);
         }
         let code = self.0;
         match code {
-            TypeId::OCTET_STRING | TypeId::CHARACTER_STRING => Form::Text,
-            TypeId::LONG_OCTET_STRING | TypeId::LONG_CHARACTER_STRING => Form::LongText,
-            TypeId::ARRAY | TypeId::SET | TypeId::BAG => Form::Series,
-            TypeId::STRUCTURE => Form::Structure,
-            _ => Form::Unknown,
+            TypeId::OCTET_STRING | TypeId::CHARACTER_STRING => Shape::Text,
+            TypeId::LONG_OCTET_STRING | TypeId::LONG_CHARACTER_STRING => Shape::LongText,
+            TypeId::ARRAY | TypeId::SET | TypeId::BAG => Shape::Series,
+            TypeId::STRUCTURE => Shape::Structure,
+            _ => Shape::Unknown,
         }
     }
 

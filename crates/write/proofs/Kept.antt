@@ -12,7 +12,7 @@ use Rattle.frame.specs.Failures.{Sofar, pass, always, concluded, performed}
 use Rattle.frame.proofs.States.{headed-keeps, pass-keeps, concluded-keeps, performed-keeps}
 use Rattle.store.specs.Contents.{nameOf}
 use Rattle.store.specs.Layout.{isStore}
-use Rattle.store.specs.Stays.{StoreLike}
+use Rattle.store.specs.Claims.Stays.{StoreLike}
 use Rattle.store.proofs.Writes.{write-length, write-store, write-contents}
 use Rattle.write.specs.Request.{WriteRecord, records}
 use Rattle.write.specs.Reply.{Failure, encode}

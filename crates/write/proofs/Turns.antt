@@ -9,7 +9,7 @@ use Rattle.frame.specs.declared.header.ZclHeader.{ZclHeader}
 use Rattle.frame.specs.Status.{statusCode}
 use Rattle.frame.specs.Walk.{item, Way, reached}
 use Rattle.frame.specs.Failures.{did, Doing, Sofar, sofar, also, passFrom, pass, always}
-use Rattle.frame.specs.Passes.{TookOne, TookNone}
+use Rattle.frame.specs.Inside.Passes.{TookOne, TookNone}
 use Rattle.frame.proofs.Passes.{more, cut-here, done-here}
 use Rattle.store.specs.Contents.{nameOf, findOf}
 use Rattle.store.specs.Write.{checkOf, Wrote, wrote, writeOf}

@@ -14,12 +14,13 @@ use Rattle.frame.specs.declared.answer.Answer.{Answer}
 use Rattle.frame.specs.declared.command_identifier.CommandIdentifier.the-variants.{WriteAttributesResponse}
 use Rattle.frame.specs.declared.failures.Pass.{Pass}
 use Rattle.frame.specs.Header.{replyHead}
-use Rattle.frame.specs.Reply.{putting, put, Shows}
+use Rattle.frame.specs.Inside.Buffer.{putting, put, Shows}
 use Rattle.frame.specs.Answer.{Outcome, noState, seen}
 use Rattle.frame.specs.Walk.{Way, through}
 use Rattle.frame.specs.Encoded.{encodeAll, fits}
-use Rattle.frame.specs.Failures.{Sofar, sofar, pass, concluded, performed, headed, concludedAt}
-use Rattle.frame.specs.Passes.{Passes, Passed, Performs}
+use Rattle.frame.specs.Failures.{Sofar, sofar, pass, concluded, performed, headed}
+use Rattle.frame.specs.Inside.Failures.{concludedAt}
+use Rattle.frame.specs.Inside.Passes.{Passes, Passed, Performs}
 use Rattle.frame.proofs.Listings.{none-listed, head-ends, head-shown, concludes}
 use Rattle.frame.proofs.Passes.{headed-in}
 use Rattle.write.specs.Request.{records}

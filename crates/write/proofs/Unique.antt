@@ -2,7 +2,7 @@
 use lib.ListN.{length}
 use Rattle.frame.proofs.Outcome.{only-one}
 use Rattle.write.specs.Write.{writeAttributes, writeUndivided, writeSilently}
-use Rattle.write.specs.Unique.{WriteAttributesOnce, WriteAttributesUndividedOnce, WriteAttributesNoResponseOnce}
+use Rattle.write.specs.Claims.Unique.{WriteAttributesOnce, WriteAttributesUndividedOnce, WriteAttributesNoResponseOnce}
 
 -- src/attributes.rt
 

@@ -1,4 +1,4 @@
--- What inner functions say; nothing that a caller of this crate must believe. Assumes nothing: these are definitions.
+-- Inside. What inner functions say; nothing that a caller must believe.
 use Prim.Native.Nat.{ℕ, _+_, _-_}
 use mathlib.Core.Bool.{Bool, false}
 use mathlib.Core.List.{List}
@@ -9,7 +9,7 @@ use Rattle.frame.specs.declared.failures.Pass.{Pass}
 use Rattle.frame.specs.Status.{statusCode}
 use Rattle.frame.specs.Walk.{Item, item, unread}
 use Rattle.frame.specs.Failures.{Doing}
-use Rattle.frame.specs.Passes.{TookOne, TookNone}
+use Rattle.frame.specs.Inside.Passes.{TookOne, TookNone}
 use Rattle.store.specs.Contents.{findOf}
 use Rattle.store.specs.Write.{checkOf, Wrote, wrote, writeOf}
 use Rattle.write.specs.declared.record.Next.{Next}

@@ -2,7 +2,7 @@
 ghost use mathlib.Core.Path.{_≡_};
 ghost use lib.ListN.{length};
 ghost use Rattle.frame.specs.Answer.{seen};
-ghost use Rattle.frame.specs.Passes.{Performs};
+ghost use Rattle.frame.specs.Inside.Passes.{Performs};
 ghost use Rattle.write.specs.Request.{records};
 ghost use Rattle.write.specs.Write.{writing, writeAttributes, writeUndivided, writeSilently};
 ghost use Rattle.write.specs.Inside.{isClean};

@@ -2,9 +2,10 @@
 ghost use mathlib.Core.Path.{_≡_};
 ghost use Rattle.frame.specs.Status.{statusCode};
 ghost use Rattle.frame.specs.Walk.{reached};
-ghost use Rattle.frame.specs.Reply.{putting};
-ghost use Rattle.frame.specs.Failures.{pass, always, noting};
-ghost use Rattle.frame.specs.Passes.{Passed};
+ghost use Rattle.frame.specs.Inside.Buffer.{putting};
+ghost use Rattle.frame.specs.Failures.{pass, always};
+ghost use Rattle.frame.specs.Inside.Failures.{noting};
+ghost use Rattle.frame.specs.Inside.Passes.{Passed};
 ghost use Rattle.store.specs.Contents.{findOf};
 ghost use Rattle.store.specs.Write.{checkOf, wrote};
 ghost use Rattle.write.specs.Request.{records};

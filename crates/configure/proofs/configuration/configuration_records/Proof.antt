@@ -5,7 +5,7 @@ use Prim.Native.Nat.{ℕ, _-_}
 use native.Mathlib.Omega.{arith}
 use lib.ListN.{length}
 use denote.Ref.{now}
-use Rattle.frame.specs.Reply.{Shows}
+use Rattle.frame.specs.Inside.Buffer.{Shows}
 use Rattle.frame.specs.Walk.{item}
 use Rattle.frame.proofs.Shortened.{Going, going-first, going-more, going-stop, going-cut, going-done}
 use Rattle.reporting.specs.Carried.{tableIn}

@@ -4,7 +4,7 @@ use mathlib.Core.List.{[], _∷_}
 use Prim.Native.Nat.{ℕ, _/_, _%_}
 use denote.Ref.{now}
 use Rattle.types.specs.Number.{bytesOf}
-use Rattle.frame.specs.Reply.{put}
+use Rattle.frame.specs.Inside.Buffer.{put}
 use Rattle.configure.specs.Configuration.{encode}
 use borrow.Author.Needs.{needs}
 use Rattle.configure.proofs.configuration.put_failure.Statement.{statement}

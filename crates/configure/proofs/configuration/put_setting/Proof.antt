@@ -4,7 +4,7 @@ use Prim.Native.Nat.{ℕ, _+_, _≤_}
 use native.Mathlib.Omega.{arith}
 use lib.Seq.{length-take-le}
 use denote.Ref.{now}
-use Rattle.frame.specs.Reply.{put}
+use Rattle.frame.specs.Inside.Buffer.{put}
 use Rattle.configure.proofs.Widths.{width-least}
 use Rattle.configure.proofs.Encodings.{setting-bytes}
 use borrow.Author.Needs.{needs}

@@ -1,18 +1,15 @@
--- What is left of the walk is the whole, in whatever table the bytes were. Assumes nothing.
+-- What is left of the walk from the table's entries is the whole. Assumes nothing.
 use borrow.Author.Needs.{needs}
 use mathlib.Core.Path.{_≡_, sym, subst, _∙_}
-use mathlib.Core.Bool.{true}
 use Prim.Native.Nat.{_-_}
 use native.Mathlib.Omega.{arith}
 use lib.ListN.{length}
 use denote.Ref.{now}
-use Rattle.reporting.specs.Table.{room}
-use Rattle.reporting.specs.Carried.{isTable}
 use Rattle.reporting.proofs.CarriageLoops.{known-size}
 use Rattle.configure.specs.declared.pass.Turn.{Turn}
 use Rattle.configure.specs.Inside.{Took, Turns}
 use Rattle.configure.proofs.Items.{ahead}
-use Rattle.configure.proofs.Turns.{Goes, goes-first, goes-done, goes-cut, goes-more, goes-stop, still-table}
+use Rattle.configure.proofs.Turns.{Goes, goes-first, goes-done, goes-cut, goes-more, goes-stop}
 use Rattle.configure.proofs.pass.configure_records.Statement.{statement}
 use Rattle.configure.proofs.pass.configure_records.Tie as tie
 
@@ -23,11 +20,8 @@ abbrev μ-loop : tie.MeasureT-loop
 μ-loop store table₀ request body reply₀ start at₀ out₀ table reply at out = length body - at
 
 -- the bytes are a table in every turn, and so keep their length
-still : (c : tie.At-loop Inv-loop μ-loop) → isTable room (c .loop .table) ≡ true
-still c = still-table (now (c .before .before .before .before .before .args .table)) (c .loop .table) (c .loop .inv) (c .before .before .before .before .before .pre)
-
 size-kept : (c : tie.At-loop Inv-loop μ-loop) → length (c .loop .table) ≡ length (now (c .before .before .before .before .before .args .table))
-size-kept c = known-size (c .loop .table) (still c) ∙ sym (known-size (now (c .before .before .before .before .before .args .table)) (c .before .before .before .before .before .pre))
+size-kept c = known-size (c .loop .table) (c .loop .inv .table) ∙ sym (known-size (now (c .before .before .before .before .before .args .table)) (c .before .before .before .before .before .pre))
 
 -- what the loop's turn says of an answer
 did : (c : tie.After-configure-turn Inv-loop μ-loop) (r : Turn) → c .configure-turn .result ≡ r → Turns (now (c .before .before .before .before .before .before .before .args .store)) (c .before .before .before .before .before .before .before .args .request) (now (c .before .before .before .before .before .before .before .args .body)) (c .before .before .loop .at) r
@@ -40,7 +34,7 @@ took c = did (c .before .before) _ (c .turn .given .1)
 loop-holds : tie.Need-loop-holds Inv-loop μ-loop
 loop-holds c =
     let a = c .before .before .before .before .args in
-    goes-first (now (a .store)) (a .request) (now (a .body)) (a .start) (now (a .table)) (now (a .reply))
+    goes-first (now (a .store)) (a .request) (now (a .body)) (a .start) (now (a .table)) (now (a .reply)) (c .before .before .before .before .pre)
 
 configure-turn-requires : tie.Need-configure-turn-requires Inv-loop μ-loop
 configure-turn-requires c κs = search needs
@@ -55,13 +49,13 @@ same-length : tie.Need-same-length Inv-loop μ-loop
 same-length c = size-kept (c .before .before .before .before)
 
 same-length-2 : tie.Need-same-length-2 Inv-loop μ-loop
-same-length-2 c = c .before .before .before .before .loop .inv .reply-length
+same-length-2 c = c .before .before .before .before .loop .inv .going .reply-length
 
 returns : tie.Need-returns Inv-loop μ-loop
 returns c = goes-cut (c .before .before .before .before .loop .inv) (c .before .before .before .loop-test .taken) (c .before .before .before .before .loop .reply) (did (c .before .before) Turn.Cut (c .enum-told .given .1))
 
 done-requires : tie.Need-done-requires Inv-loop μ-loop
-done-requires c κs = still (c .before .before .before .before .before .before)
+done-requires c κs = c .before .before .before .before .before .before .loop .inv .table
 
 note-requires : tie.Need-note-requires Inv-loop μ-loop
 note-requires c κs = search needs
@@ -76,7 +70,7 @@ same-length-3 : tie.Need-same-length-3 Inv-loop μ-loop
 same-length-3 c = c .before .before .before .before .before .before .before .before .done .kept .0 ∙ size-kept (c .before .before .before .before .before .before .before .before .before .before .before .before .before .before .before)
 
 same-length-4 : tie.Need-same-length-4 Inv-loop μ-loop
-same-length-4 c = c .before .before .before .before .note .kept .0 ∙ c .before .before .before .before .before .before .before .before .before .before .before .before .before .before .before .loop .inv .reply-length
+same-length-4 c = c .before .before .before .before .note .kept .0 ∙ c .before .before .before .before .before .before .before .before .before .before .before .before .before .before .before .loop .inv .going .reply-length
 
 returns-2 : tie.Need-returns-2 Inv-loop μ-loop
 returns-2 c =
@@ -101,7 +95,7 @@ same-length-5 : tie.Need-same-length-5 Inv-loop μ-loop
 same-length-5 c = size-kept (c .before)
 
 same-length-6 : tie.Need-same-length-6 Inv-loop μ-loop
-same-length-6 c = c .before .loop .inv .reply-length
+same-length-6 c = c .before .loop .inv .going .reply-length
 
 returns-3 : tie.Need-returns-3 Inv-loop μ-loop
 returns-3 c = goes-done (c .before .loop .inv) (c .loop-test .left)

@@ -1,4 +1,4 @@
--- A deed by its kind: what the function on the bytes did is what the deed's events leave. Assumes nothing.
+-- A deed by its kind: what the function on the bytes did is what the deed comes to. Assumes nothing.
 use borrow.Author.Needs.{needs}
 use mathlib.Core.Path.{refl, sym, subst}
 use denote.Ref.{now}
@@ -31,7 +31,7 @@ returns : tie.Need-returns
 returns c =
     let bs = now (c .before .before .before .before .args .table) in
     let e = c .before .deed .given in
-    subst (λ (x : Deed). Settles x bs bs (e .0 .0)) (sym (e .1)) (λ l es h. record { is = refl; left = h })
+    subst (λ (x : Deed). Settles x bs bs (e .0 .0)) (sym (e .1)) (record { table = c .before .before .before .before .pre; is = refl })
 
 same-length : tie.Need-same-length
 same-length c = search needs

@@ -10,8 +10,7 @@ use Rattle.store.specs.declared.lookup.Found.the-variants.{At}
 use Rattle.store.specs.Contents.{nameOf, findOf, reportable}
 use Rattle.reporting.specs.declared.entry.Key.{Key}
 use Rattle.reporting.specs.declared.entry.Entry.{Entry}
-use Rattle.reporting.specs.Table.{room}
-use Rattle.reporting.specs.Events.{Event}
+use Rattle.reporting.specs.Table.{capacity}
 use Rattle.configure.specs.Request.{keyFor}
 use Rattle.configure.specs.Configure.{setting}
 use Rattle.configure.proofs.Settings.{checked-missing, checked-unreportable, checked-other, checked-fine}
@@ -30,8 +29,8 @@ may : (c : tie.Else1) → reportable (c .before .before .before .a .given .0 .0)
 may c = sym (c .before .is-reportable .ensures) ∙ not-false _ (c .if1 .left)
 
 -- what is asked of the table
-abbrev Asked : tie.Start → List Entry → List Event → Did (List Event)
-Asked c l es = setting room l (keyFor (now (c .args .store)) (c .args .request) (c .args .id .0)) (c .args .config) es
+abbrev Asked : tie.Start → List Entry → Did (List Entry)
+Asked c l = setting capacity (keyFor (now (c .args .store)) (c .args .request) (c .args .id .0)) (c .args .config) l
 
 name-of-requires : tie.Need-name-of-requires
 name-of-requires c κs = search needs
@@ -46,17 +45,17 @@ enum-told : tie.Need-enum-told
 enum-told c = search needs
 
 returns : tie.Need-returns
-returns c = λ l es. checked-missing _ (c .before .before .before .before .before .args .type-id .0) es (Asked (c .before .before .before .before .before) l es) (is (c .before .before) _ (c .enum-told .given .1))
+returns c = λ l. checked-missing _ (c .before .before .before .before .before .args .type-id .0) l (Asked (c .before .before .before .before .before) l) (is (c .before .before) _ (c .enum-told .given .1))
 
 is-reportable-requires : tie.Need-is-reportable-requires
 is-reportable-requires c κs = search needs
 
 returns-2 : tie.Need-returns-2
 returns-2 c =
-    λ l es. checked-unreportable _ (c .before .before .before .before .before .before .before .before .args .type-id .0) es (Asked (c .before .before .before .before .before .before .before .before) l es) (c .before .before .before .a .given .0 .0) (found (c .before .before .before)) (sym (c .before .is-reportable .ensures) ∙ not-true _ (c .if1 .taken))
+    λ l. checked-unreportable _ (c .before .before .before .before .before .before .before .before .args .type-id .0) l (Asked (c .before .before .before .before .before .before .before .before) l) (c .before .before .before .a .given .0 .0) (found (c .before .before .before)) (sym (c .before .is-reportable .ensures) ∙ not-true _ (c .if1 .taken))
 
 returns-3 : tie.Need-returns-3
-returns-3 c = λ l es. checked-other _ (c .before .before .before .before .before .before .before .before .before .before .before .before .args .type-id .0) es (Asked (c .before .before .before .before .before .before .before .before .before .before .before .before) l es) (c .before .before .before .before .before .before .before .a .given .0 .0) (found (c .before .before .before .before .before .before .before)) (may (c .before .before .before .before)) (c .if2 .taken)
+returns-3 c = λ l. checked-other _ (c .before .before .before .before .before .before .before .before .before .before .before .before .args .type-id .0) l (Asked (c .before .before .before .before .before .before .before .before .before .before .before .before) l) (c .before .before .before .before .before .before .before .a .given .0 .0) (found (c .before .before .before .before .before .before .before)) (may (c .before .before .before .before)) (c .if2 .taken)
 
 key-for-requires : tie.Need-key-for-requires
 key-for-requires c κs = search needs
@@ -67,9 +66,9 @@ wished-requires c κs = search needs
 returns-4 : tie.Need-returns-4
 returns-4 c =
     let a = c .before .before .before .before .before .before .before .before .before .before .before .before .before .before .args in
-    λ l es. c .wished .ensures l es
-    ∙ ap (λ (k : Key). setting room l k (a .config) es) (c .before .key-for .ensures)
-    ∙ checked-fine _ (a .type-id .0) es (Asked (c .before .before .before .before .before .before .before .before .before .before .before .before .before .before) l es) (c .before .before .before .before .before .before .before .before .before .a .given .0 .0) (found (c .before .before .before .before .before .before .before .before .before)) (may (c .before .before .before .before .before .before)) (c .before .before .if2 .left)
+    λ l. c .wished .ensures l
+    ∙ ap (λ (k : Key). setting capacity k (a .config) l) (c .before .key-for .ensures)
+    ∙ checked-fine _ (a .type-id .0) l (Asked (c .before .before .before .before .before .before .before .before .before .before .before .before .before .before) l) (c .before .before .before .before .before .before .before .before .before .a .given .0 .0) (found (c .before .before .before .before .before .before .before .before .before)) (may (c .before .before .before .before .before .before)) (c .before .before .if2 .left)
 
 pub judge-spec : {M : Type 1} → statement M
 judge-spec =

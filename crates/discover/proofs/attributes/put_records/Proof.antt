@@ -6,7 +6,7 @@ use Prim.Native.Nat.{ℕ, _+_, _-_, _≤_, _<_}
 use native.Mathlib.Omega.{arith}
 use lib.ListN.{length, take}
 use denote.Ref.{now}
-use Rattle.frame.specs.Reply.{Shows}
+use Rattle.frame.specs.Inside.Buffer.{Shows}
 use Rattle.store.specs.Contents.{attributesOf}
 use Rattle.discover.specs.Discover.{atOrAfter}
 use Rattle.discover.specs.Inside.{recordsOf}

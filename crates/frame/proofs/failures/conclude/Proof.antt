@@ -1,7 +1,7 @@
 -- Each way a pass ends has its answer. Assumes nothing.
 use mathlib.Core.Path.{sym, ap, _∙_}
 use denote.Ref.{now}
-use Rattle.frame.specs.Failures.{concludedAt}
+use Rattle.frame.specs.Inside.Failures.{concludedAt}
 use borrow.Author.Needs.{needs}
 use Rattle.frame.proofs.failures.conclude.Statement.{statement}
 use Rattle.frame.proofs.failures.conclude.Tie as tie

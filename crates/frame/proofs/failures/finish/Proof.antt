@@ -2,7 +2,7 @@
 use mathlib.Core.Path.{sym, ap, _∙_}
 use denote.Ref.{now}
 use Rattle.frame.specs.declared.reply.Put.{Put}
-use Rattle.frame.specs.Failures.{sent}
+use Rattle.frame.specs.Inside.Failures.{sent}
 use Rattle.frame.proofs.Listings.{conclude-listed, conclude-none}
 use borrow.Author.Needs.{needs}
 use Rattle.frame.proofs.failures.finish.Statement.{statement}

@@ -3,7 +3,7 @@ use mathlib.Core.Path.{ap, _∙_}
 use mathlib.Core.List.{List}
 use Prim.Native.Nat.{ℕ}
 use Rattle.frame.specs.Header.{replyHead}
-use Rattle.frame.specs.Reply.{put}
+use Rattle.frame.specs.Inside.Buffer.{put}
 use borrow.Author.Needs.{needs}
 use Rattle.frame.proofs.header.begin_reply.Statement.{statement}
 use Rattle.frame.proofs.header.begin_reply.Tie as tie

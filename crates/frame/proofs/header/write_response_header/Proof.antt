@@ -4,7 +4,7 @@ use mathlib.Core.List.{[], _∷_}
 use Prim.Native.Nat.{ℕ}
 use denote.Ref.{now}
 use Rattle.frame.specs.Header.{replyHead}
-use Rattle.frame.specs.Reply.{put}
+use Rattle.frame.specs.Inside.Buffer.{put}
 use borrow.Author.Needs.{needs}
 use Rattle.frame.proofs.header.write_response_header.Statement.{statement}
 use Rattle.frame.proofs.header.write_response_header.Tie as tie

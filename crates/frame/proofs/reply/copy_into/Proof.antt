@@ -9,7 +9,7 @@ use native.Mathlib.Numerals.{add-one}
 use lib.ListN.{length, getD, set, length-set}
 use lib.Seq.{paste, paste-zero, paste-suc}
 use denote.Ref.{now}
-use Rattle.frame.proofs.Buffer.{paste-over}
+use Rattle.frame.proofs.Buffer.{paste-sets}
 use Rattle.frame.proofs.reply.copy_into.Statement.{statement}
 use Rattle.frame.proofs.reply.copy_into.Tie as tie
 
@@ -58,7 +58,7 @@ returns c =
     let a = c .before .before .args in
     c .before .loop .inv .1 .1
     ∙ ap (paste (now (a .buffer)) (a .at) (now (a .bytes))) (le-antisymm (c .before .loop .inv .0) (c .loop-test .left))
-    ∙ paste-over _ _ _
+    ∙ paste-sets (now (a .buffer)) (a .at) (now (a .bytes)) (omega arith)
 
 pub copy-into-spec : {M : Type 1} → statement M
 copy-into-spec = tie.close (tie.spec Inv-loop μ-loop loop-holds shared-slice-read-buffer add-buffer slice-write-buffer add-i loop-less loop-again same-length returns)

@@ -5,7 +5,7 @@ use Prim.Native.Nat.{ℕ, _+_}
 use native.Mathlib.Omega.{arith}
 use lib.ListN.{length}
 use denote.Ref.{now}
-use Rattle.frame.specs.Reply.{putting}
+use Rattle.frame.specs.Inside.Buffer.{putting}
 use Rattle.frame.specs.declared.reply.Put.the-variants.{At}
 use Rattle.frame.proofs.Buffer.{put-fits, put-past}
 use borrow.Author.Needs.{needs}

@@ -1,7 +1,7 @@
 -- The count, or the refusal and 0, is handed on. Assumes nothing.
 use borrow.Author.Needs.{needs}
 use mathlib.Core.Path.{refl}
-use Rattle.readers.specs.Inside.{countIs}
+use Rattle.readers.specs.Answers.{countIs}
 use Rattle.hingedrift.proofs.Telling.{told-refused}
 use Rattle.hingedrift.proofs.reading.hand_count.Statement.{statement}
 use Rattle.hingedrift.proofs.reading.hand_count.Tie as tie

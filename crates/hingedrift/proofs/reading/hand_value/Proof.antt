@@ -5,7 +5,7 @@ use lib.IntN.{ℤ}
 use Rattle.types.specs.declared.value.Number.{Number}
 use Rattle.types.specs.declared.value.Number.the-variants.{Value}
 use Rattle.types.proofs.Machine.{came-back}
-use Rattle.hingedrift.specs.Reading.{valueAs, numberFields}
+use Rattle.readers.specs.Told.{valueAs, numberFields}
 use Rattle.hingedrift.proofs.reading.hand_value.Statement.{statement}
 use Rattle.hingedrift.proofs.reading.hand_value.Tie as tie
 

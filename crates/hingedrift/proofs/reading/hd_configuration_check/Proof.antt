@@ -1,7 +1,7 @@
 -- What the check counted is handed on. Assumes nothing.
 use borrow.Author.Needs.{needs}
 use mathlib.Core.Path.{ap, _∙_}
-use Rattle.hingedrift.specs.Reading.{countTold}
+use Rattle.readers.specs.Told.{countTold}
 use Rattle.hingedrift.proofs.reading.hd_configuration_check.Statement.{statement}
 use Rattle.hingedrift.proofs.reading.hd_configuration_check.Tie as tie
 

@@ -1,7 +1,7 @@
 -- The command and the status are handed on. Assumes nothing.
 use borrow.Author.Needs.{needs}
 use mathlib.Core.Path.{refl}
-use Rattle.readers.specs.Inside.{responseIs}
+use Rattle.readers.specs.Answers.{responseIs}
 use Rattle.hingedrift.proofs.Telling.{told-so, told-refused}
 use Rattle.hingedrift.proofs.reading.hd_default_response.Statement.{statement}
 use Rattle.hingedrift.proofs.reading.hd_default_response.Tie as tie

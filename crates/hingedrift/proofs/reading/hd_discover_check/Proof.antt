@@ -1,7 +1,7 @@
 -- The complete byte and the count are handed on. Assumes nothing.
 use borrow.Author.Needs.{needs}
 use mathlib.Core.Path.{refl}
-use Rattle.readers.specs.Inside.{discoveryIs}
+use Rattle.readers.specs.Answers.{discoveryIs}
 use Rattle.hingedrift.proofs.Telling.{told-so, told-refused}
 use Rattle.hingedrift.proofs.reading.hd_discover_check.Statement.{statement}
 use Rattle.hingedrift.proofs.reading.hd_discover_check.Tie as tie

@@ -1,7 +1,7 @@
 -- The record that the reader gave is handed on. Assumes nothing.
 use borrow.Author.Needs.{needs}
 use mathlib.Core.Path.{refl}
-use Rattle.readers.specs.Inside.{discoverRecordIs}
+use Rattle.readers.specs.Answers.{discoverRecordIs}
 use Rattle.hingedrift.proofs.Telling.{told-so, told-refused}
 use Rattle.hingedrift.proofs.reading.hd_discover_record.Statement.{statement}
 use Rattle.hingedrift.proofs.reading.hd_discover_record.Tie as tie

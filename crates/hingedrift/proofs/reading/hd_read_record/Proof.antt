@@ -2,8 +2,8 @@
 use borrow.Author.Needs.{needs}
 use mathlib.Core.Path.{refl}
 use denote.Ref.{now}
-use Rattle.readers.specs.Inside.{readRecordIs}
-use Rattle.hingedrift.specs.Reading.{readAs}
+use Rattle.readers.specs.Answers.{readRecordIs}
+use Rattle.readers.specs.Told.{readAs}
 use Rattle.hingedrift.proofs.Telling.{told-so, told-refused, told-within}
 use Rattle.hingedrift.proofs.reading.hd_read_record.Statement.{statement}
 use Rattle.hingedrift.proofs.reading.hd_read_record.Tie as tie

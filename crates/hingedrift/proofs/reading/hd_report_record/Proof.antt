@@ -2,8 +2,8 @@
 use borrow.Author.Needs.{needs}
 use mathlib.Core.Path.{refl}
 use denote.Ref.{now}
-use Rattle.readers.specs.Inside.{reportRecordIs}
-use Rattle.hingedrift.specs.Reading.{reportAs}
+use Rattle.readers.specs.Answers.{reportRecordIs}
+use Rattle.readers.specs.Told.{reportAs}
 use Rattle.hingedrift.proofs.Telling.{told-so, told-refused, told-within}
 use Rattle.hingedrift.proofs.reading.hd_report_record.Statement.{statement}
 use Rattle.hingedrift.proofs.reading.hd_report_record.Tie as tie

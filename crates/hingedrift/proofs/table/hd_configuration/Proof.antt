@@ -1,25 +1,12 @@
 -- The number and the configuration that the operation tells. Assumes nothing.
 use borrow.Author.Needs.{needs}
-use mathlib.Core.Path.{_≡_, sym, ap, _∙_}
+use mathlib.Core.Path.{ap, _∙_}
 use Prim.Native.Nat.{ℕ}
 use denote.Ref.{now}
-use Rattle.reporting.specs.declared.table.Setting.{Setting}
-use Rattle.reporting.specs.Table.{settingTold}
-use Rattle.reporting.specs.Lent.{configurationLent}
-use Rattle.hingedrift.specs.Tables.{keyOf, left, noConfiguration, configurationLeft}
-use Rattle.hingedrift.proofs.Bridge.{asFound, found-so}
+use Rattle.hingedrift.specs.Tables.{left, configurationAs}
+use Rattle.hingedrift.proofs.Bridge.{found-so}
 use Rattle.hingedrift.proofs.table.hd_configuration.Statement.{statement}
 use Rattle.hingedrift.proofs.table.hd_configuration.Tie as tie
-
-found-at : (c : tie.After-configuration-lent) (a : Setting) → c .configuration-lent .result ≡ a
-    → asFound (now (c .before .before .before .args .table)) (settingTold a) ≡ configurationLeft (now (c .before .before .before .args .table)) (keyOf (c .before .before .before .args .cluster) (c .before .before .before .args .attribute))
-found-at c a e =
-    let s = c .before .before .before in
-    let bs = now (s .args .table) in
-    ap (λ (x : Setting). asFound bs (settingTold x)) (sym e)
-    ∙ ap (asFound bs) (c .configuration-lent .ensures)
-    ∙ (λ i. asFound bs (configurationLent (c .before .key-of .ensures i) bs))
-    ∙ found-so bs (keyOf (s .args .cluster) (s .args .attribute))
 
 key-of-requires : tie.Need-key-of-requires
 key-of-requires c κs = search needs
@@ -40,13 +27,20 @@ number-requires : tie.Need-number-requires
 number-requires c κs = search needs
 
 returns : tie.Need-returns
-returns c = found-at (c .before .before .before) _ (c .before .config .given .1)
+returns c =
+    let s = c .before .before .before in
+    found-so (s .configuration-lent .ensures) (s .before .key-of .ensures) (c .before .config .given .1)
 
 returns-2 : tie.Need-returns-2
-returns-2 c = found-at (c .before .before) _ (c .enum-told .given .1)
+returns-2 c =
+    let s = c .before .before in
+    found-so (s .configuration-lent .ensures) (s .before .key-of .ensures) (c .enum-told .given .1)
 
 returns-3 : tie.Need-returns-3
-returns-3 c = ap (λ (n : ℕ). left n (now (c .before .before .before .before .before .before .before .args .table)) noConfiguration) (c .number .ensures) ∙ found-at (c .before .before .before .before) _ (c .before .before .why .given .1)
+returns-3 c =
+    let s = c .before .before .before .before in
+    ap (λ (n : ℕ). left n (now (s .before .before .before .args .table)) (configurationAs 0 0 0 0)) (c .number .ensures)
+    ∙ found-so (s .configuration-lent .ensures) (s .before .key-of .ensures) (c .before .before .why .given .1)
 
 pub hd-configuration-spec : {M : Type 1} → statement M
 hd-configuration-spec =

@@ -3,7 +3,7 @@ use mathlib.Core.Path.{_≡_, sym, ap, _∙_}
 use mathlib.Core.List.{List}
 use Prim.Native.Nat.{ℕ}
 use denote.Ref.{now}
-use Rattle.frame.specs.Reply.{putting, put}
+use Rattle.frame.specs.Inside.Buffer.{putting, put}
 use Rattle.frame.proofs.Shortened.{turned-put, turned-tried, turned-else}
 use Rattle.store.specs.Contents.{nameOf, findOf}
 use Rattle.store.specs.Value.{valueOf}

@@ -1,7 +1,7 @@
 -- `configuration_reply::check_configuration_reply` meets its contract. Assumes nothing.
 use mathlib.Core.Path.{ap, _∙_}
 use Rattle.readers.specs.Replies.{settingRecord, configurationReplyOf}
-use Rattle.readers.specs.Inside.{countIs}
+use Rattle.readers.specs.Answers.{countIs}
 use Rattle.readers.proofs.Records.{record-counts}
 use borrow.Author.Needs.{needs}
 use Rattle.readers.proofs.configuration_reply.check_configuration_reply.Statement.{statement}

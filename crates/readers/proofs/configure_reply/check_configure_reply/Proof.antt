@@ -1,7 +1,7 @@
 -- `configure_reply::check_configure_reply` meets its contract. Assumes nothing.
 use mathlib.Core.Path.{ap, _∙_}
 use Rattle.readers.specs.Replies.{configureFailure, configureReplyOf}
-use Rattle.readers.specs.Inside.{countIs}
+use Rattle.readers.specs.Answers.{countIs}
 use Rattle.readers.proofs.Records.{record-counts}
 use borrow.Author.Needs.{needs}
 use Rattle.readers.proofs.configure_reply.check_configure_reply.Statement.{statement}

@@ -5,7 +5,7 @@ use denote.Ref.{now}
 use Rattle.frame.specs.declared.command_identifier.CommandIdentifier.the-variants.{DiscoverAttributesResponse}
 use Rattle.readers.specs.declared.pass.Swept.{Swept}
 use Rattle.readers.specs.Reading.{read, unreadable, bodyOf}
-use Rattle.readers.specs.Inside.{bodyIs, sized}
+use Rattle.readers.specs.Answers.{bodyIs, sized}
 use Rattle.readers.proofs.Records.{stands, refused}
 use Rattle.readers.proofs.Discoveries.{sized-by, unread}
 use borrow.Author.Needs.{needs}

@@ -4,7 +4,7 @@ use denote.Ref.{now}
 use Rattle.frame.specs.declared.command_identifier.CommandIdentifier.the-variants.{DiscoverAttributesResponse}
 use Rattle.readers.specs.Reading.{Read, read, unreadable, kth, bodyOf}
 use Rattle.readers.specs.Replies.{Discovery}
-use Rattle.readers.specs.Inside.{bodyIs, attributesIn}
+use Rattle.readers.specs.Answers.{bodyIs, attributesIn}
 use Rattle.readers.proofs.Discoveries.{whole, unread}
 use borrow.Author.Needs.{needs}
 use Rattle.readers.proofs.discover_reply.discover_reply_record.Statement.{statement}

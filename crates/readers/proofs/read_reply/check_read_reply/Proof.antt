@@ -1,7 +1,7 @@
 -- `read_reply::check_read_reply` meets its contract. Assumes nothing.
 use mathlib.Core.Path.{ap, _∙_}
 use Rattle.readers.specs.Replies.{readRecord, readReplyOf}
-use Rattle.readers.specs.Inside.{countIs}
+use Rattle.readers.specs.Answers.{countIs}
 use Rattle.readers.proofs.Records.{record-counts}
 use borrow.Author.Needs.{needs}
 use Rattle.readers.proofs.read_reply.check_read_reply.Statement.{statement}

@@ -1,7 +1,7 @@
 -- `report_frame::check_report_frame` meets its contract. Assumes nothing.
 use mathlib.Core.Path.{ap, _∙_}
 use Rattle.readers.specs.Replies.{reportedRecord, reportFrameOf}
-use Rattle.readers.specs.Inside.{countIs}
+use Rattle.readers.specs.Answers.{countIs}
 use Rattle.readers.proofs.Records.{record-counts}
 use borrow.Author.Needs.{needs}
 use Rattle.readers.proofs.report_frame.check_report_frame.Statement.{statement}

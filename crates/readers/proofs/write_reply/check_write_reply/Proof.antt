@@ -1,7 +1,7 @@
 -- `write_reply::check_write_reply` meets its contract. Assumes nothing.
 use mathlib.Core.Path.{ap, _∙_}
 use Rattle.readers.specs.Replies.{writeFailure, writeReplyOf}
-use Rattle.readers.specs.Inside.{countIs}
+use Rattle.readers.specs.Answers.{countIs}
 use Rattle.readers.proofs.Records.{record-counts}
 use borrow.Author.Needs.{needs}
 use Rattle.readers.proofs.write_reply.check_write_reply.Statement.{statement}

@@ -1,7 +1,7 @@
 -- The command's own equation; a read and a discover leave the store. Assumes nothing.
 use lib.ListN.{length}
 use denote.Ref.{now}
-use Rattle.replay.specs.Commands.{still}
+use Rattle.frame.specs.Answer.{within}
 use Rattle.replay.specs.declared.commands.Command.the-variants.{Read, Write, Undivided, Silent, Discover}
 use Rattle.replay.proofs.Answers.{called}
 use borrow.Author.Needs.{needs}
@@ -47,7 +47,7 @@ same-length-2 c = search needs
 returns : tie.Need-returns
 returns c =
     let a = c .before .before .before .before .before .before .before .before .before .before .args in
-    called (a .request) (now (a .body)) (now (a .store)) (length (now (a .reply))) (a .command) Read _ (c .before .before .before .before .before .enum-told .given .1) (λ i. still (now (a .store)) (c .before .before .read-attributes .ensures i))
+    called (a .request) (now (a .body)) (now (a .store)) (length (now (a .reply))) (a .command) Read _ (c .before .before .before .before .before .enum-told .given .1) (λ i. within (λ u. now (a .store)) (c .before .before .read-attributes .ensures i))
 
 same-length-3 : tie.Need-same-length-3
 same-length-3 c = search needs
@@ -91,7 +91,7 @@ same-length-10 c = search needs
 returns-5 : tie.Need-returns-5
 returns-5 c =
     let a = c .before .before .before .before .before .before .before .before .before .before .args in
-    called (a .request) (now (a .body)) (now (a .store)) (length (now (a .reply))) (a .command) Discover _ (c .before .before .before .before .before .enum-told5 .given .1) (λ i. still (now (a .store)) (c .before .before .discover-attributes .ensures i))
+    called (a .request) (now (a .body)) (now (a .store)) (length (now (a .reply))) (a .command) Discover _ (c .before .before .before .before .before .enum-told5 .given .1) (λ i. within (λ u. now (a .store)) (c .before .before .discover-attributes .ensures i))
 
 pub call-spec : {M : Type 1} → statement M
 call-spec =

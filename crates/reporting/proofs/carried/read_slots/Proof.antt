@@ -5,7 +5,8 @@ use Prim.Native.Nat.{_-_}
 use mathlib.Core.Path.{_≡_, _∙_}
 use lib.ListN.{length, length-set}
 use denote.Ref.{now}
-use Rattle.reporting.proofs.CarriageLoops.{length-mapped, ReadSoFar, read-start, read-more, read-done}
+use Rattle.reporting.proofs.Slots.{length-mapped}
+use Rattle.reporting.proofs.CarriageLoops.{ReadSoFar, read-start, read-more, read-done}
 use Rattle.reporting.proofs.carried.read_slots.Statement.{statement}
 use Rattle.reporting.proofs.carried.read_slots.Tie as tie
 
@@ -15,8 +16,8 @@ Inv-loop bytes count table₀ i₀ table i = (length (table .entries) ≡ 16) ×
 abbrev μ-loop : tie.MeasureT-loop
 μ-loop bytes count table₀ i₀ table i = count - i
 
-empty-requires : tie.Need-empty-requires Inv-loop μ-loop
-empty-requires c κs = search needs
+new-requires : tie.Need-new-requires Inv-loop μ-loop
+new-requires c κs = search needs
 
 loop-holds : tie.Need-loop-holds Inv-loop μ-loop
 loop-holds c = (search (length-mapped, needs), read-start _ _ _)
@@ -56,7 +57,7 @@ returns : tie.Need-returns Inv-loop μ-loop
 returns c =
     let a = c .before .before .before .before .args in
     let l = c .before .loop in
-    read-done (now (a .bytes)) (a .count) (l .table .entries) (l .i) (l .inv .1) (c .loop-test .left)
+    read-done (now (a .bytes)) (a .count) (l .table .entries) (l .i) (l .inv .1) (c .loop-test .left) (c .before .before .before .before .pre .0)
 
 pub read-slots-spec : {M : Type 1} → statement M
 read-slots-spec =
@@ -64,7 +65,7 @@ read-slots-spec =
     (tie.spec
     Inv-loop
     μ-loop
-    empty-requires
+    new-requires
     loop-holds
     mul-read-slot
     add-read-slot

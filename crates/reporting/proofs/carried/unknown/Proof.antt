@@ -1,17 +1,16 @@
--- A count of 0 has no entries below it. Assumes nothing.
+-- The empty table, and that it was not read. Assumes nothing.
 use borrow.Author.Needs.{needs}
 use mathlib.Core.Path.{ap}
-use Prim.Native.Nat.{ℕ}
 use mathlib.Core.Bool.{false}
-use lib.ListN.{take}
+use Rattle.reporting.specs.Table.{Table}
 use Rattle.reporting.proofs.carried.unknown.Statement.{statement}
 use Rattle.reporting.proofs.carried.unknown.Tie as tie
 
-empty-requires : tie.Need-empty-requires
-empty-requires c κs = search needs
+new-requires : tie.Need-new-requires
+new-requires c κs = search needs
 
 returns : tie.Need-returns
-returns c = ap (λ (n : ℕ). record { known = false; count = n; entries = take n (c .empty .result .entries) }) (c .empty .ensures)
+returns c = ap (λ (t : Table). record { known = false; table = t }) (c .new .ensures)
 
 pub unknown-spec : {M : Type 1} → statement M
-unknown-spec = tie.close (tie.spec empty-requires returns)
+unknown-spec = tie.close (tie.spec new-requires returns)

@@ -10,7 +10,7 @@ use mathlib.Core.List.{List, [], _∷_}
 use lib.ListN.{length, set, length-set}
 use lib.Seq.{sets}
 use denote.Ref.{now}
-use Rattle.reporting.specs.Carried.{widths, laid, told, numbersOf}
+use Rattle.reporting.specs.Carried.{widths, laid, ifMarked, numbersOf}
 use Rattle.reporting.proofs.CarriageEntry.{told-below, quieted-clean}
 use Rattle.reporting.proofs.CarriageCode.{slot-puts}
 use Rattle.reporting.proofs.carried.write_slot.Statement.{statement}
@@ -124,7 +124,7 @@ returns c =
           (now (s .args .bytes)) (w₁ .last .0) (w₂ .last .0) (w₃ .last .0) (w₄ .last .0) (w₅ .last .0) (flagged (f .result)) (w₇ .last .0) (w₈ .last .0)
           (w₁ .ensures) (w₂ .ensures) (w₃ .ensures) (w₄ .ensures) (w₅ .ensures) (ap flagged (sym (mod-eq-of-lt (flag-below (c .before .before .before .before .before .before .before .before .before .before .before .before))))) (w₇ .ensures) (w₈ .ensures)
           ∙ ap (λ (ns : List ℕ). sets (now (s .args .bytes)) (s .args .at) (laid widths ns))
-          (λ i. k .cluster .0 ∷ k .attribute .0 ∷ g .«min_interval» ∷ g .«max_interval» ∷ g .«reportable_change» ∷ f .ensures i ∷ t .ensures i ∷ (v .ensures ∙ ap (told (s .args .e .marked)) b) i ∷ []),
+          (λ i. k .cluster .0 ∷ k .attribute .0 ∷ g .«min_interval» ∷ g .«max_interval» ∷ g .«reportable_change» ∷ f .ensures i ∷ t .ensures i ∷ (v .ensures ∙ ap (ifMarked (s .args .e .marked)) b) i ∷ []),
       quieted-clean (s .args .e) (omega (arith, s .good)) (omega (arith, s .good)) (omega (arith, s .good)) (omega (arith, s .good)) (omega (arith, s .good)) (omega (arith, s .good)) (c .before .before .before .before .before .before .before .before .before .before .before .before .before .before .before .before .before .before .before .before .before .before .before .before .before .before .before .before .before .before .before .before .before .struct-told .given .1 .1 .1 .1 .0 .1),
     )
 

@@ -8,9 +8,11 @@ use mathlib.Core.List.{map}
 use lib.ListN.{length, take}
 use lib.Seq.{length-take-le}
 use denote.Ref.{now}
-use Rattle.reporting.specs.Carried.{AllClean, quieted, readT}
+use Rattle.reporting.specs.Carried.{quieted, readT}
+use Rattle.reporting.specs.Claims.RoundTrip.{AllClean}
 use Rattle.reporting.proofs.CarriageTable.{quieted-read}
-use Rattle.reporting.proofs.CarriageLoops.{length-mapped, filled, cleared-length, filled-start, filled-turn, clean-turn, filled-all, write-sized, write-counted, write-done}
+use Rattle.reporting.proofs.Slots.{length-mapped}
+use Rattle.reporting.proofs.CarriageLoops.{filled, cleared-length, filled-start, filled-turn, clean-turn, filled-all, write-sized, write-counted, write-done}
 use Rattle.reporting.proofs.carried.write_table.Statement.{statement}
 use Rattle.reporting.proofs.carried.write_table.Tie as tie
 

@@ -6,7 +6,7 @@ use mathlib.Core.Bool.{true, false}
 use borrow.Author.Tests.{not-true, not-false}
 use mir.Facts.{toZ-ofZ}
 use denote.Ref.{now}
-use Rattle.reporting.specs.Table.{room}
+use Rattle.reporting.specs.Table.{capacity}
 use Rattle.reporting.specs.Carried.{isTable}
 use Rattle.reporting.proofs.CarriageLoops.{known-size, known-count}
 use Rattle.reporting.proofs.Lending.{FoundSlot, ask-refused, ask-absent, ask-is}
@@ -16,7 +16,7 @@ use Rattle.reporting.proofs.lent.ask_lent.Tie as tie
 is-table-requires : tie.Need-is-table-requires
 is-table-requires c κs = search needs
 
-known : (c : tie.Else1) → isTable room (now (c .before .before .before .args .bytes)) ≡ true
+known : (c : tie.Else1) → isTable capacity (now (c .before .before .before .args .bytes)) ≡ true
 known c = sym (c .before .is-table .ensures) ∙ not-false _ (c .if1 .left)
 
 -- what is known once the scan has come back

@@ -4,11 +4,10 @@ use native.Mathlib.Omega.{arith}
 use mathlib.Core.Path.{_≡_, sym, ap, _∙_}
 use Prim.Native.Nat.{ℕ, _+_, _-_}
 use lib.ListN.{length, drop, length-drop, length-replicate}
-use lib.Seq.{length-take-le}
+use lib.Seq.{sets, length-take-le}
 use denote.Ref.{now}
 use Rattle.types.specs.Number.{zeros}
-use Rattle.frame.specs.Reply.{over}
-use Rattle.frame.proofs.Buffer.{mid-over}
+use Rattle.frame.proofs.Buffer.{mid-sets}
 use Rattle.reporting.proofs.lent.blank_slot.Statement.{statement}
 use Rattle.reporting.proofs.lent.blank_slot.Tie as tie
 
@@ -36,7 +35,8 @@ returns c =
     let at = c .before .before .before .before .before .args .at in
     let n : at + 29 - at ≡ 29 = omega arith in
     let z : c .before .before .clear .last .0 ≡ zeros 29 = c .before .before .clear .ensures ∙ ap zeros (length-take-le (at + 29 - at) (drop at bs) (omega (arith, length-drop at bs, c .before .before .before .before .before .pre)) ∙ n) in
-    mid-over bs (c .before .before .clear .last .0) at (at + 29 - at) (ap length z ∙ length-replicate {A = ℕ} 29 0 ∙ sym n) ∙ ap (over bs at) z
+    let m : length (c .before .before .clear .last .0) ≡ 29 = ap length z ∙ length-replicate {A = ℕ} 29 0 in
+    mid-sets bs (c .before .before .clear .last .0) at (at + 29 - at) (m ∙ sym n) (omega (arith, m, c .before .before .before .before .before .pre)) ∙ ap (sets bs at) z
 
 pub blank-slot-spec : {M : Type 1} → statement M
 blank-slot-spec =

@@ -7,7 +7,7 @@ use denote.Ref.{now}
 use Rattle.types.specs.Number.{AllBytes}
 use Rattle.reporting.specs.declared.table.Change.the-variants as ChangeV
 use Rattle.reporting.specs.Entries.{fresh}
-use Rattle.reporting.specs.Carried.{Clean}
+use Rattle.reporting.specs.Claims.RoundTrip.{Clean}
 use Rattle.reporting.proofs.CarriageLoops.{known-size}
 use Rattle.reporting.proofs.Lending.{FoundSlot, fresh-clean, configure-full, configure-new, configure-old, configure-seen}
 use Rattle.reporting.proofs.lent.configure_in.Statement.{statement}

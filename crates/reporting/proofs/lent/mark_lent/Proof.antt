@@ -8,14 +8,14 @@ use mir.Facts.{toZ-ofZ}
 use denote.Ref.{now}
 use Rattle.types.specs.Number.{AllBytes}
 use Rattle.reporting.specs.Entries.{markE}
-use Rattle.reporting.specs.Table.{room}
+use Rattle.reporting.specs.Table.{capacity}
 use Rattle.reporting.specs.Carried.{isTable}
 use Rattle.reporting.proofs.CarriageLoops.{known-size, known-count}
 use Rattle.reporting.proofs.Lending.{FoundSlot, mark-refused, mark-absent, mark-is}
 use Rattle.reporting.proofs.lent.mark_lent.Statement.{statement}
 use Rattle.reporting.proofs.lent.mark_lent.Tie as tie
 
-known : (c : tie.Else1) → isTable room (now (c .before .before .before .before .args .bytes)) ≡ true
+known : (c : tie.Else1) → isTable capacity (now (c .before .before .before .before .args .bytes)) ≡ true
 known c = sym (c .before .is-table .ensures) ∙ not-false _ (c .if1 .left)
 
 -- what is known once the scan has come back

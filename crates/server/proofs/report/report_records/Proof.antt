@@ -4,7 +4,7 @@ use mathlib.Core.List.{List}
 use Prim.Native.Nat.{ℕ, _-_, _≤_}
 use native.Mathlib.Omega.{arith}
 use lib.ListN.{length}
-use Rattle.frame.specs.Reply.{Shows}
+use Rattle.frame.specs.Inside.Buffer.{Shows}
 use Rattle.server.proofs.Going.{Going, going-first, going-more, going-ends, going-done}
 use borrow.Author.Needs.{needs}
 use Rattle.server.proofs.report.report_records.Statement.{statement}

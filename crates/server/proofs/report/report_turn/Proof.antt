@@ -4,7 +4,7 @@ use mathlib.Core.List.{List}
 use Prim.Native.Nat.{ℕ}
 use denote.Ref.{now}
 use borrow.Author.Tests.{not-true, not-false}
-use Rattle.frame.specs.Reply.{putting, put}
+use Rattle.frame.specs.Inside.Buffer.{putting, put}
 use Rattle.store.specs.Contents.{nameOf, findOf}
 use Rattle.server.specs.Report.{encode, reportRecord, recordOf}
 use Rattle.server.proofs.Turns.{turn-nothing, turn-unreportable, turn-more, turn-full}

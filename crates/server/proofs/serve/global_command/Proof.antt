@@ -4,17 +4,18 @@ use denote.Ref.{now}
 use lib.ListN.{length}
 use Rattle.frame.specs.declared.command_identifier.CommandIdentifier.{CommandIdentifier}
 use Rattle.frame.specs.CommandIdentifier.{commandOf}
-use Rattle.reporting.specs.Table.{room, holding}
+use Rattle.frame.specs.Answer.{within}
+use Rattle.reporting.specs.Table.{capacity, holding}
 use Rattle.reporting.specs.Carried.{tableIn}
-use Rattle.server.specs.Serve.{state, within, storing, tabling, commanded}
+use Rattle.server.specs.Serve.{state, storing, tabling, commanded}
 use Rattle.server.proofs.Commands.{rest-unsupported}
 use borrow.Author.Needs.{needs}
 use Rattle.server.proofs.serve.global_command.Statement.{statement}
 use Rattle.server.proofs.serve.global_command.Tie as tie
 
 -- the command that was told is the one of the number
-told : (c : tie.After-from-bits) (k : CommandIdentifier) → c .from-bits .result ≡ k → commanded 8 room (now (c .before .before .before .before .before .before .args .store)) (holding (tableIn (now (c .before .before .before .before .before .before .args .table)))) (c .before .before .before .before .before .before .args .unicast) (c .before .before .before .before .before .before .args .request) (now (c .before .before .before .before .before .before .args .body)) (length (now (c .before .before .before .before .before .before .args .reply))) k ≡ commanded 8 room (now (c .before .before .before .before .before .before .args .store)) (holding (tableIn (now (c .before .before .before .before .before .before .args .table)))) (c .before .before .before .before .before .before .args .unicast) (c .before .before .before .before .before .before .args .request) (now (c .before .before .before .before .before .before .args .body)) (length (now (c .before .before .before .before .before .before .args .reply))) (commandOf (c .before .before .before .before .before .before .args .request .«command_identifier» .0))
-told c k e = ap (commanded 8 room (now (c .before .before .before .before .before .before .args .store)) (holding (tableIn (now (c .before .before .before .before .before .before .args .table)))) (c .before .before .before .before .before .before .args .unicast) (c .before .before .before .before .before .before .args .request) (now (c .before .before .before .before .before .before .args .body)) (length (now (c .before .before .before .before .before .before .args .reply)))) (sym e ∙ c .from-bits .ensures)
+told : (c : tie.After-from-bits) (k : CommandIdentifier) → c .from-bits .result ≡ k → commanded 8 capacity (now (c .before .before .before .before .before .before .args .store)) (holding (tableIn (now (c .before .before .before .before .before .before .args .table)))) (c .before .before .before .before .before .before .args .unicast) (c .before .before .before .before .before .before .args .request) (now (c .before .before .before .before .before .before .args .body)) (length (now (c .before .before .before .before .before .before .args .reply))) k ≡ commanded 8 capacity (now (c .before .before .before .before .before .before .args .store)) (holding (tableIn (now (c .before .before .before .before .before .before .args .table)))) (c .before .before .before .before .before .before .args .unicast) (c .before .before .before .before .before .before .args .request) (now (c .before .before .before .before .before .before .args .body)) (length (now (c .before .before .before .before .before .before .args .reply))) (commandOf (c .before .before .before .before .before .before .args .request .«command_identifier» .0))
+told c k e = ap (commanded 8 capacity (now (c .before .before .before .before .before .before .args .store)) (holding (tableIn (now (c .before .before .before .before .before .before .args .table)))) (c .before .before .before .before .before .before .args .unicast) (c .before .before .before .before .before .before .args .request) (now (c .before .before .before .before .before .before .args .body)) (length (now (c .before .before .before .before .before .before .args .reply)))) (sym e ∙ c .from-bits .ensures)
 
 from-bits-requires : tie.Need-from-bits-requires
 from-bits-requires c κs = search needs
@@ -147,7 +148,7 @@ returns-8 : tie.Need-returns-8
 returns-8 c = (
   c .before .before .before .before .before .before .before .before .before .before .before .pre,
   ap (within (λ u. state (now (c .before .before .before .before .before .before .before .before .before .before .before .args .store)) (holding (tableIn (now (c .before .before .before .before .before .before .before .before .before .before .before .args .table)))))) (c .before .before .default-response .ensures)
-      ∙ rest-unsupported 8 room (now (c .before .before .before .before .before .before .before .before .before .before .before .args .store)) (holding (tableIn (now (c .before .before .before .before .before .before .before .before .before .before .before .args .table)))) (c .before .before .before .before .before .before .before .before .before .before .before .args .unicast) (c .before .before .before .before .before .before .before .before .before .before .before .args .request) (now (c .before .before .before .before .before .before .before .before .before .before .before .args .body)) (length (now (c .before .before .before .before .before .before .before .before .before .before .before .args .reply))) (c .before .before .before .before .before .from-bits .result) (c .before .before .before .before .match .keys8)
+      ∙ rest-unsupported 8 capacity (now (c .before .before .before .before .before .before .before .before .before .before .before .args .store)) (holding (tableIn (now (c .before .before .before .before .before .before .before .before .before .before .before .args .table)))) (c .before .before .before .before .before .before .before .before .before .before .before .args .unicast) (c .before .before .before .before .before .before .before .before .before .before .before .args .request) (now (c .before .before .before .before .before .before .before .before .before .before .before .args .body)) (length (now (c .before .before .before .before .before .before .before .before .before .before .before .args .reply))) (c .before .before .before .before .before .from-bits .result) (c .before .before .before .before .match .keys8)
       ∙ told (c .before .before .before .before .before) (c .before .before .before .before .before .from-bits .result) refl,
 )
 

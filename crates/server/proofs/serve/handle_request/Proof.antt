@@ -1,11 +1,9 @@
 -- The table as its bytes: not written, or served there and read back. Assumes nothing.
-use mathlib.Core.Path.{_≡_}
 use denote.Ref.{now}
 use lib.ListN.{length}
 use borrow.Author.Tests.{not-true, not-false}
-use Rattle.reporting.specs.Table.{room}
-use Rattle.reporting.proofs.Slots.{length-mapped}
-use Rattle.configure.proofs.Settings.{carries-is}
+use Rattle.reporting.specs.Table.{capacity}
+use Rattle.reporting.proofs.CarriageTable.{read-is}
 use Rattle.server.proofs.Served.{not-written, was-written, value-refused, value-served}
 use borrow.Author.Needs.{needs}
 use Rattle.server.proofs.serve.handle_request.Statement.{statement}
@@ -21,7 +19,7 @@ slice-aggregate-serve-known : tie.Need-slice-aggregate-serve-known
 slice-aggregate-serve-known c = search needs
 
 serve-known-requires : tie.Need-serve-known-requires
-serve-known-requires c κs = λ k. carries-is _ _ (c .before .before .before .before .write-table .ensures .1 k) .0
+serve-known-requires c κs = λ k. read-is capacity _ _ (c .before .before .before .before .write-table .ensures .1 k) .0
 
 same-length : tie.Need-same-length
 same-length c = search needs
@@ -52,12 +50,10 @@ same-length-4 c = search needs
 
 returns-2 : tie.Need-returns-2
 returns-2 c =
-    let n : length (c .before .before .before .before .before .before .before .before .before .before .before .before .before .before .before .before .before .before .before .args .table .entries) ≡ room = search (length-mapped, needs) in
     let g = c .before .before .before .before .before .before .before .before .before .before .before .before .before .before .before .before .before .before .before .args in
     let one = not-false _ (c .before .before .before .if1 .left) in
     value-served (now (g .store)) (g .table) (g .cluster .0) (g .unicast) (now (g .request)) (length (now (g .reply))) (c .before .before .before .before .before .before .before .before .before .serve-known .result) _
     (was-written (g .table) _ (search needs) _ _ (c .before .before .before .before .before .before .before .before .before .before .before .before .before .before .write-table .ensures .0) one)
-    n
     _
     (c .before .before .before .before .before .before .before .before .before .before .before .before .before .before .write-table .ensures .1 one)
     _ _

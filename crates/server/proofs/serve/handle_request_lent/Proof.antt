@@ -1,5 +1,5 @@
 -- Bytes that are asked whether they are a table, and then the request over them. Assumes nothing.
-use mathlib.Core.Path.{_≡_, sym, _∙_}
+use mathlib.Core.Path.{sym, _∙_}
 use denote.Ref.{now}
 use lib.ListN.{length}
 use Rattle.server.proofs.Served.{lent-over}

@@ -1,6 +1,6 @@
 -- A global command, a cluster command, or a reserved type. Assumes nothing.
 use mathlib.Core.Path.{_≡_, refl, sym, ap, _∙_}
-use mathlib.Core.List.{List, [], _∷_}
+use mathlib.Core.List.{[], _∷_}
 use types.Run.{OneOf, miss}
 use denote.Enum.Declared.{tagOf}
 use Rattle.frame.proofs.header.FrameType as frame-type
@@ -9,16 +9,17 @@ use lib.ListN.{length}
 use Rattle.frame.specs.declared.header.FrameType.{FrameType}
 use Rattle.frame.specs.declared.header.FrameType.the-variants.{GlobalCommand, ClusterCommand, Reserved}
 use Rattle.frame.specs.Header.{frameTypeOf}
-use Rattle.reporting.specs.Table.{room, holding}
+use Rattle.frame.specs.Answer.{within}
+use Rattle.reporting.specs.Table.{capacity, holding}
 use Rattle.reporting.specs.Carried.{tableIn}
-use Rattle.server.specs.Serve.{state, within, typed}
+use Rattle.server.specs.Serve.{state, typed}
 use borrow.Author.Needs.{needs}
 use Rattle.server.proofs.serve.serve_frame.Statement.{statement}
 use Rattle.server.proofs.serve.serve_frame.Tie as tie
 
 -- the type that was told is the one of the control byte
-told : (c : tie.After-frame-type) (k : FrameType) → c .frame-type .result ≡ k → typed 8 room (now (c .before .before .before .before .before .args .store)) (holding (tableIn (now (c .before .before .before .before .before .args .table)))) (c .before .before .before .before .before .args .unicast) (c .before .before .before .before .before .args .request) (now (c .before .before .before .before .before .args .body)) (length (now (c .before .before .before .before .before .args .reply))) k ≡ typed 8 room (now (c .before .before .before .before .before .args .store)) (holding (tableIn (now (c .before .before .before .before .before .args .table)))) (c .before .before .before .before .before .args .unicast) (c .before .before .before .before .before .args .request) (now (c .before .before .before .before .before .args .body)) (length (now (c .before .before .before .before .before .args .reply))) (frameTypeOf (c .before .before .before .before .before .args .request .«frame_control» .0))
-told c k e = ap (typed 8 room (now (c .before .before .before .before .before .args .store)) (holding (tableIn (now (c .before .before .before .before .before .args .table)))) (c .before .before .before .before .before .args .unicast) (c .before .before .before .before .before .args .request) (now (c .before .before .before .before .before .args .body)) (length (now (c .before .before .before .before .before .args .reply)))) (sym e ∙ c .frame-type .ensures)
+told : (c : tie.After-frame-type) (k : FrameType) → c .frame-type .result ≡ k → typed 8 capacity (now (c .before .before .before .before .before .args .store)) (holding (tableIn (now (c .before .before .before .before .before .args .table)))) (c .before .before .before .before .before .args .unicast) (c .before .before .before .before .before .args .request) (now (c .before .before .before .before .before .args .body)) (length (now (c .before .before .before .before .before .args .reply))) k ≡ typed 8 capacity (now (c .before .before .before .before .before .args .store)) (holding (tableIn (now (c .before .before .before .before .before .args .table)))) (c .before .before .before .before .before .args .unicast) (c .before .before .before .before .before .args .request) (now (c .before .before .before .before .before .args .body)) (length (now (c .before .before .before .before .before .args .reply))) (frameTypeOf (c .before .before .before .before .before .args .request .«frame_control» .0))
+told c k e = ap (typed 8 capacity (now (c .before .before .before .before .before .args .store)) (holding (tableIn (now (c .before .before .before .before .before .args .table)))) (c .before .before .before .before .before .args .unicast) (c .before .before .before .before .before .args .request) (now (c .before .before .before .before .before .args .body)) (length (now (c .before .before .before .before .before .args .reply)))) (sym e ∙ c .frame-type .ensures)
 
 -- neither a global command nor a cluster command
 is-reserved : (k : FrameType) → OneOf (1 ∷ 2 ∷ []) (tagOf frame-type.the-type k) → OneOf (0 ∷ 2 ∷ []) (tagOf frame-type.the-type k) → k ≡ Reserved

@@ -5,16 +5,17 @@ use mathlib.Core.List.{List}
 use Prim.Native.Nat.{ℕ, _-_, _≤_}
 use native.Mathlib.Omega.{arith}
 use denote.Ref.{now}
-use lib.ListN.{length, take, drop, length-drop}
+use lib.ListN.{length, drop, length-drop}
 use lib.Seq.{take-all}
 use borrow.Author.Tests.{not-true, not-false}
 use Rattle.frame.specs.declared.header.HeaderRead.the-variants.{Header, Short}
 use Rattle.frame.specs.Header.{frameTypeOf, headerOf}
+use Rattle.frame.specs.Answer.{within}
 use Rattle.frame.proofs.Headers.{header-body}
 use Rattle.store.specs.Layout.{isStore}
-use Rattle.reporting.specs.Table.{room, holding}
+use Rattle.reporting.specs.Table.{capacity, holding}
 use Rattle.reporting.specs.Carried.{tableIn}
-use Rattle.server.specs.Serve.{state, within, byHeader, typed}
+use Rattle.server.specs.Serve.{state, byHeader, typed}
 use Rattle.server.proofs.Served.{serve-other, serve-read, over-no-store, over-no-table, over-table}
 use borrow.Author.Needs.{needs}
 use Rattle.server.proofs.serve.serve_known.Statement.{statement}
@@ -138,7 +139,7 @@ unfolding byHeader
 returns-5 c =
     over-table (now (c .before .before .before .before .before .before .before .before .before .before .before .before .before .before .before .before .before .before .before .before .before .before .before .before .before .before .before .before .args .store)) (now (c .before .before .before .before .before .before .before .before .before .before .before .before .before .before .before .before .before .before .before .before .before .before .before .before .before .before .before .before .args .table)) (c .before .before .before .before .before .before .before .before .before .before .before .before .before .before .before .before .before .before .before .before .before .before .before .before .before .before .before .before .args .cluster .0) (c .before .before .before .before .before .before .before .before .before .before .before .before .before .before .before .before .before .before .before .before .before .before .before .before .before .before .before .before .args .unicast) (now (c .before .before .before .before .before .before .before .before .before .before .before .before .before .before .before .before .before .before .before .before .before .before .before .before .before .before .before .before .args .request)) (length (now (c .before .before .before .before .before .before .before .before .before .before .before .before .before .before .before .before .before .before .before .before .before .before .before .before .before .before .before .before .args .reply))) (c .before .before .before .before .before .before .before .before .before .before .before .before .before .before .before .before .before .before .before .before .before .before .before .before .before .before .before .before .args .known) (c .before .before .before .before .before .before .serve-frame .result) _ (is-known (c .before .before .before .before .before .before .before .before .before .before .before .before .before .before .before .before .before .before .before .before)) _ _ (c .before .before .before .before .before .before .serve-frame .ensures .0)
     (c .before .before .before .before .before .before .serve-frame .ensures .1
-    ∙ ap (λ (l : List ℕ). typed 8 room (now (c .before .before .before .before .before .before .before .before .before .before .before .before .before .before .before .before .before .before .before .before .before .before .before .before .before .before .before .before .args .store)) (holding (tableIn (now (c .before .before .before .before .before .before .before .before .before .before .before .before .before .before .before .before .before .before .before .before .before .before .before .before .before .before .before .before .args .table)))) (c .before .before .before .before .before .before .before .before .before .before .before .before .before .before .before .before .before .before .before .before .before .before .before .before .before .before .before .before .args .unicast) (c .before .before .before .before .before .before .before .before .before .before .before .before .h .given .0 .0) l (length (now (c .before .before .before .before .before .before .before .before .before .before .before .before .before .before .before .before .before .before .before .before .before .before .before .before .before .before .before .before .args .reply))) (frameTypeOf (c .before .before .before .before .before .before .before .before .before .before .before .before .h .given .0 .0 .«frame_control» .0)))
+    ∙ ap (λ (l : List ℕ). typed 8 capacity (now (c .before .before .before .before .before .before .before .before .before .before .before .before .before .before .before .before .before .before .before .before .before .before .before .before .before .before .before .before .args .store)) (holding (tableIn (now (c .before .before .before .before .before .before .before .before .before .before .before .before .before .before .before .before .before .before .before .before .before .before .before .before .before .before .before .before .args .table)))) (c .before .before .before .before .before .before .before .before .before .before .before .before .before .before .before .before .before .before .before .before .before .before .before .before .before .before .before .before .args .unicast) (c .before .before .before .before .before .before .before .before .before .before .before .before .h .given .0 .0) l (length (now (c .before .before .before .before .before .before .before .before .before .before .before .before .before .before .before .before .before .before .before .before .before .before .before .before .before .before .before .before .args .reply))) (frameTypeOf (c .before .before .before .before .before .before .before .before .before .before .before .before .h .given .0 .0 .«frame_control» .0)))
     (take-all (length (now (c .before .before .before .before .before .before .before .before .before .before .before .before .before .before .before .before .before .before .before .before .before .before .before .before .before .before .before .before .args .request)) - c .before .before .before .before .before .before .before .before .before .before .before .before .h .given .0 .0 .body) (drop (c .before .before .before .before .before .before .before .before .before .before .before .before .h .given .0 .0 .body) (now (c .before .before .before .before .before .before .before .before .before .before .before .before .before .before .before .before .before .before .before .before .before .before .before .before .before .before .before .before .args .request))) (simp length-drop (omega arith)))
     ∙ serve-read (now (c .before .before .before .before .before .before .before .before .before .before .before .before .before .before .before .before .before .before .before .before .before .before .before .before .before .before .before .before .args .store)) (tableIn (now (c .before .before .before .before .before .before .before .before .before .before .before .before .before .before .before .before .before .before .before .before .before .before .before .before .before .before .before .before .args .table))) (c .before .before .before .before .before .before .before .before .before .before .before .before .before .before .before .before .before .before .before .before .before .before .before .before .before .before .before .before .args .cluster .0) (c .before .before .before .before .before .before .before .before .before .before .before .before .before .before .before .before .before .before .before .before .before .before .before .before .before .before .before .before .args .unicast) (now (c .before .before .before .before .before .before .before .before .before .before .before .before .before .before .before .before .before .before .before .before .before .before .before .before .before .before .before .before .args .request)) (length (now (c .before .before .before .before .before .before .before .before .before .before .before .before .before .before .before .before .before .before .before .before .before .before .before .before .before .before .before .before .args .reply))) (is-one (c .before .before .before .before .before .before .before .before .before .before .before .before .before .before .before .before .before .before .before .before .before)) _ (c .before .before .before .before .before .before .before .before .before .before .before .before .before .before .before .before .before .before .cluster-of .ensures) (c .before .before .before .before .before .before .before .before .before .before .before .before .before .before .before .if3 .left) (Header (c .before .before .before .before .before .before .before .before .before .before .before .before .h .given .0 .0)) (sym (header (c .before .before .before .before .before .before .before .before .before .before .before .before))))
 

@@ -6,7 +6,7 @@ use lib.Dec.{eqb}
 use Rattle.frame.specs.CommandIdentifier.{commandCode}
 use Rattle.frame.specs.declared.header.FrameType.{FrameType}
 use Rattle.frame.specs.declared.command_identifier.CommandIdentifier.the-variants.{DefaultResponse}
-use Rattle.server.specs.UnsupportedCluster.{isGlobal}
+use Rattle.frame.specs.Header.{isGlobal}
 use Rattle.server.proofs.Listed.{not-global}
 use borrow.Author.Needs.{needs}
 use Rattle.server.proofs.unsupported_cluster.is_default_response.Statement.{statement}

@@ -4,13 +4,13 @@ use Prim.Native.Nat.{_-_, _≤_}
 use native.Mathlib.Omega.{arith}
 use lib.ListN.{length, drop}
 use borrow.Author.Needs.{needs}
-use Rattle.server.specs.UnsupportedCluster.{among}
+use Rattle.server.specs.UnsupportedCluster.{isServed}
 use Rattle.server.proofs.Listed.{served-here, served-further, served-nowhere}
 use Rattle.server.proofs.unsupported_cluster.is_served.Statement.{statement}
 use Rattle.server.proofs.unsupported_cluster.is_served.Tie as tie
 
 abbrev Inv-loop : tie.InvT-loop
-Inv-loop served wanted i₀ i = (i ≤ length served) × (among wanted (drop i served) ≡ among wanted served)
+Inv-loop served wanted i₀ i = (i ≤ length served) × (isServed wanted (drop i served) ≡ isServed wanted served)
 
 abbrev μ-loop : tie.MeasureT-loop
 μ-loop served wanted i₀ i = length served - i

@@ -11,11 +11,11 @@ use borrow.Author.Tests.{le-leb, lt-leb, lt-ltb, le-ltb, ltb-true, ltb-false}
 use types.Run.{OneOf, miss}
 use denote.Enum.Declared.{tagOf}
 use denote.Ref.{now}
-use Rattle.types.proofs.ids.Form as form
-use Rattle.types.specs.Ids.{formOf}
+use Rattle.types.proofs.ids.Shape as shape
+use Rattle.types.specs.Ids.{shapeOf}
 use Rattle.types.specs.Number.{allZero}
-use Rattle.types.specs.declared.ids.Form.{Form}
-use Rattle.types.specs.declared.ids.Form.the-variants.{Fixed, Text, LongText, Series, Structure, Unknown}
+use Rattle.types.specs.declared.ids.Shape.{Shape}
+use Rattle.types.specs.declared.ids.Shape.the-variants.{Fixed, Text, LongText, Series, Structure, Unknown}
 use Rattle.store.specs.declared.lookup.Attribute.{Attribute}
 use Rattle.store.specs.Layout.{isText, textLength, roomOk, roomBy, lengthOk, unusedOk, allOf}
 use Rattle.store.proofs.Layouts.{falsy, text-length-below}
@@ -24,7 +24,7 @@ use Rattle.store.proofs.layout.body_ok.Statement.{statement}
 use Rattle.store.proofs.layout.body_ok.Tie as tie
 
 -- the other forms stand in no store
-other-room : (k : Form) (room : ℕ) → OneOf (2 ∷ 3 ∷ 4 ∷ 5 ∷ []) (tagOf form.the-type k) → roomBy k room ≡ false
+other-room : (k : Shape) (room : ℕ) → OneOf (2 ∷ 3 ∷ 4 ∷ 5 ∷ []) (tagOf shape.the-type k) → roomBy k room ≡ false
 other-room (Fixed w) room o = absurd (miss (2 ∷ 3 ∷ 4 ∷ 5 ∷ []) 0 tt o)
 other-room Text room o = absurd (miss (2 ∷ 3 ∷ 4 ∷ 5 ∷ []) 1 tt o)
 other-room LongText room o = refl
@@ -37,15 +37,15 @@ module _ (s : List ℕ) (a : Attribute) where
   abbrev tests : List Bool
   tests = roomOk a ∷ lengthOk s a ∷ unusedOk s a ∷ []
 
-  fixed : (w : ℕ) → formOf (a .«type_id» .0) ≡ Fixed w → (leb 1 w && leb w 16 && eqb (a .room) w) ≡ allOf tests
+  fixed : (w : ℕ) → shapeOf (a .«type_id» .0) ≡ Fixed w → (leb 1 w && leb w 16 && eqb (a .room) w) ≡ allOf tests
   unfolding roomOk lengthOk unusedOk isText
   fixed w e = rw e (and-assoc (leb 1 w) (leb w 16) (eqb (a .room) w) ∙ sym (and-true _))
 
-  other : (k : Form) → formOf (a .«type_id» .0) ≡ k → OneOf (2 ∷ 3 ∷ 4 ∷ 5 ∷ []) (tagOf form.the-type k) → false ≡ allOf tests
+  other : (k : Shape) → shapeOf (a .«type_id» .0) ≡ k → OneOf (2 ∷ 3 ∷ 4 ∷ 5 ∷ []) (tagOf shape.the-type k) → false ≡ allOf tests
   unfolding roomOk
   other k e o = falsy tests 0 (ap (λ f. roomBy f (a .room)) e ∙ other-room k (a .room) o)
 
-  module _ (e : formOf (a .«type_id» .0) ≡ Text) where
+  module _ (e : shapeOf (a .«type_id» .0) ≡ Text) where
     large : 255 < a .room → false ≡ allOf tests
     unfolding roomOk
     large h = falsy tests 0 (rw (e, le-leb 1 (a .room) (omega arith)) (lt-leb (a .room) 255 h))
@@ -70,16 +70,16 @@ sized : (c : tie.Joined1)
 sized c =
     let g = c .before .before .before .before .before .before .before .args in
     let w = c .before .before .layout .given .0 .0 in
-    ap (λ b. b && eqb (g .a .room) w) (width c) ∙ fixed (now (g .s)) (g .a) w (sym (c .before .before .before .before .form .ensures) ∙ c .before .before .layout .given .1)
+    ap (λ b. b && eqb (g .a .room) w) (width c) ∙ fixed (now (g .s)) (g .a) w (sym (c .before .before .before .before .shape .ensures) ∙ c .before .before .layout .given .1)
 
-is-text : (c : tie.After-enum-told) → formOf (c .before .before .before .before .before .args .a .«type_id» .0) ≡ Text
-is-text c = sym (c .before .before .form .ensures) ∙ c .enum-told .given .1
+is-text : (c : tie.After-enum-told) → shapeOf (c .before .before .before .before .before .args .a .«type_id» .0) ≡ Text
+is-text c = sym (c .before .before .shape .ensures) ∙ c .enum-told .given .1
 
 cast-room : tie.Need-cast-room
 cast-room c = search needs
 
-form-requires : tie.Need-form-requires
-form-requires c κs = search needs
+shape-requires : tie.Need-shape-requires
+shape-requires c κs = search needs
 
 enum-known-layout : tie.Need-enum-known-layout
 enum-known-layout c = search needs
@@ -137,14 +137,14 @@ returns-4 c =
     ∙ short s a (is-text (c .before .before .before .before .before .before)) (omega (arith, n, c .before .before .before .before .if3 .left)) (ltb-false 255 (a .room) (c .before .before .before .if4 .left))
 
 returns-5 : tie.Need-returns-5
-returns-5 c = other (now (c .before .before .before .before .args .s)) (c .before .before .before .before .args .a) (c .before .form .result) (sym (c .before .form .ensures)) (c .match .keys3)
+returns-5 c = other (now (c .before .before .before .before .args .s)) (c .before .before .before .before .args .a) (c .before .shape .result) (sym (c .before .shape .ensures)) (c .match .keys3)
 
 pub body-ok-spec : {M : Type 1} → statement M
 body-ok-spec =
     tie.close
     (tie.spec
     cast-room
-    form-requires
+    shape-requires
     enum-known-layout
     enum-told
     text-length-requires

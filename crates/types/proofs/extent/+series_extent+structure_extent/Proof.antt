@@ -9,7 +9,7 @@ use lib.ListN.{getD}
 use Rattle.types.specs.Extent.{upto, times, valueAt, seriesAt, structureAt, member}
 use Rattle.types.specs.declared.extent.Extent.the-variants.{End}
 use Rattle.types.proofs.Extents.{upto-end, series-none, series-cut, series-from, series-fixed, structure-none, structure-cut, structure-from, member-in, member-out, times-step, times-stop, times-cut, times-done, upto-cut, value-series, value-structure, value-plain, product-small}
-use Rattle.types.proofs.Forms.{fixed-small}
+use Rattle.types.proofs.Shapes.{fixed-small}
 use borrow.Fn.Kinds.{In}
 use borrow.Fn.PlainCycle.{Measures, is, falls, and}
 use Rattle.types.proofs.extent.series_extent.Reads as series-extent
@@ -19,7 +19,7 @@ use Rattle.types.proofs.extent.structure_extent.Reads as structure-exte
 use Rattle.types.proofs.extent.structure_extent.Kinds as structure-extent-forms
 use Rattle.types.proofs.extent.+series_extent+structure_extent.Lts-structure_extent as S
 use Rattle.types.proofs.extent.counted.Reads as counted-reads
-use Rattle.types.proofs.ids.TypeId.form.Reads as form-reads
+use Rattle.types.proofs.ids.TypeId.shape.Reads as shape-reads
 use Rattle.types.proofs.extent.plain_extent.Reads as plain-extent-reads
 use Rattle.types.proofs.extent.span.Reads as span-reads
 use Rattle.types.proofs.extent.+series_extent+structure_extent.{statement}
@@ -65,8 +65,8 @@ a-calls t = (
   span-reads.Learnt,
   counted-reads.Asked,
   counted-reads.Learnt,
-  form-reads.Asked,
-  form-reads.Learnt,
+  shape-reads.Asked,
+  shape-reads.Learnt,
   series-extent-below t,
   series-extent.Post,
   structure-extent-below t,
@@ -81,8 +81,8 @@ s-calls t = (
   span-reads.Learnt,
   counted-reads.Asked,
   counted-reads.Learnt,
-  form-reads.Asked,
-  form-reads.Learnt,
+  shape-reads.Asked,
+  shape-reads.Learnt,
   series-extent-below t,
   series-extent.Post,
   structure-extent-below t,
@@ -105,10 +105,10 @@ a-head t c = sym (c .before .before .span .ensures) ∙ c .first .given .1
 a-value : (t : ℕ) (c : A.At-match3-came (a-calls t) (series-extent-at t) series-extent.Post a-inv a-μ) → c .match3 .e ≡ valueAt (c .before .before .before .before .before .before .before .before .before .before .before .before .before .args .depth - 1) (c .before .before .before .before .before .before .before .before .before .before .before .before .before .args .s .now) (getD (c .before .before .before .before .before .before .before .before .before .before .before .before .before .args .s .now) (c .before .before .before .before .before .before .before .before .before .before .before .before .before .args .p) 0) (c .before .before .loop .q)
 a-value t c =
     ⊎-elim
-    (λ w. w .3 ∙ w .2 .ensures ∙ sym (value-series _ _ _ _ (sym (c .before .before .before .before .form .ensures) ∙ w .1 .given .1)))
+    (λ w. w .3 ∙ w .2 .ensures ∙ sym (value-series _ _ _ _ (sym (c .before .before .before .before .shape .ensures) ∙ w .1 .given .1)))
     (⊎-elim
-    (λ w. w .3 ∙ w .2 .ensures ∙ sym (value-structure _ _ _ _ (sym (c .before .before .before .before .form .ensures) ∙ w .1 .given .1)))
-    (λ w. w .2 ∙ w .1 .ensures ∙ sym (value-plain _ _ _ _ _ (c .before .before .before .before .form .ensures) (w .0 .keys3))))
+    (λ w. w .3 ∙ w .2 .ensures ∙ sym (value-structure _ _ _ _ (sym (c .before .before .before .before .shape .ensures) ∙ w .1 .given .1)))
+    (λ w. w .2 ∙ w .1 .ensures ∙ sym (value-plain _ _ _ _ _ (c .before .before .before .before .shape .ensures) (w .0 .keys3))))
     (c .match3 .came)
 
 a-returns : (t : ℕ) → A.Need-returns (a-calls t) (series-extent-at t) series-extent.Post a-inv a-μ
@@ -132,20 +132,20 @@ a-counted-requires t c κs = search needs
 a-shared-slice-read-t16 : (t : ℕ) → A.Need-shared-slice-read-t16 (a-calls t) (series-extent-at t) series-extent.Post a-inv a-μ
 a-shared-slice-read-t16 t c = omega (arith, upto-end _ _ _ _ (a-head t (c .before .before .before)))
 
-a-form-requires : (t : ℕ) → A.Need-form-requires (a-calls t) (series-extent-at t) series-extent.Post a-inv a-μ
-a-form-requires t c κs = search needs
+a-shape-requires : (t : ℕ) → A.Need-shape-requires (a-calls t) (series-extent-at t) series-extent.Post a-inv a-μ
+a-shape-requires t c κs = search needs
 
 a-enum-known-layout : (t : ℕ) → A.Need-enum-known-layout (a-calls t) (series-extent-at t) series-extent.Post a-inv a-μ
 a-enum-known-layout t c = search needs
 
 a-mul-span : (t : ℕ) → A.Need-mul-span (a-calls t) (series-extent-at t) series-extent.Post a-inv a-μ
-a-mul-span t c = omega (arith, product-small (c .before .before .before .before .before .counted .result) (c .before .layout .given .0 .0) (c .before .before .before .before .before .counted .ensures .1) (fixed-small _ _ (c .before .before .before .before .shared-slice-known2 .given (c .before .before .before .before .before .before .before .before .before .before .before .before .args .p) .fits) (sym (c .before .before .before .form .ensures) ∙ c .before .layout .given .1)))
+a-mul-span t c = omega (arith, product-small (c .before .before .before .before .before .counted .result) (c .before .layout .given .0 .0) (c .before .before .before .before .before .counted .ensures .1) (fixed-small _ _ (c .before .before .before .before .shared-slice-known2 .given (c .before .before .before .before .before .before .before .before .before .before .before .before .args .p) .fits) (sym (c .before .before .before .shape .ensures) ∙ c .before .layout .given .1)))
 
 a-span-requires-2 : (t : ℕ) → A.Need-span-requires-2 (a-calls t) (series-extent-at t) series-extent.Post a-inv a-μ
 a-span-requires-2 t c κs = search needs
 
 a-returns-3 : (t : ℕ) → A.Need-returns-3 (a-calls t) (series-extent-at t) series-extent.Post a-inv a-μ
-a-returns-3 t c = c .span2 .ensures ∙ rw (c .before .before .before .before .before .before .counted .ensures .0) (sym (series-fixed _ _ _ _ _ (omega (arith, c .before .before .before .before .before .before .before .before .before .before .before .if1 .left)) (a-head t (c .before .before .before .before .before .before .before .before)) (sym (c .before .before .before .before .form .ensures) ∙ c .before .before .layout .given .1)))
+a-returns-3 t c = c .span2 .ensures ∙ rw (c .before .before .before .before .before .before .counted .ensures .0) (sym (series-fixed _ _ _ _ _ (omega (arith, c .before .before .before .before .before .before .before .before .before .before .before .if1 .left)) (a-head t (c .before .before .before .before .before .before .before .before)) (sym (c .before .before .before .before .shape .ensures) ∙ c .before .before .layout .given .1)))
 
 a-loop-holds : (t : ℕ) → A.Need-loop-holds (a-calls t) (series-extent-at t) series-extent.Post a-inv a-μ
 a-loop-holds t c = rw (c .before .before .before .counted .ensures .0) (sym (series-from _ _ _ _ (omega (arith, c .before .before .before .before .before .before .before .before .if1 .left)) (a-head t (c .before .before .before .before .before))))
@@ -203,10 +203,10 @@ s-value : (t : ℕ) (c : S.At-match2-came (s-calls t) (structure-extent-at t) st
 s-value t c =
     member-in _ _ _ (c .before .before .before .if2 .left)
     ∙ ⊎-elim
-    (λ w. value-series _ _ _ _ (sym (c .before .form .ensures) ∙ w .1 .given .1) ∙ sym (w .3 ∙ w .2 .ensures))
+    (λ w. value-series _ _ _ _ (sym (c .before .shape .ensures) ∙ w .1 .given .1) ∙ sym (w .3 ∙ w .2 .ensures))
     (⊎-elim
-    (λ w. value-structure _ _ _ _ (sym (c .before .form .ensures) ∙ w .1 .given .1) ∙ sym (w .3 ∙ w .2 .ensures))
-    (λ w. value-plain _ _ _ _ _ (c .before .form .ensures) (w .0 .keys3) ∙ sym (w .2 ∙ w .1 .ensures)))
+    (λ w. value-structure _ _ _ _ (sym (c .before .shape .ensures) ∙ w .1 .given .1) ∙ sym (w .3 ∙ w .2 .ensures))
+    (λ w. value-plain _ _ _ _ _ (c .before .shape .ensures) (w .0 .keys3) ∙ sym (w .2 ∙ w .1 .ensures)))
     (c .match2 .came)
 
 s-returns : (t : ℕ) → S.Need-returns (s-calls t) (structure-extent-at t) structure-extent.Post s-inv s-μ
@@ -233,8 +233,8 @@ s-returns-3 t c = sym (times-cut _ _ _ (c .before .loop-test .taken) (member-out
 s-shared-slice-read-t15 : (t : ℕ) → S.Need-shared-slice-read-t15 (s-calls t) (structure-extent-at t) structure-extent.Post s-inv s-μ
 s-shared-slice-read-t15 t c = search needs
 
-s-form-requires : (t : ℕ) → S.Need-form-requires (s-calls t) (structure-extent-at t) structure-extent.Post s-inv s-μ
-s-form-requires t c κs = search needs
+s-shape-requires : (t : ℕ) → S.Need-shape-requires (s-calls t) (structure-extent-at t) structure-extent.Post s-inv s-μ
+s-shape-requires t c κs = search needs
 
 s-enum-told : (t : ℕ) → S.Need-enum-told (s-calls t) (structure-extent-at t) structure-extent.Post s-inv s-μ
 s-enum-told t c = search needs
@@ -294,7 +294,7 @@ pub +series-extent+structure-extent-spec : {M : Type 1} → statement M
     (a-add-counted t)
     (a-counted-requires t)
     (a-shared-slice-read-t16 t)
-    (a-form-requires t)
+    (a-shape-requires t)
     (a-enum-known-layout t)
     (a-mul-span t)
     (a-span-requires-2 t)
@@ -322,7 +322,7 @@ pub +series-extent+structure-extent-spec : {M : Type 1} → statement M
     (s-loop-holds t)
     (s-returns-3 t)
     (s-shared-slice-read-t15 t)
-    (s-form-requires t)
+    (s-shape-requires t)
     (s-enum-told t)
     (s-add-series-extent t)
     (s-sub-series-extent t)

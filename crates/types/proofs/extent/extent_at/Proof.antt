@@ -1,12 +1,12 @@
--- By the form: a collection with all 15 levels, or a plain value. Assumes nothing.
+-- By the shape: a collection with all 15 levels, or a plain value. Assumes nothing.
 use borrow.Author.Needs.{needs}
 use mathlib.Core.Path.{sym, _∙_}
 use Rattle.types.proofs.Extents.{value-series, value-structure, value-plain}
 use Rattle.types.proofs.extent.extent_at.Statement.{statement}
 use Rattle.types.proofs.extent.extent_at.Tie as tie
 
-form-requires : tie.Need-form-requires
-form-requires c κs = search needs
+shape-requires : tie.Need-shape-requires
+shape-requires c κs = search needs
 
 enum-told : tie.Need-enum-told
 enum-told c = search needs
@@ -24,19 +24,19 @@ plain-extent-requires : tie.Need-plain-extent-requires
 plain-extent-requires c κs = search needs
 
 returns : tie.Need-returns
-returns c = c .series-extent .ensures ∙ sym (value-series _ _ _ _ (sym (c .before .before .before .form .ensures) ∙ c .before .enum-told .given .1))
+returns c = c .series-extent .ensures ∙ sym (value-series _ _ _ _ (sym (c .before .before .before .shape .ensures) ∙ c .before .enum-told .given .1))
 
 returns-2 : tie.Need-returns-2
-returns-2 c = c .structure-extent .ensures ∙ sym (value-structure _ _ _ _ (sym (c .before .before .before .form .ensures) ∙ c .before .enum-told2 .given .1))
+returns-2 c = c .structure-extent .ensures ∙ sym (value-structure _ _ _ _ (sym (c .before .before .before .shape .ensures) ∙ c .before .enum-told2 .given .1))
 
 returns-3 : tie.Need-returns-3
-returns-3 c = c .plain-extent .ensures ∙ sym (value-plain _ _ _ _ _ (c .before .before .form .ensures) (c .before .match .keys3))
+returns-3 c = c .plain-extent .ensures ∙ sym (value-plain _ _ _ _ _ (c .before .before .shape .ensures) (c .before .match .keys3))
 
 pub extent-at-spec : {M : Type 1} → statement M
 extent-at-spec =
     tie.close
     (tie.spec
-    form-requires
+    shape-requires
     enum-told
     series-extent-requires
     enum-told-2

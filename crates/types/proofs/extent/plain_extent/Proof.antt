@@ -1,5 +1,5 @@
--- Each form by its own extent; a collection is not for this function. Assumes nothing.
-use Rattle.types.specs.Extent.{byForm}
+-- Each shape by its own extent; a collection is not for this function. Assumes nothing.
+use Rattle.types.specs.Extent.{byShape}
 use borrow.Author.Needs.{needs}
 use Rattle.types.proofs.extent.plain_extent.Statement.{statement}
 use Rattle.types.proofs.extent.plain_extent.Tie as tie
@@ -32,27 +32,27 @@ enum-told-5 : tie.Need-enum-told-5
 enum-told-5 c = search needs
 
 returns : tie.Need-returns
-unfolding byForm
+unfolding byShape
 returns c = simp (c .before .before .layout .given .1) (c .span .ensures)
 
 returns-2 : tie.Need-returns-2
-unfolding byForm
+unfolding byShape
 returns-2 c = simp (c .before .enum-told .given .1) (c .text-extent .ensures)
 
 returns-3 : tie.Need-returns-3
-unfolding byForm
+unfolding byShape
 returns-3 c = simp (c .before .enum-told2 .given .1) (c .long-text-extent .ensures)
 
 returns-4 : tie.Need-returns-4
-unfolding byForm
+unfolding byShape
 returns-4 c = simp (c .enum-told3 .given .1)
 
 returns-5 : tie.Need-returns-5
-unfolding byForm
+unfolding byShape
 returns-5 c = simp (c .enum-told4 .given .1)
 
 returns-6 : tie.Need-returns-6
-unfolding byForm
+unfolding byShape
 returns-6 c = simp (c .enum-told5 .given .1)
 
 pub plain-extent-spec : {M : Type 1} → statement M

@@ -4,7 +4,7 @@ use Prim.Native.Nat.{ℕ}
 use mathlib.Core.List.{_∷_}
 use denote.Ref.{now}
 use Rattle.types.specs.Number.{bytesOf}
-use Rattle.frame.specs.Failures.{noting}
+use Rattle.frame.specs.Inside.Failures.{noting}
 use Rattle.write.specs.Reply.{encode}
 use borrow.Author.Needs.{needs}
 use Rattle.write.proofs.pass.note.Statement.{statement}

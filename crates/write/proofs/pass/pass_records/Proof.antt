@@ -6,7 +6,7 @@ use lib.ListN.{length}
 use denote.Ref.{now}
 use borrow.Author.Needs.{needs}
 use Rattle.frame.specs.Status.{statusCode}
-use Rattle.frame.specs.Passes.{TookOne}
+use Rattle.frame.specs.Inside.Passes.{TookOne}
 use Rattle.frame.proofs.Passes.{Going, going-first, going-done, going-cut, going-more, going-stop, took-ahead}
 use Rattle.write.specs.declared.pass.Step.{Step}
 use Rattle.write.specs.Request.{recordAt, recordsAt}

@@ -1,0 +1,6 @@
+-- Claims about the definitions, proved in proofs/, a file for an idea.
+pub mod Left  -- what every call of these leaves
+pub mod Log  -- what the functions left, and demand 3 of it
+pub mod LogExample  -- a log that meets what demand 3 supposes
+pub mod Numbers  -- the number of a value, from the store to the head-end
+pub mod Unique  -- no second answer fits a contract

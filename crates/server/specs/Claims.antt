@@ -1,0 +1,15 @@
+-- Claims about the definitions, proved in proofs/, a file for an idea.
+pub mod Asks  -- what a frame asks for
+pub mod Left  -- what every answer leaves
+pub mod Troubles  -- what numbers 4 and 5 leave of a list
+pub mod Starts  -- how every reply starts
+pub mod Indifferent  -- what does not affect an answer
+pub mod WithoutTable  -- frames that have nothing to do with the table
+pub mod Bench  -- the starred bench frames, as one list under one claim
+pub mod History  -- requests and direct calls, as the events of a reporting table
+pub mod Demand3  -- demand 3 with frames
+pub mod Accepted  -- what a reply tells of a configuration
+pub mod Log  -- what the code answered, and demand 3 of it
+pub mod ServedHistory  -- a history that meets what demand 3 supposes
+pub mod LogExample  -- a log that meets what demand 3 of the code supposes
+pub mod Unique  -- no second answer fits a contract
