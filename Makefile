@@ -29,3 +29,14 @@ compare:
 .PHONY: speed
 speed:
 	compare/speed/run
+
+# How much stack a call of each C function takes: the most over compare/sample.txt and the frames of `make speed`, and over values nested as deep as
+# they may be.
+.PHONY: stack
+stack:
+	@compare/speed/stack
+
+# How many bytes of code a C program takes of the archive, by what it calls, and where they are. `compare/speed/flash ARCHIVE ARCHIVE` compares two.
+.PHONY: flash
+flash:
+	@compare/speed/flash

@@ -1,9 +1,9 @@
 /* Time and stack of a request with the table lent as bytes and by value: compare/speed/forms makes the three functions and runs this. */
 #include <stdint.h>
 #include <stdio.h>
-#include <string.h>
 #include <time.h>
-#include <ucontext.h>
+
+#include "painted.h"
 
 uint8_t forms_lent(uint8_t *store, size_t store_len, uint8_t *table, size_t table_len, uint16_t cluster, const uint8_t *request, size_t request_len, uint8_t *reply, size_t reply_len);
 uint8_t forms_value(uint8_t *store, size_t store_len, uint8_t *table, size_t table_len, uint16_t cluster, const uint8_t *request, size_t request_len, uint8_t *reply, size_t reply_len);
@@ -47,26 +47,6 @@ static void call(void)
     default:
         said = forms_copy(table, sizeof table);
     }
-}
-
-/* It runs on a stack of its own, which was painted: what is no longer so was used. */
-static uint8_t painted[1 << 18];
-static ucontext_t here, there;
-
-static size_t stack_of(void (*run)(void))
-{
-    size_t low = 0;
-
-    memset(painted, 0xa5, sizeof painted);
-    getcontext(&there);
-    there.uc_stack.ss_sp = painted;
-    there.uc_stack.ss_size = sizeof painted;
-    there.uc_link = &here;
-    makecontext(&there, run, 0);
-    swapcontext(&here, &there);
-    while (low < sizeof painted && painted[low] == 0xa5)
-        low++;
-    return sizeof painted - low;
 }
 
 /* What starting on that stack takes without a call. */

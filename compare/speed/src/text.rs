@@ -1,5 +1,5 @@
-//! The rows as text, for count.c: it makes their calls where the archive cannot
-//! be linked into this program.
+//! The rows as text, which rows.h reads: count.c makes their calls where the
+//! archive cannot be linked into this program, and stack.c measures their stack.
 //!
 //! A row is a line, and its calls follow, a line each and in their order.
 //! Between words stands a space; bytes are in hex, numbers are decimal:

@@ -34,7 +34,7 @@ by-size false x h = omega arith
 not-analog : (t : ℕ) → 256 ≤ t → isAnalog t ≡ false
 unfolding isAnalog
 not-analog t h =
-    rw (le-leb 0x20 t (omega arith), lt-leb t 0x2f (omega arith), le-leb 0x38 t (omega arith), lt-leb t 0x3a (omega arith), le-leb 0xe0 t (omega arith), lt-leb t 0xe2 (omega arith))
+    rw (le-leb 0x20 t (omega arith), lt-leb t 0x27 (omega arith), le-leb 0x28 t (omega arith), lt-leb t 0x2f (omega arith), le-leb 0x38 t (omega arith), lt-leb t 0x3a (omega arith), le-leb 0xe0 t (omega arith), lt-leb t 0xe2 (omega arith))
 
 -- eight bytes are enough for any
 pub width-least : (t : ℕ) → changeWidth t ≤ 8

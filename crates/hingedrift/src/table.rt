@@ -2,7 +2,8 @@
 ghost use mathlib.Core.Path.{_≡_};
 ghost use Rattle.hingedrift.specs.Tables.{keyAs, configOf, left, noResult, configurationAs, newLeft, configureLeft, clearLeft, markLeft, askLeft, configurationLeft};
 use frame::answer::Refusal;
-use reporting::carried::write_table;
+use frame::reply::clear;
+use reporting::carried::TABLE_BYTES;
 use reporting::entry::Key;
 use reporting::entry::ReportingConfig;
 use reporting::lent::ask_lent;
@@ -12,7 +13,6 @@ use reporting::lent::configure_lent;
 use reporting::lent::mark_lent;
 use reporting::table::Change;
 use reporting::table::Report;
-use reporting::table::ReportingTable;
 use reporting::table::Setting;
 use types::ids::AttributeId;
 use types::ids::ClusterId;
@@ -27,15 +27,16 @@ fn key_of(cluster: u16, attribute: u16) -> Key
     }
 }
 
-// An empty table.
+// An empty table, which is all zeros.
 #[no_mangle]
 pub extern "C" fn hd_table_new(table: &mut [u8]) -> u8
     ensures { λ r. ⌜ left r (now (table .exit)) noResult ≡ newLeft (now (table .entry)) ⌝ }
 {
-    if write_table(table, ReportingTable::new()) {
-        return 0;
+    if table.len() != TABLE_BYTES {
+        return Refusal::NotATable.number();
     }
-    Refusal::NotATable.number()
+    clear(table);
+    0
 }
 
 // Configures an attribute: 1 through `accepted` where there was room.

@@ -5,6 +5,7 @@ pub mod Machine  -- signed numbers as the machine holds them
 pub mod Finite  -- a rule over all codes, from one computed test
 pub mod Sizes  -- the type table's arms: sizes and classes
 pub mod Shapes  -- the type table's arms: forms
+pub mod Widths  -- sizes by the low three bits, and against the Rust
 pub mod Rules  -- rules of the type table
 pub mod Values  -- the number of a value and of a change
 pub mod Extents  -- the definitions of extents, step by step

@@ -51,7 +51,7 @@ abbrev pub sameTruth : Bool → Bool → Bool
 sameTruth true y = y
 sameTruth false y = not y
 
-same-truth : (x y : Bool) → T (sameTruth x y) → x ≡ y
+pub same-truth : (x y : Bool) → T (sameTruth x y) → x ≡ y
 same-truth true true t = refl
 same-truth true false t = absurd t
 same-truth false true t = absurd t

@@ -31,6 +31,11 @@ plain-is s p w h b = go (leb w 7) refl
         let i : w ≡ 8 = omega arith in
         ap (λ k. signedOf 8 (unsignedAt s p k)) (sym i)
 
+-- a number of that width, read with its sign
+pub sign-read : (s : List ℕ) (p w n : ℕ) (x : ℤ) → x ≡ signedOf w n → n ≡ unsignedAt s p w → x ≡ signedAt s p w
+unfolding signedAt
+sign-read s p w n x e h = e ∙ ap (signedOf w) h
+
 module _ (s : List ℕ) (p t : ℕ) where
   pub number-varies : sizeOf t ≡ Varies → numberAt s p t ≡ None
   unfolding numberAt

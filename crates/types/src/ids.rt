@@ -1,6 +1,6 @@
 // Identifiers, and the type table (ZCL 2.6.2): after types/ids.rs.
 ghost use mathlib.Core.Path.{_≡_};
-ghost use Rattle.types.specs.Ids.{sizeOf, shapeOf, isAnalog, isReportable, isSigned, isFloat};
+ghost use Rattle.types.specs.Ids.{countedWidth, sizeOf, shapeOf, isAnalog, isReportable, isSigned, isFloat};
 ghost use Rattle.types.specs.Ids.{among as codesAmong};
 
 // Three kinds of numbers that no call can take for one another.
@@ -34,6 +34,13 @@ fn among(first: u8, last: u8, code: u8) -> bool
     ensures { λ r. ⌜ r ≡ codesAmong first last code ⌝ }
 {
     first <= code && code <= last
+}
+
+// The width of a type of a counted family: the low three bits of its code plus one.
+fn counted_width(code: u8) -> usize
+    ensures { λ r. ⌜ r ≡ countedWidth code ⌝ }
+{
+    (code % 8) as usize + 1
 }
 
 impl TypeId {
@@ -148,19 +155,19 @@ impl TypeId {
 
     pub const SECURITY_KEY: u8 = 0xf1;
 
-    // The size of every value, or Varies where values differ in size or the type is unknown. Bitmaps, integers and enumerations, and
-    // data and boolean, have one byte at a multiple of 8 and a byte more with each code. Counting those leaves so few codes to name that
-    // the compiler inlines this; of a match over all codes it makes a call and a jump through a table, for each attribute of a store.
-    // There are two tests, the commoner types' first, as it would make both of every code were they joined by ||.
+    // The size of every value, or Varies where values differ in size or the type is unknown. The widths of the four families are counted;
+    // boolean and the enumerations come next behind two of them, and have what the count gives there. That leaves so few codes to name
+    // that the compiler inlines this; were only the families counted, or every code named, it would make a call of it for each attribute
+    // of a store. There are two tests, the commoner types' first, as it would make both of every code were they joined by ||.
     pub fn fixed_size(self) -> Size
         ensures { λ r. ⌜ r ≡ sizeOf (self .0) ⌝ }
     {
         let code = self.0;
         if among(TypeId::BITMAP8, TypeId::ENUM16, code) {
-            return Size::Bytes((code % 8) as usize + 1);
+            return Size::Bytes(counted_width(code));
         }
         if among(TypeId::DATA8, TypeId::BOOLEAN, code) {
-            return Size::Bytes((code % 8) as usize + 1);
+            return Size::Bytes(counted_width(code));
         }
         match code {
             TypeId::NO_DATA => Size::Bytes(0),
@@ -193,7 +200,8 @@ impl TypeId {
         }
     }
 
-    // Whether a reporting configuration carries a change: integers, floating point and time types (2.5.7.1.7).
+    // Whether a reporting configuration carries a change: integers, floating point and time types (2.5.7.1.7). The codes are named again:
+    // asking is_signed and is_float made a configuration slower.
     pub fn is_analog(self) -> bool
         ensures { λ r. ⌜ r ≡ isAnalog (self .0) ⌝ }
     {

@@ -81,8 +81,8 @@ pub fn bits_i64(x: u64) -> i64
     !((!x) as i64)
 }
 
-// A number of `width` bytes, and of at most 8, as two's complement. Not public: its number must have that width.
-fn sign_extended(n: u64, width: usize) -> i64
+// A number of `width` bytes, and of at most 8, as two's complement. No entry point: its number must have that width.
+pub(crate) fn sign_extended(n: u64, width: usize) -> i64
     requires { ⌜ n < 2 ^ (8 * min width 8) ⌝ }
     ensures { λ r. ⌜ r ≡ signedOf (min width 8) n ⌝ }
 {

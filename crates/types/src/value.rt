@@ -5,7 +5,7 @@ use super::ids::Size;
 use super::ids::TypeId;
 use super::number::bits_i64;
 use super::number::magnitude;
-use super::number::signed_at;
+use super::number::sign_extended;
 use super::number::unsigned_at;
 
 // The number of a value, if its type has one.
@@ -24,11 +24,12 @@ pub fn number_at(s: &[u8], at: usize, type_id: TypeId) -> Number
     if 8 < w {
         return Number::None;
     }
+    let n = unsigned_at(s, at, w);
     if type_id.is_signed() {
-        let x = signed_at(s, at, w);
+        let x = sign_extended(n, w);
         return Number::Value(x);
     }
-    let y = bits_i64(unsigned_at(s, at, w));
+    let y = bits_i64(n);
     Number::Value(y)
 }
 
@@ -39,11 +40,12 @@ pub fn change_at(s: &[u8], at: usize, type_id: TypeId) -> u64
     let Size::Bytes(w) = type_id.fixed_size() else {
         return 0;
     };
-    if type_id.is_signed() {
-        return magnitude(signed_at(s, at, w));
-    }
     if type_id.is_float() {
         return 0;
     }
-    unsigned_at(s, at, w)
+    let n = unsigned_at(s, at, w);
+    if type_id.is_signed() {
+        return magnitude(sign_extended(n, w));
+    }
+    n
 }

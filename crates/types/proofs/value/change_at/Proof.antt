@@ -1,11 +1,14 @@
--- Each way out is one law of the definition: no size, an Int, a float, any other. Assumes nothing.
+-- Each way out is one law of the definition: no size, a float, an Int, any other. Assumes nothing.
 use borrow.Author.Needs.{needs}
 use Rattle.types.proofs.value.change_at.Statement.{statement}
 use Rattle.types.proofs.value.change_at.Tie as tie
 use mathlib.Core.Path.{ap, sym, _∙_}
+use native.Mathlib.Omega.{arith}
 use lib.IntN.{natAbs}
 use Rattle.types.proofs.Machine.{came-back}
-use Rattle.types.proofs.Values.{change-varies, change-signed, change-float, change-plain}
+use Rattle.types.proofs.Numbers.{unsigned-below}
+use Rattle.types.proofs.Rules.{float-plain}
+use Rattle.types.proofs.Values.{sign-read, change-varies, change-signed, change-float, change-plain}
 
 fixed-size-requires : tie.Need-fixed-size-requires
 fixed-size-requires c κs = search needs
@@ -19,29 +22,38 @@ enum-told c = search needs
 returns : tie.Need-returns
 returns c = sym (change-varies _ _ _ (sym (c .before .before .fixed-size .ensures) ∙ c .enum-told .given .1))
 
-is-signed-requires : tie.Need-is-signed-requires
-is-signed-requires c κs = search needs
-
-signed-at-requires : tie.Need-signed-at-requires
-signed-at-requires c κs = search needs
-
-magnitude-requires : tie.Need-magnitude-requires
-magnitude-requires c κs = search needs
-
-returns-2 : tie.Need-returns-2
-returns-2 c = c .magnitude .ensures ∙ ap natAbs (came-back _ (c .before .signed-at .ok) ∙ c .before .signed-at .ensures) ∙ sym (change-signed _ _ _ _ (sym (c .before .before .before .before .before .before .before .fixed-size .ensures) ∙ c .before .before .before .before .before .w .given .1) (sym (c .before .before .before .is-signed .ensures) ∙ c .before .before .if1 .taken))
-
 is-float-requires : tie.Need-is-float-requires
 is-float-requires c κs = search needs
 
-returns-3 : tie.Need-returns-3
-returns-3 c = sym (change-float _ _ _ _ (sym (c .before .before .before .before .before .before .before .fixed-size .ensures) ∙ c .before .before .before .before .before .w .given .1) (sym (c .before .before .before .is-signed .ensures) ∙ c .before .before .if1 .left) (sym (c .before .is-float .ensures) ∙ c .if2 .taken))
+returns-2 : tie.Need-returns-2
+returns-2 c =
+    let f = sym (c .before .is-float .ensures) ∙ c .if1 .taken in
+    sym (change-float _ _ _ _ (sym (c .before .before .before .before .before .fixed-size .ensures) ∙ c .before .before .before .w .given .1) (float-plain (c .before .before .before .before .before .before .before .args .type-id .0) (omega (arith, c .before .before .before .before .before .before .before .good)) f) f)
 
 unsigned-at-requires : tie.Need-unsigned-at-requires
 unsigned-at-requires c κs = search needs
 
+is-signed-requires : tie.Need-is-signed-requires
+is-signed-requires c κs = search needs
+
+sign-extended-requires : tie.Need-sign-extended-requires
+sign-extended-requires c κs = rw (c .before .before .unsigned-at .ensures) (unsigned-below _ _ _ (λ i. c .before .before .before .before .before .before .before .before .before .shared-slice-known .given i .fits))
+
+magnitude-requires : tie.Need-magnitude-requires
+magnitude-requires c κs = search needs
+
+returns-3 : tie.Need-returns-3
+returns-3 c =
+    let a = c .before .before .before .before .before .before .before .before .before .before .before .before .args in
+    let x = c .before .sign-extended in
+    c .magnitude .ensures
+    ∙ ap natAbs (came-back _ (x .ok) ∙ sign-read (a .s .now) (a .at) _ _ _ (x .ensures) (c .before .before .before .before .unsigned-at .ensures))
+    ∙ sym (change-signed _ _ _ _ (sym (c .before .before .before .before .before .before .before .before .before .before .fixed-size .ensures) ∙ c .before .before .before .before .before .before .before .before .w .given .1) (sym (c .before .before .before .is-signed .ensures) ∙ c .before .before .if2 .taken))
+
 returns-4 : tie.Need-returns-4
-returns-4 c = c .unsigned-at .ensures ∙ sym (change-plain _ _ _ _ (sym (c .before .before .before .before .before .before .before .before .fixed-size .ensures) ∙ c .before .before .before .before .before .before .w .given .1) (sym (c .before .before .before .before .is-signed .ensures) ∙ c .before .before .before .if1 .left) (sym (c .before .before .is-float .ensures) ∙ c .before .if2 .left))
+returns-4 c =
+    c .before .before .unsigned-at .ensures
+    ∙ sym (change-plain _ _ _ _ (sym (c .before .before .before .before .before .before .before .before .fixed-size .ensures) ∙ c .before .before .before .before .before .before .w .given .1) (sym (c .before .is-signed .ensures) ∙ c .if2 .left) (sym (c .before .before .before .before .is-float .ensures) ∙ c .before .before .before .if1 .left))
 
 pub change-at-spec : {M : Type 1} → statement M
 change-at-spec =
@@ -51,11 +63,11 @@ change-at-spec =
     enum-known-w
     enum-told
     returns
-    is-signed-requires
-    signed-at-requires
-    magnitude-requires
-    returns-2
     is-float-requires
-    returns-3
+    returns-2
     unsigned-at-requires
+    is-signed-requires
+    sign-extended-requires
+    magnitude-requires
+    returns-3
     returns-4)

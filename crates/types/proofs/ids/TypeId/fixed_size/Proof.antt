@@ -1,23 +1,23 @@
 -- The counted codes, and each arm, hold for their codes by one computed test. Assumes nothing.
 use Rattle.types.proofs.ids.TypeId.fixed_size.Statement.{statement}
 use Rattle.types.proofs.ids.TypeId.fixed_size.Tie as tie
-use Prim.Native.Nat.{ℕ, _+_, _%_}
-use mathlib.Core.Path.{_≡_, refl, sym, _∙_}
+use Prim.Native.Nat.{ℕ}
+use mathlib.Core.Path.{_≡_, refl, ap, sym, _∙_}
 use mathlib.Core.Bool.{Bool, false, _||_}
 use mathlib.Core.List.{List, [], _∷_}
 use native.Mathlib.Omega.{arith}
 use borrow.Author.Needs.{needs}
-use Rattle.types.specs.Ids.{sizeOf, among}
+use Rattle.types.specs.Ids.{among, countedWidth, sizeOf}
 use Rattle.types.specs.declared.ids.Size.{Size}
 use Rattle.types.specs.declared.ids.Size.the-variants.{Bytes, Varies}
 use Rattle.types.proofs.Sizes.{size-keys, size-run, size-kind, size-rest}
 
--- the codes whose sizes are counted from a multiple of 8 on
+-- the codes whose sizes are counted: those of the four families, and three more
 abbrev counted : ℕ → Bool
 counted t = among 0x18 0x31 t || among 0x08 0x10 t
 
 abbrev count : ℕ → Size
-count t = Bytes (t % 8 + 1)
+count t = Bytes (countedWidth t)
 
 neither : (x y : Bool) → x ≡ false → y ≡ false → (x || y) ≡ false
 neither x y e f = rw (e, f) refl
@@ -47,28 +47,26 @@ named = sixteen ∷ eights ∷ fours ∷ twos ∷ none ∷ []
 among-requires : tie.Need-among-requires
 among-requires c κs = search needs
 
-cast-t5 : tie.Need-cast-t5
-cast-t5 c = search needs
-
-add-t6 : tie.Need-add-t6
-add-t6 c = search needs
+counted-width-requires : tie.Need-counted-width-requires
+counted-width-requires c κs = search needs
 
 returns : tie.Need-returns
 unfolding sizeOf
-returns c = size-kind (among 0x18 0x31) count 256 tt (c .before .before .args .self .0) (omega (arith, c .before .before .good)) (sym (c .before .among .ensures) ∙ c .if1 .taken)
+returns c =
+    ap Bytes (c .counted-width .ensures)
+    ∙ size-kind (among 0x18 0x31) count 256 tt (c .before .before .before .args .self .0) (omega (arith, c .before .before .before .good)) (sym (c .before .before .among .ensures) ∙ c .before .if1 .taken)
 
 among-requires-2 : tie.Need-among-requires-2
 among-requires-2 c κs = search needs
 
-cast-t9 : tie.Need-cast-t9
-cast-t9 c = search needs
-
-add-t10 : tie.Need-add-t10
-add-t10 c = search needs
+counted-width-requires-2 : tie.Need-counted-width-requires-2
+counted-width-requires-2 c κs = search needs
 
 returns-2 : tie.Need-returns-2
 unfolding sizeOf
-returns-2 c = size-kind (among 0x08 0x10) count 256 tt (c .before .before .before .before .args .self .0) (omega (arith, c .before .before .before .before .good)) (sym (c .before .among2 .ensures) ∙ c .if2 .taken)
+returns-2 c =
+    ap Bytes (c .counted-width2 .ensures)
+    ∙ size-kind (among 0x08 0x10) count 256 tt (c .before .before .before .before .before .args .self .0) (omega (arith, c .before .before .before .before .before .good)) (sym (c .before .before .among2 .ensures) ∙ c .before .if2 .taken)
 
 returns-3 : tie.Need-returns-3
 unfolding sizeOf
@@ -115,12 +113,10 @@ fixed-size-spec =
     tie.close
     (tie.spec
     among-requires
-    cast-t5
-    add-t6
+    counted-width-requires
     returns
     among-requires-2
-    cast-t9
-    add-t10
+    counted-width-requires-2
     returns-2
     returns-3
     returns-4
