@@ -61,6 +61,9 @@ static void commands(void)
     serves("frame 9, maximum 3", "002c0c010003", 60, 0, "182c0d01010020050029070042", 7);
     serves("frame 10", "002c0c080000", 60, 0, "182c0d01", 7);
     serves("a command that is not served", "002e0a", 60, 0, "182e0b0a81", 7);
+    serves("a Default Response", "00000b", 60, HD_NOTHING_TO_SEND, "", 7);
+    serves("a Default Response to one, room 4", "18000b0b81", 4, HD_NOTHING_TO_SEND, "", 7);
+    serves("a cluster command of its number", "01000b", 60, 0, "18000b0b81", 7);
 }
 
 /* Frame 11: configured by a request, then asked. */
@@ -138,6 +141,8 @@ static void others(void)
     check(hd_unsupported_cluster(served, 1, CLUSTER, 0, frame, n, reply, MOST, &used) == HD_NOTHING_TO_SEND, "the responder", "no unicast");
     check(hd_unsupported_cluster(served, 0, CLUSTER, 1, frame, n, reply, 4, &used) == HD_TOO_LONG, "the responder", "one byte short");
     check(hd_unsupported_cluster(served, 0, CLUSTER, 1, frame, 2, reply, MOST, &used) == HD_HEADER_SHORT, "the responder", "a short header");
+    n = bytes("002f0b", frame);
+    check(hd_unsupported_cluster(served, 1, CLUSTER, 1, frame, n, reply, MOST, &used) == HD_NOTHING_TO_SEND && used == 0, "the responder", "a Default Response");
 
     check(hd_report(store, store_len, 0x30, ids, 3, frame, MOST, &used) == HD_OK, "a report", "the number");
     check(used == bytes("18300a" "05002938ff" "00002300000080" "05002938ff", expected) && memcmp(frame, expected, used) == 0, "a report", "the frame");

@@ -122,13 +122,14 @@ uint8_t hd_number(const uint8_t *store, size_t store_len, uint16_t attribute, in
 
 /*
  * Serves one request, the bytes of a ZCL frame that came for `cluster`; `unicast` is 0 where it was not sent to this device alone. Writes
- * the reply to the start of `reply`, zeros behind it, and its length to *reply_used.
+ * the reply to the start of `reply`, zeros behind it, and its length to *reply_used. A Default Response that came gets
+ * HD_NOTHING_TO_SEND and changes nothing, whatever is in it: so devices that hand each other their replies stop after two at most.
  */
 uint8_t hd_handle_request(uint8_t *store, size_t store_len, uint8_t *table, size_t table_len, uint16_t cluster, uint8_t unicast, const uint8_t *request, size_t request_len, uint8_t *reply, size_t reply_len, size_t *reply_used);
 
 /*
  * Answers a request for a cluster that is not among the `served_len` served ones, with UNSUPPORTED_CLUSTER. Ask it last, after every
- * store of the endpoint: a served cluster gets HD_NOTHING_TO_SEND.
+ * store of the endpoint: a served cluster gets HD_NOTHING_TO_SEND, and so does a Default Response.
  */
 uint8_t hd_unsupported_cluster(const uint16_t *served, size_t served_len, uint16_t cluster, uint8_t unicast, const uint8_t *request, size_t request_len, uint8_t *reply, size_t reply_len, size_t *reply_used);
 

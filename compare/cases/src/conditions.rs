@@ -1,6 +1,6 @@
-//! The listed differences of the Rust from document 01. Each is a condition on
-//! a value; under each the Rust's value reader refuses a value whose end
-//! document 01 knows. It reads a value so to step over it where it is not
+//! The listed differences of the Rust that go by a value. Each is a condition on
+//! one; under each the Rust's value reader refuses a value whose end document 01
+//! knows. It reads a value so to step over it where it is not
 //! stored: so a frame meets a condition by a value that the Rust steps over.
 
 use reading::{Extent, FrameType, Kind};

@@ -3,6 +3,7 @@
 
 mod case;
 mod conditions;
+mod differences;
 pub mod given;
 mod hex;
 pub mod histories;
@@ -16,6 +17,7 @@ pub mod values;
 
 pub use case::{Case, Seen, shown};
 pub use conditions::Condition;
+pub use differences::{Difference, Frame, Said};
 pub use hex::{hex, unhex};
 pub use random::Random;
 pub use records::{End, Record, body_of, records};

@@ -2,7 +2,7 @@
 
 use std::collections::HashMap;
 
-use cases::Condition;
+use cases::Difference;
 use frames::sides::Stands;
 
 /// At least so many must agree with the Rust.
@@ -12,7 +12,7 @@ const AGREED: usize = 1_000_000;
 pub struct Counted {
     pub agreed: usize,
     not_asked: usize,
-    differed: HashMap<Condition, usize>,
+    differed: HashMap<Difference, usize>,
 }
 
 impl Counted {
@@ -20,7 +20,7 @@ impl Counted {
         match stands {
             Stands::NotAsked => self.not_asked += 1,
             Stands::Agrees => self.agreed += 1,
-            Stands::Differs(condition) => *self.differed.entry(condition).or_default() += 1,
+            Stands::Differs(difference) => *self.differed.entry(difference).or_default() += 1,
         }
     }
 
@@ -29,9 +29,9 @@ impl Counted {
             "{:9}  the Rust has no such store or table\n",
             self.not_asked
         );
-        for condition in Condition::ALL {
-            let count = self.differed.get(&condition).unwrap_or(&0);
-            list += &format!("{count:9}  the Rust differs: {condition:?}\n");
+        for difference in Difference::all() {
+            let count = self.differed.get(&difference).unwrap_or(&0);
+            list += &format!("{count:9}  the Rust differs: {}\n", difference.name());
         }
         list
     }
@@ -41,11 +41,8 @@ impl Counted {
         if self.agreed < AGREED {
             return Err(format!("only {} frames agree with the Rust", self.agreed));
         }
-        match Condition::ALL
-            .iter()
-            .find(|condition| !self.differed.contains_key(condition))
-        {
-            Some(condition) => Err(format!("{condition:?} never made a difference")),
+        match Difference::all().find(|difference| !self.differed.contains_key(difference)) {
+            Some(difference) => Err(format!("{} never made a difference", difference.name())),
             None => Ok(()),
         }
     }

@@ -1,6 +1,6 @@
 //! How the Rust stands to what document 01 says.
 
-use cases::{Case, Condition, Seen};
+use cases::{Case, Difference, Frame, Said, Seen};
 use oracle::{Oracle, Outcome, Request};
 use reading::store::is_store;
 use reading::table::entries;
@@ -12,10 +12,10 @@ pub enum Stands {
     NotAsked,
     Agrees,
     /// As a listed difference lets it.
-    Differs(Condition),
+    Differs(Difference),
 }
 
-/// An error where the Rust differs and no condition lets it.
+/// An error where the Rust differs and no listed difference lets it.
 pub fn rust(oracle: &mut Oracle, case: &Case, document: &Seen) -> Result<Stands, String> {
     let Some(outcome) = asked(oracle, case)? else {
         return Ok(Stands::NotAsked);
@@ -52,11 +52,19 @@ pub fn agrees(seen: &Seen, outcome: &Outcome) -> bool {
         && entries(&seen.table).as_deref() == Ok(&outcome.table)
 }
 
-/// The condition that lets the Rust differ so. A listed difference is one way
-/// only: no reply, and no other table.
-pub fn listed(case: &Case, outcome: &Outcome) -> Option<Condition> {
-    let one_way = outcome.reply.is_none() && entries(&case.table).as_deref() == Ok(&outcome.table);
-    Condition::of_frame(&case.store, &case.request).filter(|_| one_way)
+/// The listed difference that lets the Rust differ so.
+pub fn listed(case: &Case, outcome: &Outcome) -> Option<Difference> {
+    let frame = Frame {
+        store: &case.store,
+        unicast: case.unicast != 0,
+        request: &case.request,
+    };
+    let said = Said {
+        reply: outcome.reply.as_deref(),
+        other_store: outcome.store != case.store,
+        other_table: entries(&case.table).as_deref() != Ok(&outcome.table),
+    };
+    Difference::of(&frame, &said)
 }
 
 fn shown(outcome: &Outcome) -> String {

@@ -51,14 +51,9 @@ fn order_7_8_1_2_3() {
 
 #[test]
 fn default_response() {
-    // a received Default Response, report, unknown command; cluster commands
+    // a report, an unknown command; cluster commands
     for frame in [
-        "002a0b0000",
-        "002a0a",
-        "002aff00",
-        "012a00",
-        "192a02",
-        "10 2a 0d",
+        "002a0a", "002aff00", "012a00", "192a02", "012a0b", "10 2a 0d",
     ] {
         let command = hex(&bytes(frame)[2..3]);
         let whole = reply(&format!("182a0b {command} 81"));
@@ -74,6 +69,29 @@ fn default_response() {
         }
     }
     assert_eq!(says("05fffe2a02", 5), reply("182a0b0281"));
+}
+
+/// Whatever is in it, in any room, unicast or not.
+#[test]
+fn default_response_received() {
+    for frame in [
+        "002a0b",
+        "002a0b0000",
+        "182a0b000012",
+        "102a0b0b81",
+        "0cfffe2a0b",
+    ] {
+        let (mut store, mut table) = (bench(), Vec::new());
+        for unicast in [false, true] {
+            for room in 0..7 {
+                let frame = bytes(frame);
+                let answer = serve(&mut store, &mut table, CLUSTER, unicast, &frame, room);
+                assert_eq!(shown(&answer), "6");
+                assert_eq!(answer.buffer(room), vec![0; room]);
+            }
+        }
+        assert_eq!((store, table), (bench(), Vec::new()));
+    }
 }
 
 #[test]

@@ -92,6 +92,7 @@ mod tests {
             ('x', 100, 4),
             ('m', 150, 3),
             ('q', 300, 3),
+            ('y', 30, 4),
         ];
         let mut rest = lines.len();
         for (letter, floor, fields) in floors {

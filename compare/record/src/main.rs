@@ -39,12 +39,15 @@
 //!   found, or how many entries there are; behind a configuration its minimum,
 //!   maximum and change. Behind the answers comes the table, its count and its
 //!   slots (docs/TABLE.md).
-//! - `q input answer`: one frame of commands 06 and 08 over a store and a table.
-//!   The input is the room in one byte, the table's count and slots, the store's
+//! - `q input answer`: one frame of commands 06, 08 and 0b, or a cluster command
+//!   0b, over a store and a table. The input is the room in one byte, the table's count and slots, the store's
 //!   length in two bytes, the store, the request frame. The answer is 01, the
 //!   number, the reply's length in one byte, the reply, and 00 where the table is
 //!   as it was, or 01 and the table's count and slots. The number is document
 //!   01's, as in `c`; reply and table are the Rust's as well.
+//! - `y input answer answer`: a frame of command 0b with a listed difference,
+//!   input and answers as in `q`, document 01's first, then the Rust's, whose
+//!   number is 0.
 //! - `n count`: how many lines stand before this one, the last.
 //!
 //! The frames of `c` and `x` are global ones of commands 00, 02, 03, 05 and 0c
@@ -57,8 +60,8 @@
 //! to a call on a table and that no line reaches, or a listed difference that no
 //! frame shows.
 //!
-//! `record counts` writes instead how often each answer came in `c`, `x`, `m` and
-//! `q` lines, `record smallest` the smallest frames that show each difference.
+//! `record counts` writes instead how often each answer came in `c`, `x`, `m`, `q`
+//! and `y` lines, `record smallest` the smallest frames that show each difference.
 
 mod collections;
 mod frames;

@@ -1,5 +1,5 @@
-//! Frames of the two reporting commands, each over a store and a table, with
-//! the table afterwards.
+//! Frames of the two reporting commands and Default Responses, each over a store
+//! and a table, with the table afterwards.
 
 mod edges;
 
@@ -7,7 +7,7 @@ use cases::given::tables;
 use cases::kinds::{self, Call, Kinds};
 use cases::requests::request;
 use cases::stores::{built, random_parts, word};
-use cases::{Case, Random, Seen, hex};
+use cases::{Case, Difference, Frame, Random, Said, Seen, hex};
 use oracle::{Oracle, Outcome, Request};
 use reading::commands::{Answer, serve_lent};
 use reading::store::{attributes, cluster_of};
@@ -19,6 +19,7 @@ pub const COMMANDS: [&str; 2] = ["configure", "read configuration"];
 
 const CONFIGURE: u8 = 0x06;
 const READ: u8 = 0x08;
+const RECEIVED: u8 = 0x0b;
 
 /// Random frames besides the edges.
 const RANDOM: usize = 180;
@@ -35,6 +36,9 @@ pub fn lines() -> Result<(Vec<String>, Kinds), String> {
     let missing = kinds.missing(&COMMANDS);
     if !missing.is_empty() {
         return Err(format!("never reached: {}", missing.join("; ")));
+    }
+    if !lines.iter().any(|line| line.starts_with("y ")) {
+        return Err("a received Default Response never makes a difference".to_owned());
     }
     Ok((lines, kinds))
 }
@@ -79,10 +83,12 @@ fn ample(case: &Case) -> usize {
     answer.reply.len()
 }
 
-/// An error where the Rust and document 01 say or leave something else.
+/// A `q` line where the Rust and document 01 say and leave the same, a `y` line
+/// where a listed difference lets them do otherwise.
 fn line(case: &Case, oracle: &mut Oracle, kinds: &mut Kinds) -> Result<String, String> {
     let seen = case.document();
     let before = entries(&case.table).expect("a table");
+    let after = entries(&seen.table).expect("a table");
     let asked = Request {
         cluster: case.cluster,
         unicast: true,
@@ -90,12 +96,11 @@ fn line(case: &Case, oracle: &mut Oracle, kinds: &mut Kinds) -> Result<String, S
         room: case.room,
     };
     let outcome = oracle.handle(&case.store, &before, &asked)?;
-    if !agrees(&seen, &outcome) || outcome.store != case.store {
-        return Err(format!(
-            "a difference\n{case}document 01:\n{seen}the Rust: {outcome:?}"
-        ));
+    let unlisted = || format!("a difference\n{case}document 01:\n{seen}the Rust: {outcome:?}");
+    if seen.store != case.store {
+        return Err(unlisted());
     }
-    count(kinds, case, &seen, &before, &outcome.table)?;
+    count(kinds, case, &seen, &before, &after)?;
     let input = [
         vec![short(case.room)],
         used(&before),
@@ -103,18 +108,39 @@ fn line(case: &Case, oracle: &mut Oracle, kinds: &mut Kinds) -> Result<String, S
         case.store.clone(),
         case.request.clone(),
     ];
-    let after = if outcome.table == before {
+    let input = hex(&input.concat());
+    let ours = answer(&before, seen.number, seen.reply(), &after);
+    if agrees(&seen, &outcome) {
+        return Ok(format!("q {input} {ours}"));
+    }
+    listed(case, &before, &outcome).ok_or_else(unlisted)?;
+    let number = if outcome.reply.is_some() { 0 } else { 6 };
+    let reply = outcome.reply.as_deref().unwrap_or_default();
+    let theirs = answer(&before, number, reply, &outcome.table);
+    Ok(format!("y {input} {ours} {theirs}"))
+}
+
+fn answer(before: &[Entry], number: u8, reply: &[u8], after: &[Entry]) -> String {
+    let table = if after == before {
         vec![0]
     } else {
-        [vec![1], used(&outcome.table)].concat()
+        [vec![1], used(after)].concat()
     };
-    let reply = outcome.reply.unwrap_or_default();
-    let answer = [vec![1, seen.number, short(reply.len())], reply, after];
-    Ok(format!(
-        "q {} {}",
-        hex(&input.concat()),
-        hex(&answer.concat())
-    ))
+    hex(&[&[1, number, short(reply.len())], reply, &table].concat())
+}
+
+fn listed(case: &Case, before: &[Entry], outcome: &Outcome) -> Option<Difference> {
+    let frame = Frame {
+        store: &case.store,
+        unicast: true,
+        request: &case.request,
+    };
+    let said = Said {
+        reply: outcome.reply.as_deref(),
+        other_store: outcome.store != case.store,
+        other_table: outcome.table != before,
+    };
+    Difference::of(&frame, &said)
 }
 
 /// A table's count and slots.
@@ -178,6 +204,21 @@ mod tests {
             let line = line(&case, &mut Oracle::default(), &mut Kinds::default());
             let after = if room < 3 { "" } else { &table };
             assert_eq!(line, Ok(format!("q {room:02x}{input} {answer}{after}")));
+        }
+    }
+
+    /// A Default Response gets nothing, and from the Rust an answer, where there
+    /// is room for it.
+    #[test]
+    fn a_listed_difference() {
+        let input = format!("00 3000 {} 00000b", hex(&bench())).replace(' ', "");
+        for (room, line_of) in [
+            (4, format!("q 04{input} 01060000")),
+            (5, format!("y 05{input} 01060000 01000518000b0b8100")),
+        ] {
+            let case = over(&bench(), &[], &unhex("00000b"), room);
+            let line = line(&case, &mut Oracle::default(), &mut Kinds::default());
+            assert_eq!(line, Ok(line_of));
         }
     }
 }

@@ -2,7 +2,7 @@
 
 use std::collections::HashMap;
 
-use cases::Condition;
+use cases::Difference;
 
 use crate::commands::Command;
 use crate::sides::Ran;
@@ -16,7 +16,7 @@ const SHOWN: usize = 10;
 pub struct Row {
     pub frames: usize,
     pub equal: usize,
-    pub listed: HashMap<Condition, usize>,
+    pub listed: HashMap<Difference, usize>,
     pub no_counterpart: usize,
     pub unlisted: usize,
 }
@@ -59,7 +59,7 @@ impl Row {
         self.frames += 1;
         match verdict {
             Verdict::Equal => self.equal += 1,
-            Verdict::Listed(condition) => *self.listed.entry(*condition).or_default() += 1,
+            Verdict::Listed(difference) => *self.listed.entry(*difference).or_default() += 1,
             Verdict::NoCounterpart => self.no_counterpart += 1,
             Verdict::Unlisted(_) => self.unlisted += 1,
         }
@@ -68,8 +68,8 @@ impl Row {
     fn add(&mut self, other: &Self) {
         self.frames += other.frames;
         self.equal += other.equal;
-        for (&condition, many) in &other.listed {
-            *self.listed.entry(condition).or_default() += many;
+        for (&difference, many) in &other.listed {
+            *self.listed.entry(difference).or_default() += many;
         }
         self.no_counterpart += other.no_counterpart;
         self.unlisted += other.unlisted;
@@ -101,12 +101,12 @@ impl Counted {
     }
 
     /// How often each listed difference came, by command: where it came.
-    pub fn listed(&self) -> Vec<(Command, Condition, usize)> {
-        let by_condition = |(command, row): (Command, &Row)| {
-            let many = move |condition| *row.listed.get(&condition).unwrap_or(&0);
-            Condition::ALL.map(|condition| (command, condition, many(condition)))
-        };
-        let all = self.rows().flat_map(by_condition);
-        all.filter(|&(_, _, many)| many > 0).collect()
+    pub fn listed(&self) -> Vec<(Command, Difference, usize)> {
+        let mut listed = Vec::new();
+        for (command, row) in self.rows() {
+            let came = Difference::all().filter_map(|one| Some((one, *row.listed.get(&one)?)));
+            listed.extend(came.map(|(one, many)| (command, one, many)));
+        }
+        listed
     }
 }

@@ -1,7 +1,7 @@
 //! The listed differences, each by its smallest frames, run now.
 
 use cases::stores::bench;
-use cases::{Case, Condition, unhex};
+use cases::{Case, Condition, Difference, unhex};
 
 use crate::frame::Frame;
 use crate::sides::{Ran, Sides};
@@ -14,26 +14,30 @@ const ROOM: usize = 6;
 const BEHIND: &str = "bytes of the reply buffer behind a reply";
 const REFUSED: &str = "the reply buffer after a refusal";
 
-/// A listed difference in one of the three writes.
+/// A listed difference in what is said to a frame.
 pub struct Listed {
-    pub condition: Condition,
+    pub difference: Difference,
     pub ran: Ran,
 }
 
-/// The frames of docs/DIFFERENCES.md over store T. Attribute 0 is read-only,
-/// so its record fails; behind it, a write without response has a record that
-/// stores 0 in attribute 1.
+/// The frames of docs/DIFFERENCES.md over store T. Of the three writes: attribute
+/// 0 is read-only, so its record fails; behind it, a write without response has a
+/// record that stores 0 in attribute 1.
 pub fn listed(sides: &mut Sides) -> Result<Vec<Listed>, String> {
-    let mut listed = Vec::new();
+    let mut frames = Vec::new();
     for condition in Condition::ALL {
         for (command, behind) in [(0x02, &[][..]), (0x03, &[]), (0x05, &[1, 0, 0x20, 0])] {
             let head = [0, 0, command, 0, 0];
             let request = [&head, condition.smallest(), behind].concat();
-            let ran = ran(sides, condition.name(), &request, ROOM)?;
-            listed.push(Listed { condition, ran });
+            frames.push((Difference::Value(condition), request));
         }
     }
-    Ok(listed)
+    frames.push((Difference::DefaultResponse, unhex("00000b")));
+    let one = |(difference, request): (Difference, Vec<u8>)| {
+        let ran = ran(sides, difference.name(), &request, ROOM)?;
+        Ok(Listed { difference, ran })
+    };
+    frames.into_iter().map(one).collect()
 }
 
 /// The two differences in the reply buffer, which the old one's caller does not
@@ -54,11 +58,11 @@ impl Listed {
     /// What is wrong with it.
     pub fn trouble(&self) -> Option<String> {
         match self.ran.verdict() {
-            Verdict::Listed(condition) if condition == self.condition => None,
+            Verdict::Listed(difference) if difference == self.difference => None,
             Verdict::Unlisted(text) => Some(text),
             _ => Some(format!(
                 "the listed frame of {} makes no such difference\n{}",
-                self.condition.name(),
+                self.difference.name(),
                 self.ran.frame.case
             )),
         }

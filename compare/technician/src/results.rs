@@ -33,8 +33,8 @@ impl Results {
             text += &line(&row.cells(command.name()));
         }
         text += &line(&self.counted.all().cells("all"));
-        for (command, condition, many) in self.counted.listed() {
-            let _ = writeln!(text, "{many:9}  {}: {}", command.name(), condition.name());
+        for (command, difference, many) in self.counted.listed() {
+            let _ = writeln!(text, "{many:9}  {}: {}", command.name(), difference.name());
         }
         text
     }

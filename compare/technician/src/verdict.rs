@@ -2,7 +2,7 @@
 
 use std::fmt::Write;
 
-use cases::Condition;
+use cases::Difference;
 use frames::sides::{agrees, listed};
 
 use crate::difference::{Side, first};
@@ -11,8 +11,8 @@ use crate::sides::{Old, Ran};
 #[derive(Debug, Clone, PartialEq, Eq)]
 pub enum Verdict {
     Equal,
-    /// A condition of docs/DIFFERENCES.md holds of the frame.
-    Listed(Condition),
+    /// As docs/DIFFERENCES.md has it.
+    Listed(Difference),
     /// The old one has no such store or table.
     NoCounterpart,
     /// With everything that is to be known of it.
@@ -28,7 +28,7 @@ impl Ran {
                 Old::NoCounterpart => Verdict::NoCounterpart,
                 Old::Said(outcome) if agrees(new, outcome) => Verdict::Equal,
                 Old::Said(outcome) => match listed(&self.frame.case, outcome) {
-                    Some(condition) => Verdict::Listed(condition),
+                    Some(difference) => Verdict::Listed(difference),
                     None => Verdict::Unlisted(self.shown()),
                 },
                 Old::Panicked(_) => Verdict::Unlisted(self.shown()),
@@ -68,7 +68,7 @@ impl Ran {
 #[cfg(test)]
 mod tests {
     use cases::stores::bench;
-    use cases::{Case, unhex};
+    use cases::{Case, Condition, unhex};
     use frames::sides::asked;
     use oracle::Oracle;
 
@@ -90,8 +90,14 @@ mod tests {
     #[test]
     fn right_answers() {
         assert_eq!(ran(&bench(), "002a000000").verdict(), Verdict::Equal);
-        let boolean = Verdict::Listed(Condition::BooleanAboveOne);
-        assert_eq!(ran(&bench(), "00000200001002").verdict(), boolean);
+        let boolean = Difference::Value(Condition::BooleanAboveOne);
+        for (request, difference) in [
+            ("00000200001002", boolean),
+            ("00000b", Difference::DefaultResponse),
+        ] {
+            let verdict = ran(&bench(), request).verdict();
+            assert_eq!(verdict, Verdict::Listed(difference));
+        }
         assert_eq!(ran(&[0], "002a00").verdict(), Verdict::NoCounterpart);
     }
 
@@ -108,6 +114,7 @@ mod tests {
         for (request, store) in [
             ("002a000000", bench()),
             ("00000200001002", bench()),
+            ("00000b", bench()),
             ("002a00", vec![0]),
         ] {
             let right = ran(&store, request);

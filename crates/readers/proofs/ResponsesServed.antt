@@ -52,7 +52,7 @@ default-sends h unicast status room =
     sends-tested room (unicast && not (silences (h .«frame_control» .0) status)) _ NothingToSend noState out
     (sends-tested room (leb (length out) room) _ ReplyTooLong noState out (sends-replied room out noState))
 
--- what is not one of the seven is answered as a reply that was received
+-- what is not one of the seven and no Default Response is answered as a reply to a read that was received
 module _ (form limit : ℕ) (s : List ℕ) (t : Table) (unicast : Bool) (h : ZclHeader) (body : List ℕ) (room : ℕ) where
   other-is : (c : CommandIdentifier) → IsOther c
       → commanded form limit s t unicast h body room ReadAttributesResponse ≡ commanded form limit s t unicast h body room c
@@ -69,7 +69,7 @@ module _ (form limit : ℕ) (s : List ℕ) (t : Table) (unicast : Bool) (h : Zcl
   other-is ConfigureReportingResponse o = refl
   other-is ReadReportingConfigurationResponse o = refl
   other-is ReportAttributes o = refl
-  other-is DefaultResponse o = refl
+  other-is DefaultResponse o = absurd o
   other-is DiscoverAttributesResponse o = refl
   other-is (Other b) o = refl
 

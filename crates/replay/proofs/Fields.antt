@@ -28,10 +28,10 @@ use Rattle.replay.proofs.Words.{place-le, split-more, split-one, split-
 -- ---- a kind by its letter
 
 pub ours-none : (letter : ℕ) (input : List ℕ) → (letter ≡ 116 → ⊥) → (letter ≡ 104 → ⊥) → (letter ≡ 101 → ⊥) → (letter ≡ 100 → ⊥) → (letter ≡ 115 → ⊥) → (letter ≡ 118 → ⊥) → (letter ≡ 119 → ⊥)
-    → (letter ≡ 99 → ⊥) → (letter ≡ 120 → ⊥) → (letter ≡ 105 → ⊥) → (letter ≡ 109 → ⊥) → (letter ≡ 113 → ⊥) → ours letter input ≡ none
+    → (letter ≡ 99 → ⊥) → (letter ≡ 120 → ⊥) → (letter ≡ 105 → ⊥) → (letter ≡ 109 → ⊥) → (letter ≡ 113 → ⊥) → (letter ≡ 121 → ⊥) → ours letter input ≡ none
 unfolding ours
-ours-none letter input t h e d s v w c x i m q =
-    rw (ne-eqb letter 116 t, ne-eqb letter 104 h, ne-eqb letter 101 e, ne-eqb letter 100 d, ne-eqb letter 115 s, ne-eqb letter 118 v, ne-eqb letter 119 w, ne-eqb letter 99 c, ne-eqb letter 120 x, ne-eqb letter 105 i, ne-eqb letter 109 m, ne-eqb letter 113 q)
+ours-none letter input t h e d s v w c x i m q y =
+    rw (ne-eqb letter 116 t, ne-eqb letter 104 h, ne-eqb letter 101 e, ne-eqb letter 100 d, ne-eqb letter 115 s, ne-eqb letter 118 v, ne-eqb letter 119 w, ne-eqb letter 99 c, ne-eqb letter 120 x, ne-eqb letter 105 i, ne-eqb letter 109 m, ne-eqb letter 113 q, ne-eqb letter 121 y)
 
 -- ---- a field
 
@@ -158,7 +158,7 @@ not-letter (x ∷ y ∷ w) ws h = refl
 
 no-fields : (letter : ℕ) → Unreadable ≡ byLetter letter []
 unfolding byLetter
-no-fields letter = go (eqb letter 110) (eqb letter 100 || eqb letter 120)
+no-fields letter = go (eqb letter 110) (eqb letter 100 || eqb letter 120 || eqb letter 121)
   where
     go : (a b : Bool) → Unreadable ≡ cond a (lastOf []) (cond b (differenceOf letter []) (caseOf letter []))
     go true b = refl

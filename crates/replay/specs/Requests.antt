@@ -1,4 +1,4 @@
--- Definitions. What ours says to a request that may need the table (kind q).
+-- Definitions. What ours says to a request that may need the table (kinds q and y).
 use Prim.Native.Nat.{ℕ, _+_, _*_}
 use mathlib.Core.Bool.{true, cond, _&&_}
 use mathlib.Core.Option.{Option, none, some}
@@ -28,7 +28,7 @@ tableLeft o = within (λ s. tableSays (s .table)) o
 unfoldable pub requestSays : List ℕ → List ℕ → List ℕ → ℕ → List ℕ
 requestSays used s frame room = answerSays used (tableLeft (serve 8 16 s (holding (tableIn (wholeTable used))) (clusterOf s) true frame room))
 
--- ---- q: the room (1), the table as far as it is used, the store's length (2), the store, and a frame
+-- ---- q, y: the room (1), the table as far as it is used, the store's length (2), the store, and a frame
 
 unfoldable pub ofRequest : List ℕ → Option (List ℕ)
 ofRequest input =

@@ -30,7 +30,7 @@ ours letter input =
     (cond (eqb letter 99 || eqb letter 120) (ofCommand input)  -- c, x
     (cond (eqb letter 105) (ofNames input)  -- i
     (cond (eqb letter 109) (ofHistory input)  -- m
-    (cond (eqb letter 113) (ofRequest input) none)))))))))  -- q
+    (cond (eqb letter 113 || eqb letter 121) (ofRequest input) none)))))))))  -- q, y
 
 -- go on with what could be read
 abbrev pub known : Option (List ℕ) → (List ℕ → Verdict) → Verdict
@@ -79,7 +79,7 @@ lastOf (a ∷ b ∷ more) = Unreadable
 unfoldable pub byLetter : ℕ → List (List ℕ) → Verdict
 byLetter letter fields =
     cond (eqb letter 110) (lastOf fields)  -- n
-    (cond (eqb letter 100 || eqb letter 120) (differenceOf letter fields)  -- d, x
+    (cond (eqb letter 100 || eqb letter 120 || eqb letter 121) (differenceOf letter fields)  -- d, x, y
     (caseOf letter fields))
 
 -- the first word is a letter, the others are fields

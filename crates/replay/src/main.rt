@@ -57,6 +57,12 @@ fn report(t: Tally, whole: bool) {
     );
     row(b"histories of a table: ", t, b'm', b" agree\n");
     row(b"requests with a table: ", t, b'q', b" agree\n");
+    row(
+        b"listed differences of requests: ",
+        t,
+        b'y',
+        b" as document 02 says\n",
+    );
     if t.first != 0 {
         text(b"first that does not agree: line ");
         number(t.first);

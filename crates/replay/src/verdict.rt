@@ -49,7 +49,7 @@ fn held_to_ours(letter: u8, input: &[u8], held: &[u8]) -> Agreement
         b'c' | b'x' => of_command(input, held),
         b'i' => of_names(input, held),
         b'm' => of_history(input, held),
-        b'q' => of_request(input, held),
+        b'q' | b'y' => of_request(input, held),
         _ => Agreement::NoInput,
     }
 }
@@ -153,6 +153,7 @@ fn by_letter(letter: u8, fields: &[u8]) -> Verdict
     match letter {
         b'n' => last(fields),
         b'd' | b'x' => difference(letter, fields),
+        b'y' => difference(letter, fields),
         _ => case(letter, fields),
     }
 }

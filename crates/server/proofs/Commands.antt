@@ -17,13 +17,13 @@ use Rattle.reporting.specs.Table.{Table}
 use Rattle.server.specs.Serve.{storing, unsupported, commanded, typed}
 use Rattle.server.specs.Claims.WithoutTable.{usesTable, storeAlone, TableNotNeeded}
 
--- ---- all but the seven
+-- ---- all but the seven and the Default Response
 
 abbrev rest : List ℕ
-rest = 1 ∷ 4 ∷ 7 ∷ 9 ∷ 10 ∷ 11 ∷ 13 ∷ 14 ∷ []
+rest = 1 ∷ 4 ∷ 7 ∷ 9 ∷ 10 ∷ 13 ∷ 14 ∷ []
 
 module _ (form limit : ℕ) (s : List ℕ) (t : Table) (unicast : Bool) (h : ZclHeader) (body : List ℕ) (room : ℕ) where
-  pub rest-unsupported : (c : CommandIdentifier) → OneOf (1 ∷ 4 ∷ 7 ∷ 9 ∷ 10 ∷ 11 ∷ 13 ∷ 14 ∷ []) (tagOf command-identifier.the-type c) → unsupported s t unicast h room ≡ commanded form limit s t unicast h body room c
+  pub rest-unsupported : (c : CommandIdentifier) → OneOf (1 ∷ 4 ∷ 7 ∷ 9 ∷ 10 ∷ 13 ∷ 14 ∷ []) (tagOf command-identifier.the-type c) → unsupported s t unicast h room ≡ commanded form limit s t unicast h body room c
   unfolding commanded
   rest-unsupported ReadAttributes o = absurd (miss rest 0 tt o)
   rest-unsupported ReadAttributesResponse o = refl
@@ -36,7 +36,7 @@ module _ (form limit : ℕ) (s : List ℕ) (t : Table) (unicast : Bool) (h : Zcl
   rest-unsupported ReadReportingConfiguration o = absurd (miss rest 8 tt o)
   rest-unsupported ReadReportingConfigurationResponse o = refl
   rest-unsupported ReportAttributes o = refl
-  rest-unsupported DefaultResponse o = refl
+  rest-unsupported DefaultResponse o = absurd (miss rest 11 tt o)
   rest-unsupported DiscoverAttributes o = absurd (miss rest 12 tt o)
   rest-unsupported DiscoverAttributesResponse o = refl
   rest-unsupported (Other b) o = refl

@@ -115,7 +115,7 @@ module _ (limit : ℕ) (r : Request) where
   unfolding configureOf
   commanded-held l h body =
       commanded-case 8 limit (r .store) (holding l) (r .unicast) body (r .room) (λ f. Held (f h .state .table))
-      (record { read = refl; write = refl; undivided = refl; silently = refl; configure = refl; configuration = refl; discover = refl; other = refl })
+      (record { read = refl; write = refl; undivided = refl; silently = refl; configure = refl; configuration = refl; discover = refl; response = refl; other = refl })
 
   pub request-holds : (l : List Entry) → serve 8 limit (r .store) (holding l) (r .cluster) (r .unicast) (r .frame) (r .room) .state .table ≡ holding (requested limit r l)
   unfolding requested

@@ -14,6 +14,8 @@ pub mod Says  -- a call replies or refuses, and its reply buffer is left so
 pub mod Refusals  -- what every answer leaves
 pub mod Elsewhere  -- what the responder and a report leave
 pub mod Starting  -- how every reply starts
+pub mod Chains  -- a chain of replies ends
+pub mod ChainExample  -- chains over store T, computed
 pub mod Stays  -- a store stays a store
 pub mod Heard  -- a frame reaches its command, or not
 pub mod Troubles  -- which trouble counts in a write, and in a configure request

@@ -100,6 +100,7 @@ module _ (form limit : ℕ) (s : List ℕ) (t : Table) (unicast : Bool) (h : Zcl
         configure = ap (tabling s) (configure-sees form s h body room limit t);
         configuration = ap (neither s t) (configuration-sees form s h body room t);
         discover = refl;
+        response = refl;
         other = unsupported-sees;
       })
 

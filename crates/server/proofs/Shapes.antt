@@ -192,6 +192,6 @@ module _ (form limit : ℕ) (s : List ℕ) (l : List Entry) (unicast : Bool) (h 
   commanded-shape ConfigureReportingResponse = unsupported-shape
   commanded-shape ReadReportingConfigurationResponse = unsupported-shape
   commanded-shape ReportAttributes = unsupported-shape
-  commanded-shape DefaultResponse = unsupported-shape
+  commanded-shape DefaultResponse = shape-refused _ room NothingToSend _ refl
   commanded-shape DiscoverAttributesResponse = unsupported-shape
   commanded-shape (Other b) = unsupported-shape

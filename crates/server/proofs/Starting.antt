@@ -4,27 +4,25 @@ use mathlib.Core.Bool.{Bool}
 use mathlib.Core.List.{List}
 use Prim.Native.Nat.{ℕ}
 use lib.ListN.{drop}
-use lib.Dec.{eqb}
 use Rattle.frame.specs.declared.header.ZclHeader.{ZclHeader}
 use Rattle.frame.specs.declared.header.FrameType.{FrameType}
 use Rattle.frame.specs.declared.header.FrameType.the-variants.{GlobalCommand, ClusterCommand, Reserved}
 use Rattle.frame.specs.declared.header.HeaderRead.{HeaderRead}
 use Rattle.frame.specs.declared.header.HeaderRead.the-variants.{Header}
 use Rattle.frame.specs.declared.command_identifier.CommandIdentifier.the-variants.{ReportAttributes, DefaultResponse}
-use Rattle.frame.specs.declared.answer.Refusal.the-variants.{OtherCluster, ReservedFrameType, NotAStore, NotATable}
+use Rattle.frame.specs.declared.answer.Refusal.the-variants.{ReservedFrameType}
 use Rattle.frame.specs.CommandIdentifier.{commandOf}
 use Rattle.frame.specs.Header.{frameTypeOf, headerOf, replyHead}
-use Rattle.store.specs.Contents.{clusterOf}
-use Rattle.store.specs.Layout.{isStore}
 use Rattle.reporting.specs.declared.entry.Entry.{Entry}
-use Rattle.reporting.specs.Table.{Table, holding, bad}
+use Rattle.reporting.specs.Table.{Table, holding}
 use Rattle.server.specs.Report.{unasked}
-use Rattle.server.specs.Serve.{typed, byHeader, tabled, serve}
+use Rattle.server.specs.Serve.{typed, byHeader, serve}
 use Rattle.server.specs.Claims.Starts.{answering, RepliesStart, ResponsesStart, ReportsStart}
 use Rattle.server.specs.UnsupportedCluster.{unsupportedCluster}
+use Rattle.server.proofs.Cases.{passed-case}
 use Rattle.server.proofs.Elsewhere.{headOf, responder-says, report-says}
 use Rattle.server.proofs.Shapes.{unsupported-shape, commanded-shape}
-use Rattle.server.proofs.Says.{Says, declines, says-either, says-starts, shape-says}
+use Rattle.server.proofs.Says.{Says, declines, says-starts, shape-says}
 
 -- ---- to a request
 
@@ -47,17 +45,11 @@ module _ (form limit : ℕ) (s : List ℕ) (cluster : ℕ) (unicast : Bool) (fra
     header-says l =
         subst (λ (r : HeaderRead). Says head room (byHeader form limit s (holding l) unicast frame room r)) (sym e) (typed-says l (drop (h .body) frame) (frameTypeOf (h .«frame_control» .0)))
 
-    tabled-says : (t : Table) → Says head room (tabled form limit s cluster unicast frame room t)
-    unfolding tabled
-    tabled-says (holding l) = says-either head room (eqb cluster (clusterOf s)) _ _ (header-says l) (declines OtherCluster refl)
-    tabled-says (bad t) = declines NotATable refl
-
-    serve-says : (t : Table) → Says head room (serve form limit s t cluster unicast frame room)
-    unfolding serve
-    serve-says t = says-either head room (isStore form s) _ _ (tabled-says t) (declines NotAStore refl)
+    pub request-says : (t : Table) → Says head room (serve form limit s t cluster unicast frame room)
+    request-says = passed-case form limit s unicast room (λ t o. Says head room o) (λ t why e. declines why refl) cluster frame header-says
 
 pub replies-start : RepliesStart
-replies-start form limit s t cluster unicast frame room h e = says-starts h _ room _ (serve-says form limit s cluster unicast frame room h e t)
+replies-start form limit s t cluster unicast frame room h e = says-starts h _ room _ (request-says form limit s cluster unicast frame room h e t)
 
 -- ---- the responder's, and a report
 

@@ -29,6 +29,7 @@ module _ (form limit : ℕ) (s : List ℕ) (wide : 8 ≤ form) (is : isStore for
         configure = itself;
         configuration = itself;
         discover = itself;
+        response = itself;
         other = itself;
       })
 

@@ -3,6 +3,8 @@ pub mod Asks  -- what a frame asks for
 pub mod Left  -- what every answer leaves
 pub mod Troubles  -- what numbers 4 and 5 leave of a list
 pub mod Starts  -- how every reply starts
+pub mod Chain  -- a chain of replies ends
+pub mod ChainExample  -- chains over store T, computed
 pub mod Indifferent  -- what does not affect an answer
 pub mod WithoutTable  -- frames that have nothing to do with the table
 pub mod Bench  -- the starred bench frames, as one list under one claim

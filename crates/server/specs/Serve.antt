@@ -12,10 +12,10 @@ use Rattle.frame.specs.declared.header.FrameType.the-variants.{GlobalCommand, C
 use Rattle.frame.specs.declared.command_identifier.CommandIdentifier.{CommandIdentifier}
 use Rattle.frame.specs.declared.command_identifier.CommandIdentifier.the-variants.{ReadAttributes, ReadAttributesResponse, WriteAttributes, WriteAttributesUndivided, WriteAttributesResponse, WriteAttributesNoResponse, ConfigureReporting, ConfigureReportingResponse, ReadReportingConfiguration, ReadReportingConfigurationResponse, ReportAttributes, DefaultResponse, DiscoverAttributes, DiscoverAttributesResponse, Other}
 use Rattle.frame.specs.declared.status.Status.the-variants.{UnsupCommand}
-use Rattle.frame.specs.declared.answer.Refusal.the-variants.{OtherCluster, HeaderShort, ReservedFrameType, NotAStore, NotATable}
+use Rattle.frame.specs.declared.answer.Refusal.the-variants.{OtherCluster, HeaderShort, ReservedFrameType, NothingToSend, NotAStore, NotATable}
 use Rattle.frame.specs.Header.{frameTypeOf, headerOf}
 use Rattle.frame.specs.CommandIdentifier.{commandOf}
-use Rattle.frame.specs.Answer.{Outcome, within, refused}
+use Rattle.frame.specs.Answer.{Outcome, within, noState, refused}
 use Rattle.store.specs.Contents.{clusterOf}
 use Rattle.store.specs.Layout.{isStore}
 use Rattle.reporting.specs.Table.{Table, holding, bad}
@@ -48,7 +48,7 @@ tabling s o = within (state s) o
 abbrev pub unsupported : List ℕ → Table → Bool → ZclHeader → ℕ → Outcome State
 unsupported s t unicast h room = neither s t (defaultResponse h unicast UnsupCommand room)
 
--- the seven; any other global command gets UNSUP_COMMAND, a received Default Response too
+-- the seven; a Default Response gets nothing, whatever is in it, and that before the unicast test; any other global command gets UNSUP_COMMAND
 unfoldable pub commanded : ℕ → ℕ → List ℕ → Table → Bool → ZclHeader → List ℕ → ℕ → CommandIdentifier → Outcome State
 commanded form limit s t unicast h body room ReadAttributes = neither s t (readOf form s h body room)
 commanded form limit s t unicast h body room WriteAttributes = storing t (writeAttributes form s h body room)
@@ -62,7 +62,7 @@ commanded form limit s t unicast h body room WriteAttributesResponse = unsupport
 commanded form limit s t unicast h body room ConfigureReportingResponse = unsupported s t unicast h room
 commanded form limit s t unicast h body room ReadReportingConfigurationResponse = unsupported s t unicast h room
 commanded form limit s t unicast h body room ReportAttributes = unsupported s t unicast h room
-commanded form limit s t unicast h body room DefaultResponse = unsupported s t unicast h room
+commanded form limit s t unicast h body room DefaultResponse = neither s t (refused room NothingToSend noState)
 commanded form limit s t unicast h body room DiscoverAttributesResponse = unsupported s t unicast h room
 commanded form limit s t unicast h body room (Other b) = unsupported s t unicast h room
 

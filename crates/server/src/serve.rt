@@ -44,7 +44,7 @@ pub struct Served {
     pub answer: Answer,
 }
 
-// A global command: one of the seven, or UNSUP_COMMAND.
+// A global command: one of the seven, or UNSUP_COMMAND; and nothing to a Default Response, which is never answered by another.
 fn global_command(
     store: &mut [u8],
     table: &mut [u8],
@@ -75,6 +75,7 @@ fn global_command(
             read_reporting_configuration(store, table, request, body, reply)
         }
         CommandIdentifier::DiscoverAttributes => discover_attributes(store, request, body, reply),
+        CommandIdentifier::DefaultResponse => refuse(reply, Refusal::NothingToSend),
         _ => default_response(request, unicast, Status::UnsupCommand, reply),
     }
 }

@@ -9,7 +9,7 @@ use super::readers::{BY_ALL, BY_ONE, READERS};
 pub const VALUES: [&str; 5] = ["read", "write", "undivided", "no response", "discover"];
 
 /// All that a served frame may be.
-pub const SERVED: [&str; 10] = [
+pub const SERVED: [&str; 11] = [
     "any frame",
     "read",
     "write",
@@ -18,6 +18,7 @@ pub const SERVED: [&str; 10] = [
     "discover",
     "configure",
     "read configuration",
+    "a received Default Response",
     "another global command",
     "a cluster command",
 ];
@@ -207,10 +208,15 @@ pub const ALLOWED: &[(&str, u8, &[Detail])] = &[
     ("read configuration", 5, &[Said("header")]),
     // Default Response
     (
-        "another global command",
-        0,
-        &[Alone(0x81), Said("a received Default Response")],
+        "a received Default Response",
+        6,
+        &[
+            Said("unicast"),
+            Said("no unicast"),
+            Said("without room for an answer"),
+        ],
     ),
+    ("another global command", 0, &[Alone(0x81)]),
     (
         "another global command",
         5,

@@ -52,7 +52,7 @@ pub fn of(call: &Call<'_>) -> Vec<Kind> {
 
 fn by_command(call: &Call<'_>, header: &Header, body: &[u8]) -> (&'static str, Vec<Detail>) {
     if header.frame_type == FrameType::Cluster {
-        return ("a cluster command", default_response(call, header));
+        return ("a cluster command", default_response(call));
     }
     match header.command {
         0x00 => ("read", bodies::read(call, body)),
@@ -62,7 +62,8 @@ fn by_command(call: &Call<'_>, header: &Header, body: &[u8]) -> (&'static str, V
         0x06 => ("configure", reporting::configure(call, body)),
         0x08 => ("read configuration", reporting::read(call, body)),
         0x0c => ("discover", bodies::discover(call, body)),
-        _ => ("another global command", default_response(call, header)),
+        0x0b => ("a received Default Response", received(call)),
+        _ => ("another global command", default_response(call)),
     }
 }
 
@@ -80,15 +81,20 @@ pub fn statuses(statuses: &[u8]) -> Vec<Detail> {
     [Detail::First(first)].into_iter().chain(later).collect()
 }
 
-fn default_response(call: &Call<'_>, header: &Header) -> Vec<Detail> {
+/// A Default Response, which gets nothing however it came.
+fn received(call: &Call<'_>) -> Vec<Detail> {
+    let sent = Said(if call.unicast {
+        "unicast"
+    } else {
+        "no unicast"
+    });
+    let narrow = (call.room < 5).then_some(Said("without room for an answer"));
+    [sent].into_iter().chain(narrow).collect()
+}
+
+fn default_response(call: &Call<'_>) -> Vec<Detail> {
     match call.answer.number {
-        0 => {
-            let mut details: Vec<Detail> = call.records()[1..].iter().map(|&s| Alone(s)).collect();
-            if header.frame_type == FrameType::Global && header.command == 0x0b {
-                details.push(Said("a received Default Response"));
-            }
-            details
-        }
+        0 => call.records()[1..].iter().map(|&s| Alone(s)).collect(),
         5 if call.unicast && call.room < 5 => vec![header_or(call.room, "behind the header")],
         6 if !call.unicast => vec![Said("no unicast")],
         // allowed nowhere

@@ -109,6 +109,8 @@ fn global(store: &mut [u8], table: &mut Vec<Entry>, cluster: u16, request: &Requ
             let asked = Asked::read(body)?;
             discover(store, &asked, request.reply(0x0d)?)
         }
+        // a Default Response is never answered (document 02, request 1)
+        0x0b => Err(Refusal::NothingToSend),
         _ => default_response(
             &request.header,
             request.unicast,

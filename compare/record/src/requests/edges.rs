@@ -5,7 +5,7 @@ use cases::Case;
 use cases::stores::bench;
 use reading::table::{Config, Entry, Key};
 
-use super::{CONFIGURE, READ, over};
+use super::{CONFIGURE, READ, RECEIVED, over};
 
 const CLUSTER: u16 = 0xfc21;
 
@@ -22,6 +22,33 @@ pub fn all() -> Vec<Case> {
         cases.push(asked(&[], CONFIGURE, &body, room));
         let ids = [0, 5, 0, 0, 0, 0, 0, 9, 0];
         cases.push(asked(&of(&[0, 5]), READ, &ids, room));
+    }
+    cases.extend(received());
+    cases
+}
+
+/// Default Responses, empty, cut, whole and longer, to the server and to the
+/// client, with a manufacturer code and without; and cluster commands of their
+/// number.
+fn received() -> Vec<Case> {
+    let heads: [&[u8]; 6] = [
+        &[0x00, 0x00],
+        &[0x00, 0x2a],
+        &[0x18, 0x2a],
+        &[0x10, 0xff],
+        &[0x0c, 0x34, 0x12, 0x2a],
+        &[0x01, 0x2a],
+    ];
+    let bodies: [&[u8]; 4] = [&[], &[0x00], &[0x0b, 0x81], &[0x00, 0x00, 0x01]];
+    let mut cases = Vec::new();
+    for (head, body) in heads
+        .iter()
+        .flat_map(|&head| bodies.map(|body| (head, body)))
+    {
+        let frame = [head, &[RECEIVED], body].concat();
+        for room in [0, 4, 5, 64] {
+            cases.push(over(&bench(), &of(&[5]), &frame, room));
+        }
     }
     cases
 }

@@ -12,10 +12,11 @@ pub fn section(results: &Results) -> Vec<Block> {
         heading("The listed differences, by their smallest frames"),
         text(
             "All stand in docs/DIFFERENCES.md. To step over a value that it does not store, the old server reads it with a reader that refuses some values \
-             whose end is known; there it ends without a reply, or without the records behind. The new one steps over them. These frames were \
+             whose end is known; there it ends without a reply, or without the records behind. The new one steps over them. The last row is another: the old \
+             server answers a Default Response by a Default Response, so that two of them never stop, and the new one sends nothing. These frames were \
              run for this page, over store T of document 01, with room for 6 bytes of reply:",
         ),
-        in_writes(results),
+        in_answers(results),
         text(
             "In two more the reply buffer itself differs, outside of what is sent. It was all zeros before the old call; the new server leaves zeros \
              behind a reply and after a refusal, whatever was in it:",
@@ -24,15 +25,15 @@ pub fn section(results: &Results) -> Vec<Block> {
     ]
 }
 
-fn in_writes(results: &Results) -> Block {
+fn in_answers(results: &Results) -> Block {
     let rows = results.listed.iter().map(|listed| {
         let request = &listed.ran.frame.case.request;
         let [old, new] = with_stores(&listed.ran);
-        let name = listed.condition.name().to_owned();
+        let name = listed.difference.name().to_owned();
         let command = Command::of(request).name().to_owned();
         vec![name, command, code(&hex(request)), old, new]
     });
-    let head = ["value", "command", "frame", "old", "new"];
+    let head = ["value, or frame", "command", "frame", "old", "new"];
     Table::of(&head, rows.collect())
 }
 

@@ -75,9 +75,9 @@ fn counts(results: &Results) -> Vec<Block> {
     let by_name: Vec<Vec<String>> = counted
         .listed()
         .into_iter()
-        .map(|(command, condition, many)| {
+        .map(|(command, difference, many)| {
             vec![
-                condition.name().to_owned(),
+                difference.name().to_owned(),
                 command.name().to_owned(),
                 many.to_string(),
             ]

@@ -118,7 +118,7 @@ DiscoverServed = Serves DiscoverAttributes discoverReplyOf discoveryMade
 abbrev pub ClusterServed : Type 0
 ClusterServed = Answered AsksCluster defaultResponseOf responseMade
 
--- and so has every global command that is none of the seven
+-- and so has every global command that is none of the seven and no Default Response
 abbrev pub IsOther : CommandIdentifier → Type 0
 IsOther ReadAttributes = ⊥
 IsOther WriteAttributes = ⊥
@@ -132,7 +132,7 @@ IsOther WriteAttributesResponse = Unit {0}
 IsOther ConfigureReportingResponse = Unit {0}
 IsOther ReadReportingConfigurationResponse = Unit {0}
 IsOther ReportAttributes = Unit {0}
-IsOther DefaultResponse = Unit {0}
+IsOther DefaultResponse = ⊥
 IsOther DiscoverAttributesResponse = Unit {0}
 IsOther (Other b) = Unit {0}
 

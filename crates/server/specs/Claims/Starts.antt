@@ -22,7 +22,7 @@ use Rattle.server.specs.Report.{reportOf}
 abbrev pub Starts : {S : Type 0} → ℕ → CommandIdentifier → Outcome S → Type 0
 Starts sequence command o = o .number ≡ 0 → take 3 (take (o .size) (o .reply)) ≡ 0x18 ∷ sequence ∷ commandCode command ∷ []
 
--- the command that answers a global command: 00 by 01, 02 and 03 by 04, 06 by 07, 08 by 09, 0c by 0d, every other by 0b; 05 gets no reply
+-- the command that answers a global command: 00 by 01, 02 and 03 by 04, 06 by 07, 08 by 09, 0c by 0d, every other by 0b; 05 and 0b get no reply
 abbrev pub replyTo : CommandIdentifier → CommandIdentifier
 replyTo ReadAttributes = ReadAttributesResponse
 replyTo WriteAttributes = WriteAttributesResponse

@@ -99,13 +99,14 @@ returns-10 c =
 returns-11 : tie.Need-returns-11
 unfolding ours
 returns-11 c =
-    c .of-request .ensures ∙ ap (λ (l : ℕ). agreement (ours l (now (c .before .before .before .before .args .input))) (now (c .before .before .before .before .args .held))) (sym (c .before .match .keys11))
+    c .of-request .ensures
+    ∙ elim (c .before .match .keys11) [ inl e ↦ ap (λ (l : ℕ). agreement (ours l (now (c .before .before .before .before .args .input))) (now (c .before .before .before .before .args .held))) (sym e) | inr e ↦ ap (λ (l : ℕ). agreement (ours l (now (c .before .before .before .before .args .input))) (now (c .before .before .before .before .args .held))) (sym e) ]
 
 returns-12 : tie.Need-returns-12
 returns-12 c =
     let n = c .match .rest in
     ap (λ (o : Option (List ℕ)). agreement o (now (c .before .before .before .args .held)))
-    (sym (ours-none (c .before .before .before .args .letter) (now (c .before .before .before .args .input)) (n .0 .0 .0 .0 .0 .0 .0 .0 .0 .0 .1) (n .0 .0 .0 .0 .0 .0 .0 .0 .0 .1) (n .0 .0 .0 .0 .0 .0 .0 .0 .1) (n .0 .0 .0 .0 .0 .0 .0 .1) (n .0 .0 .0 .0 .0 .0 .1) (n .0 .0 .0 .0 .0 .1) (n .0 .0 .0 .0 .1) (λ e. n .0 .0 .0 .1 (inl e)) (λ e. n .0 .0 .0 .1 (inr e)) (n .0 .0 .1) (n .0 .1) (n .1)))
+    (sym (ours-none (c .before .before .before .args .letter) (now (c .before .before .before .args .input)) (n .0 .0 .0 .0 .0 .0 .0 .0 .0 .0 .1) (n .0 .0 .0 .0 .0 .0 .0 .0 .0 .1) (n .0 .0 .0 .0 .0 .0 .0 .0 .1) (n .0 .0 .0 .0 .0 .0 .0 .1) (n .0 .0 .0 .0 .0 .0 .1) (n .0 .0 .0 .0 .0 .1) (n .0 .0 .0 .0 .1) (λ e. n .0 .0 .0 .1 (inl e)) (λ e. n .0 .0 .0 .1 (inr e)) (n .0 .0 .1) (n .0 .1) (λ e. n .1 (inl e)) (λ e. n .1 (inr e))))
 
 pub held-to-ours-spec : {M : Type 1} → statement M
 held-to-ours-spec =

@@ -62,6 +62,12 @@ enum-told-7 c = search needs
 discover-attributes-requires : tie.Need-discover-attributes-requires
 discover-attributes-requires c κs = search needs
 
+enum-told-8 : tie.Need-enum-told-8
+enum-told-8 c = search needs
+
+refuse-requires : tie.Need-refuse-requires
+refuse-requires c κs = search needs
+
 default-response-requires : tie.Need-default-response-requires
 default-response-requires c κs = search needs
 
@@ -145,10 +151,17 @@ same-length-17 : tie.Need-same-length-17
 same-length-17 c = search needs
 
 returns-8 : tie.Need-returns-8
-returns-8 c = (
+unfolding commanded
+returns-8 c = (c .before .before .before .before .before .before .before .before .before .before .before .before .pre, ap (within (λ u. state (now (c .before .before .before .before .before .before .before .before .before .before .before .before .args .store)) (holding (tableIn (now (c .before .before .before .before .before .before .before .before .before .before .before .before .args .table)))))) (c .before .before .refuse .ensures) ∙ told (c .before .before .before .before .before .before) _ (c .before .before .before .before .enum-told8 .given .1))
+
+same-length-18 : tie.Need-same-length-18
+same-length-18 c = search needs
+
+returns-9 : tie.Need-returns-9
+returns-9 c = (
   c .before .before .before .before .before .before .before .before .before .before .before .pre,
   ap (within (λ u. state (now (c .before .before .before .before .before .before .before .before .before .before .before .args .store)) (holding (tableIn (now (c .before .before .before .before .before .before .before .before .before .before .before .args .table)))))) (c .before .before .default-response .ensures)
-      ∙ rest-unsupported 8 capacity (now (c .before .before .before .before .before .before .before .before .before .before .before .args .store)) (holding (tableIn (now (c .before .before .before .before .before .before .before .before .before .before .before .args .table)))) (c .before .before .before .before .before .before .before .before .before .before .before .args .unicast) (c .before .before .before .before .before .before .before .before .before .before .before .args .request) (now (c .before .before .before .before .before .before .before .before .before .before .before .args .body)) (length (now (c .before .before .before .before .before .before .before .before .before .before .before .args .reply))) (c .before .before .before .before .before .from-bits .result) (c .before .before .before .before .match .keys8)
+      ∙ rest-unsupported 8 capacity (now (c .before .before .before .before .before .before .before .before .before .before .before .args .store)) (holding (tableIn (now (c .before .before .before .before .before .before .before .before .before .before .before .args .table)))) (c .before .before .before .before .before .before .before .before .before .before .before .args .unicast) (c .before .before .before .before .before .before .before .before .before .before .before .args .request) (now (c .before .before .before .before .before .before .before .before .before .before .before .args .body)) (length (now (c .before .before .before .before .before .before .before .before .before .before .before .args .reply))) (c .before .before .before .before .before .from-bits .result) (c .before .before .before .before .match .keys9)
       ∙ told (c .before .before .before .before .before) (c .before .before .before .before .before .from-bits .result) refl,
 )
 
@@ -171,6 +184,8 @@ global-command-spec =
     read-reporting-configuration-requires
     enum-told-7
     discover-attributes-requires
+    enum-told-8
+    refuse-requires
     default-response-requires
     same-length
     same-length-2
@@ -196,4 +211,6 @@ global-command-spec =
     same-length-16
     returns-7
     same-length-17
-    returns-8)
+    returns-8
+    same-length-18
+    returns-9)
