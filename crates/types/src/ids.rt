@@ -200,18 +200,20 @@ impl TypeId {
         }
     }
 
-    // Whether a reporting configuration carries a change: integers, floating point and time types (2.5.7.1.7). The codes are named again:
-    // asking is_signed and is_float made a configuration slower.
+    // Whether a reporting configuration carries a change: integers, floating point and time types (2.5.7.1.7).
     pub fn is_analog(self) -> bool
         ensures { λ r. ⌜ r ≡ isAnalog (self .0) ⌝ }
     {
-        let code = self.0;
-        match code {
-            TypeId::UINT8..=TypeId::INT64
-            | TypeId::SEMI_PRECISION..=TypeId::DOUBLE_PRECISION
-            | TypeId::TIME_OF_DAY..=TypeId::UTC_TIME => true,
-            _ => false,
+        if among(TypeId::UINT8, TypeId::UINT64, self.0) {
+            return true;
         }
+        if self.is_signed() {
+            return true;
+        }
+        if self.is_float() {
+            return true;
+        }
+        among(TypeId::TIME_OF_DAY, TypeId::UTC_TIME, self.0)
     }
 
     // Array, structure, set and bag cannot be reported (2.5.7.3).

@@ -1,39 +1,66 @@
--- Each arm holds for its codes by one computed test. Assumes nothing.
+-- One family after the other, in the definition's order. Assumes nothing.
+use mathlib.Core.Path.{_≡_, refl, sym, _∙_}
+use mathlib.Core.Bool.{Bool, true, false, _||_}
+use Rattle.types.specs.Ids.{isAnalog, isSigned, isFloat}
+use borrow.Author.Needs.{needs}
 use Rattle.types.proofs.ids.TypeId.is_analog.Statement.{statement}
 use Rattle.types.proofs.ids.TypeId.is_analog.Tie as tie
-use mathlib.Core.Bool.{true, false}
-use native.Mathlib.Omega.{arith}
-use Rattle.types.specs.Ids.{isAnalog}
-use Rattle.types.proofs.Sizes.{rule-run}
+
+module _ (x y z w : Bool) where
+  first : x ≡ true → true ≡ (x || y || z || w)
+  first e = rw e refl
+
+  second : x ≡ false → y ≡ true → true ≡ (x || y || z || w)
+  second d e = rw (d, e) refl
+
+  third : x ≡ false → y ≡ false → z ≡ true → true ≡ (x || y || z || w)
+  third c d e = rw (c, d, e) refl
+
+  fourth : x ≡ false → y ≡ false → z ≡ false → w ≡ (x || y || z || w)
+  fourth c d e = rw (c, d, e) refl
+
+among-requires : tie.Need-among-requires
+among-requires c κs = search needs
 
 returns : tie.Need-returns
 unfolding isAnalog
-returns c = rule-run isAnalog true 0x20 0x10 tt (c .before .before .args .self .0) (omega (arith, c .before .if1 .left)) (omega (arith, c .if2 .taken))
+returns c = first _ _ _ _ (sym (c .before .among .ensures) ∙ c .if1 .taken)
+
+is-signed-requires : tie.Need-is-signed-requires
+is-signed-requires c κs = search needs
 
 returns-2 : tie.Need-returns-2
-unfolding isAnalog
-returns-2 c = rule-run isAnalog true 0x38 3 tt (c .before .before .before .before .args .self .0) (omega (arith, c .before .if3 .left)) (omega (arith, c .if4 .taken))
+unfolding isAnalog isSigned
+returns-2 c = second _ _ _ _ (sym (c .before .before .before .among .ensures) ∙ c .before .before .if1 .left) (sym (c .before .is-signed .ensures) ∙ c .if2 .taken)
+
+is-float-requires : tie.Need-is-float-requires
+is-float-requires c κs = search needs
 
 returns-3 : tie.Need-returns-3
-unfolding isAnalog
-returns-3 c = rule-run isAnalog true 0xe0 3 tt (c .before .before .before .before .before .before .args .self .0) (omega (arith, c .before .if5 .left)) (omega (arith, c .if6 .taken))
+unfolding isAnalog isSigned isFloat
+returns-3 c =
+    third _ _ _ _ (sym (c .before .before .before .before .before .among .ensures) ∙ c .before .before .before .before .if1 .left) (sym (c .before .before .before .is-signed .ensures) ∙ c .before .before .if2 .left)
+    (sym (c .before .is-float .ensures) ∙ c .if3 .taken)
+
+among-requires-2 : tie.Need-among-requires-2
+among-requires-2 c κs = search needs
 
 returns-4 : tie.Need-returns-4
-unfolding isAnalog
-returns-4 c = rule-run isAnalog false 0 0x20 tt (c .before .args .self .0) (omega arith) (omega (arith, c .if1 .taken))
-
-returns-5 : tie.Need-returns-5
-unfolding isAnalog
-returns-5 c = rule-run isAnalog false 0x30 8 tt (c .before .before .before .args .self .0) (omega (arith, c .before .if2 .left)) (omega (arith, c .if3 .taken))
-
-returns-6 : tie.Need-returns-6
-unfolding isAnalog
-returns-6 c = rule-run isAnalog false 0x3b 0xa5 tt (c .before .before .before .before .before .args .self .0) (omega (arith, c .before .if4 .left)) (omega (arith, c .if5 .taken))
-
-returns-7 : tie.Need-returns-7
-unfolding isAnalog
-returns-7 c = rule-run isAnalog false 0xe3 0x1d tt (c .before .before .before .before .before .before .args .self .0) (omega (arith, c .if6 .left)) (omega (arith, c .before .before .before .before .before .before .good))
+unfolding isAnalog isSigned isFloat
+returns-4 c =
+    c .among2 .ensures
+    ∙ fourth _ _ _ _ (sym (c .before .before .before .before .before .before .among .ensures) ∙ c .before .before .before .before .before .if1 .left) (sym (c .before .before .before .before .is-signed .ensures) ∙ c .before .before .before .if2 .left)
+    (sym (c .before .before .is-float .ensures) ∙ c .before .if3 .left)
 
 pub is-analog-spec : {M : Type 1} → statement M
 is-analog-spec =
-    tie.close (tie.spec returns returns-2 returns-3 returns-4 returns-5 returns-6 returns-7)
+    tie.close
+    (tie.spec
+    among-requires
+    returns
+    is-signed-requires
+    returns-2
+    is-float-requires
+    returns-3
+    among-requires-2
+    returns-4)
