@@ -1,6 +1,7 @@
 /*
- * Document 01's bench frames, from C: what each request says back, byte for byte, with the reply buffer behind it, and the store
- * afterwards. A test: it prints each check that fails and how many there were, and ends non-zero when one failed.
+ * Document 01's bench frames, 7 as request 2 of document 02 has it, from C: what each request says back, byte for byte, with the reply
+ * buffer behind it, and the store afterwards. A test: it prints each check that fails and how many there were, and ends non-zero when one
+ * failed.
  */
 #include <stdio.h>
 #include <string.h>
@@ -55,8 +56,14 @@ static void commands(void)
     serves("frame 4, room 2", "002a0000000900", 2, HD_TOO_LONG, "", 7);
     serves("frame 5", "002b0201002009", 60, 0, "182b0400", 9);
     serves("frame 6", "002b0200002301000000", 60, 0, "182b04880000", 7);
-    serves("frame 7", "002b0301002009070042054142434445", 60, 0, "182b04870700", 9);
+    serves("frame 7", "002b0301002009070042054142434445", 60, 0, "182b04870700", 7);
+    serves("frame 7, room 5", "002b0301002009070042054142434445", 5, HD_TOO_LONG, "", 7);
     serves("frame 8", "002b0301002009", 3, HD_TOO_LONG, "", 9);
+    serves("undivided, too long and absent", "002b0307004205414243444509002000", 60, 0, "182b04870700860900", 7);
+    serves("undivided, too long and absent, room 9", "002b0307004205414243444509002000", 9, 0, "182b04870700860900", 7);
+    serves("undivided, too long and absent, room 8", "002b0307004205414243444509002000", 8, HD_TOO_LONG, "", 7);
+    serves("undivided, too long and cut", "002b0307004205414243444501", 6, HD_RECORD_CUT, "", 7);
+    serves("undivided, too long and cut, room 5", "002b0307004205414243444501", 5, HD_TOO_LONG, "", 7);
     serves("frame 9", "002c0c010002", 60, 0, "182c0d00010020050029", 7);
     serves("frame 9, maximum 3", "002c0c010003", 60, 0, "182c0d01010020050029070042", 7);
     serves("frame 10", "002c0c080000", 60, 0, "182c0d01", 7);

@@ -62,8 +62,9 @@ impl Condition {
 
     /// The condition that a frame over a store fulfils, by the first such value
     /// that the Rust steps over: of a write, with or without response, in a
-    /// record that fails, of an undivided write in any record.
-    pub fn of_frame(store: &[u8], request: &[u8]) -> Option<Self> {
+    /// record that fails, of an undivided write in any record. And how long the
+    /// frame is without that record and what follows.
+    pub fn of_frame(store: &[u8], request: &[u8]) -> Option<(Self, usize)> {
         let (header, body) = body_of(request)?;
         if header.frame_type != FrameType::Global || !matches!(header.command, 0x02 | 0x03 | 0x05) {
             return None;
@@ -72,7 +73,7 @@ impl Condition {
         records
             .iter()
             .filter(|record| header.command == 0x03 || record.status != 0x00)
-            .find_map(|record| Self::of(record.value))
+            .find_map(|record| Some((Self::of(record.value)?, header.body + record.at)))
     }
 
     fn holds(self, code: u8, bytes: &[u8]) -> bool {

@@ -4,6 +4,7 @@
 mod case;
 mod conditions;
 mod differences;
+mod divided;
 pub mod given;
 mod hex;
 pub mod histories;
@@ -17,7 +18,7 @@ pub mod values;
 
 pub use case::{Case, Seen, shown};
 pub use conditions::Condition;
-pub use differences::{Difference, Frame, Said};
+pub use differences::{Difference, Said};
 pub use hex::{hex, unhex};
 pub use random::Random;
 pub use records::{End, Record, body_of, records};

@@ -2,17 +2,19 @@
 //! checks give it. A status depends on the contents of a store, and no write
 //! changes these: so it is the same at every moment of the request.
 
-use reading::store::{check, write};
+use reading::store::{check, writable};
 use reading::{Extent, Header, extent, header};
 
 pub struct Record<'a> {
+    /// Where it begins in the body.
+    pub at: usize,
     pub id: u16,
     /// Type code and bytes.
     pub value: &'a [u8],
     /// Of all four checks.
     pub status: u8,
-    /// Of the first three, as in the first pass of an undivided write.
-    pub first_pass: u8,
+    /// Of the first three.
+    pub of_three: u8,
 }
 
 /// How the records of a body come to their end.
@@ -45,11 +47,13 @@ pub fn records<'a>(store: &[u8], body: &'a [u8]) -> (Vec<Record<'a>>, End) {
         };
         let id = u16::from_le_bytes([low, high]);
         let value = &body[at + 2..end];
+        let all_four = writable(store, id, code, &value[1..]);
         records.push(Record {
+            at,
             id,
             value,
-            status: write(&mut store.to_vec(), id, code, &value[1..]),
-            first_pass: check(store, id, code).err().unwrap_or(0x00),
+            status: all_four.err().unwrap_or(0x00),
+            of_three: check(store, id, code).err().unwrap_or(0x00),
         });
         at = end;
     }

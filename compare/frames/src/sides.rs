@@ -1,6 +1,6 @@
 //! How the Rust stands to what document 01 says.
 
-use cases::{Case, Difference, Frame, Said, Seen};
+use cases::{Case, Difference, Seen};
 use oracle::{Oracle, Outcome, Request};
 use reading::store::is_store;
 use reading::table::entries;
@@ -15,17 +15,35 @@ pub enum Stands {
     Differs(Difference),
 }
 
-/// An error where the Rust differs and no listed difference lets it.
+/// An error where it stands otherwise.
 pub fn rust(oracle: &mut Oracle, case: &Case, document: &Seen) -> Result<Stands, String> {
     let Some(outcome) = asked(oracle, case)? else {
         return Ok(Stands::NotAsked);
     };
-    if agrees(document, &outcome) {
-        return Ok(Stands::Agrees);
+    let difference = difference(case, document, &outcome)?;
+    Ok(difference.map_or(Stands::Agrees, Stands::Differs))
+}
+
+/// The listed difference by which the Rust says or leaves something else than
+/// document 01, if it does. An error where it does and none is listed; and where
+/// the frame meets a listed one and the Rust does not say what that lets it.
+pub fn difference(
+    case: &Case,
+    document: &Seen,
+    outcome: &Outcome,
+) -> Result<Option<Difference>, String> {
+    let trouble = || format!("document 01:\n{document}the Rust:\n{}", shown(outcome));
+    let listed = Difference::of(case);
+    if let Some((_, said)) = &listed
+        && !said.is(outcome.reply.as_deref(), &outcome.store, &outcome.table)
+    {
+        return Err(trouble());
     }
-    let trouble = || format!("document 01:\n{document}the Rust:\n{}", shown(&outcome));
-    let listed = listed(case, &outcome).map(Stands::Differs);
-    listed.ok_or_else(trouble)
+    if agrees(document, outcome) {
+        return Ok(None);
+    }
+    let (difference, _) = listed.ok_or_else(trouble)?;
+    Ok(Some(difference))
 }
 
 /// What the Rust says and leaves; nothing for a store or a table that has no
@@ -45,26 +63,11 @@ pub fn asked(oracle: &mut Oracle, case: &Case) -> Result<Option<Outcome>, String
 
 /// Whether the Rust, which says `None` to every refusal, says and leaves the
 /// same.
-pub fn agrees(seen: &Seen, outcome: &Outcome) -> bool {
+fn agrees(seen: &Seen, outcome: &Outcome) -> bool {
     let reply = (seen.number == 0).then(|| seen.reply());
     reply == outcome.reply.as_deref()
         && seen.store == outcome.store
         && entries(&seen.table).as_deref() == Ok(&outcome.table)
-}
-
-/// The listed difference that lets the Rust differ so.
-pub fn listed(case: &Case, outcome: &Outcome) -> Option<Difference> {
-    let frame = Frame {
-        store: &case.store,
-        unicast: case.unicast != 0,
-        request: &case.request,
-    };
-    let said = Said {
-        reply: outcome.reply.as_deref(),
-        other_store: outcome.store != case.store,
-        other_table: entries(&case.table).as_deref() != Ok(&outcome.table),
-    };
-    Difference::of(&frame, &said)
 }
 
 fn shown(outcome: &Outcome) -> String {

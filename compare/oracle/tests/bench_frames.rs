@@ -62,6 +62,7 @@ fn writes() {
         says("002b0200002301000000", 64),
         reply("182b04880000", REST)
     );
+    // it divides, as it did before request 2 of document 02
     let divided = "002b03 01002009 070042054142434445";
     assert_eq!(says(divided, 64), reply("182b04870700", WITH_9));
     assert_eq!(says("002b0301002009", 3), (None, bytes(WITH_9)));

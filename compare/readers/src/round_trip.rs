@@ -19,8 +19,7 @@ pub fn is_answer(case: &Case, seen: &Seen, readings: &Readings) -> bool {
         (FrameType::Global, 0x00) => (readings.read.as_ref())
             .is_ok_and(|read| are_values(case, seen.reply(), body, read, left)),
         (FrameType::Global, 0x02 | 0x03) => {
-            let undivided = header.command == 0x03;
-            readings.write.as_ref() == Ok(&not_written(&case.store, body, undivided))
+            readings.write.as_ref() == Ok(&not_written(&case.store, body))
         }
         (FrameType::Global, 0x06) => readings.configure.as_ref() == Ok(&not_configured(case, body)),
         (FrameType::Global, 0x08) => {
@@ -65,15 +64,10 @@ fn are_values(case: &Case, frame: &[u8], body: &[u8], read: &[ReadRecord], left:
     read.iter().all(&mut one) && (ids.next().is_none() || left < 3)
 }
 
-fn not_written(store: &[u8], body: &[u8], undivided: bool) -> Vec<Failure> {
+fn not_written(store: &[u8], body: &[u8]) -> Vec<Failure> {
     let (records, _) = records(store, body);
-    let first_pass = undivided && records.iter().any(|record| record.first_pass != 0x00);
     let failures = records.iter().map(|record| Failure {
-        status: if first_pass {
-            record.first_pass
-        } else {
-            record.status
-        },
+        status: record.status,
         direction: None,
         id: record.id,
     });

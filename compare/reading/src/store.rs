@@ -39,11 +39,16 @@ impl Attribute {
         Some(sent)
     }
 
+    /// Whether one whole value of the attribute's type is not too long for it: a
+    /// string's length byte stands before it, and behind ff there is nothing.
+    fn fits(&self, value: &[u8]) -> bool {
+        value.len() <= self.room
+    }
+
     /// Puts one whole value of the attribute's type in place of its own, and
     /// gives the status.
     pub fn set(&self, bytes: &mut [u8], value: &[u8]) -> u8 {
-        // a string's length byte stands before it; behind ff there is nothing
-        if self.room < value.len() {
+        if !self.fits(value) {
             return 0x87;
         }
         let body = &mut bytes[self.offset..self.offset + self.room];
@@ -161,10 +166,20 @@ pub fn check(bytes: &[u8], id: u16, type_code: u8) -> Result<Attribute, u8> {
     Ok(attribute)
 }
 
+/// All four checks of a write of one whole value of type `type_code`: the
+/// attribute, or the status.
+pub fn writable(bytes: &[u8], id: u16, type_code: u8, value: &[u8]) -> Result<Attribute, u8> {
+    let attribute = check(bytes, id, type_code)?;
+    if !attribute.fits(value) {
+        return Err(0x87);
+    }
+    Ok(attribute)
+}
+
 /// Writes one whole value of type `type_code` to an attribute of a store, and
 /// gives the status.
 pub fn write(bytes: &mut [u8], id: u16, type_code: u8, value: &[u8]) -> u8 {
-    match check(bytes, id, type_code) {
+    match writable(bytes, id, type_code, value) {
         Ok(attribute) => attribute.set(bytes, value),
         Err(status) => status,
     }

@@ -72,19 +72,42 @@ fn earlier_records_stay_done() {
 #[test]
 fn undivided() {
     // a failure that does not fit comes before a later cut record
-    assert_eq!(says("000003 09002000 01", 5), "5");
-    assert_eq!(says("000003 09002000 01", 6), "4");
-    // all three checks, none stored
-    let frame = "000003 01002009 09002000 00002000 0100210000";
-    let listed = reply("180004 860900 880000 8d0100");
-    assert_eq!(leaves(frame, 64, 40), pair(&listed, REST));
-    assert_eq!(leaves(frame, 11, 40), pair("5", REST));
-    // too long is no failure of the first pass, and not listed with one
-    let frame = "000003 070042054142434445 09002000";
-    assert_eq!(leaves(frame, 64, 40), pair("0 180004860900", REST));
-    let stored = "0938ff0254560000";
-    let frame = "000003 01002009 070042054142434445 01002011";
-    assert_eq!(leaves(frame, 5, 40), pair("5", stored));
+    for record in ["09002000", "070042054142434445"] {
+        let frame = format!("000003 {record} 01");
+        assert_eq!(leaves(&frame, 5, 40), pair("5", REST));
+        assert_eq!(leaves(&frame, 6, 40), pair("4", REST));
+    }
+    // all four checks, none stored
+    let frame = "000003 01002009 09002000 070042054142434445 00002000 0100210000";
+    let listed = reply("180004 860900 870700 880000 8d0100");
+    assert_eq!(leaves(frame, 15, 40), pair(&listed, REST));
+    assert_eq!(leaves(frame, 14, 40), pair("5", REST));
+}
+
+#[test]
+fn undivided_and_too_long() {
+    let too_long = "070042054142434445";
+    for (records, listed) in [
+        (format!("{too_long} 09002000"), "180004 870700 860900"),
+        (format!("09002000 {too_long}"), "180004 860900 870700"),
+        (format!("{too_long} {too_long}"), "180004 870700 870700"),
+    ] {
+        let frame = format!("000003 {records}");
+        assert_eq!(leaves(&frame, 9, 40), pair(&reply(listed), REST));
+        for room in 3..9 {
+            assert_eq!(leaves(&frame, room, 40), pair("5", REST));
+        }
+    }
+    // before and behind it is what could be stored
+    let frame = format!("000003 01002009 {too_long} 01002011");
+    assert_eq!(leaves(&frame, 6, 40), pair("0 180004870700", REST));
+    assert_eq!(leaves(&frame, 5, 40), pair("5", REST));
+    // four letters are not too long: all is stored, also without room to say so
+    let frame = "000003 01002009 0700420441424344";
+    let stored = "0938ff0441424344";
+    assert_eq!(leaves(frame, 4, 40), pair("0 18000400", stored));
+    assert_eq!(leaves(frame, 3, 40), pair("5", stored));
+    assert_eq!(leaves(frame, 2, 40), pair("5", REST));
 }
 
 #[test]

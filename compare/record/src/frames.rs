@@ -10,13 +10,14 @@ mod line;
 mod random;
 mod reads;
 pub mod smallest;
+mod undivided;
 mod writes;
 
 use std::collections::HashMap;
 
-use cases::Condition;
 use cases::kinds::{Kinds, VALUES};
 use cases::stores::word;
+use cases::{Condition, Difference};
 use oracle::Oracle;
 
 use crate::lines::Inputs;
@@ -54,7 +55,14 @@ impl Frames {
 #[derive(Default)]
 pub struct Counts {
     kinds: Kinds,
-    differences: HashMap<(Condition, u8), u64>,
+    differences: HashMap<(Difference, u8), u64>,
+}
+
+/// The listed differences of these commands, and the commands of each.
+fn listed() -> Vec<(Difference, u8)> {
+    let writes = |condition| [0x02, 0x03, 0x05].map(|code| (Difference::Value(condition), code));
+    let values = Condition::ALL.into_iter().flat_map(writes);
+    values.chain([(Difference::Divided, 0x03)]).collect()
 }
 
 pub fn lines() -> Result<(Vec<String>, Counts), String> {
@@ -76,6 +84,7 @@ fn inputs() -> Vec<Vec<u8>> {
     damaged::add(&mut frames);
     differences::add(&mut frames);
     random::add(&mut frames);
+    undivided::add(&mut frames);
     frames.0.into_vec()
 }
 
@@ -86,13 +95,12 @@ impl Counts {
         if !missing.is_empty() {
             return Err(format!("never reached: {}", missing.join("; ")));
         }
-        for condition in Condition::ALL {
-            for command in [0x02, 0x03, 0x05] {
-                if !self.differences.contains_key(&(condition, command)) {
-                    return Err(format!(
-                        "{condition:?} never makes a difference in command {command:02x}"
-                    ));
-                }
+        for (difference, command) in listed() {
+            if !self.differences.contains_key(&(difference, command)) {
+                return Err(format!(
+                    "{} never makes a difference in command {command:02x}",
+                    difference.name()
+                ));
             }
         }
         Ok(())
@@ -101,11 +109,10 @@ impl Counts {
     /// How often each came.
     pub fn list(&self) -> String {
         let mut list = self.kinds.list(&VALUES);
-        for condition in Condition::ALL {
-            for command in [0x02, 0x03, 0x05] {
-                let count = self.differences.get(&(condition, command)).unwrap_or(&0);
-                list += &format!("{count:9}  lines of {condition:?}, command {command:02x}\n");
-            }
+        for (difference, command) in listed() {
+            let count = self.differences.get(&(difference, command)).unwrap_or(&0);
+            let name = difference.name();
+            list += &format!("{count:9}  lines of {name}, command {command:02x}\n");
         }
         list
     }

@@ -7,7 +7,7 @@ use cases::given::tables;
 use cases::kinds::{self, Call, Kinds};
 use cases::requests::request;
 use cases::stores::{built, random_parts, word};
-use cases::{Case, Difference, Frame, Random, Said, Seen, hex};
+use cases::{Case, Difference, Random, Seen, hex};
 use oracle::{Oracle, Outcome, Request};
 use reading::commands::{Answer, serve_lent};
 use reading::store::{attributes, cluster_of};
@@ -110,10 +110,16 @@ fn line(case: &Case, oracle: &mut Oracle, kinds: &mut Kinds) -> Result<String, S
     ];
     let input = hex(&input.concat());
     let ours = answer(&before, seen.number, seen.reply(), &after);
-    if agrees(&seen, &outcome) {
+    let listed = Difference::of(case);
+    let reply = outcome.reply.as_deref();
+    let lets =
+        (listed.as_ref()).is_none_or(|(_, said)| said.is(reply, &outcome.store, &outcome.table));
+    if lets && agrees(&seen, &outcome) {
         return Ok(format!("q {input} {ours}"));
     }
-    listed(case, &before, &outcome).ok_or_else(unlisted)?;
+    if listed.is_none() || !lets {
+        return Err(unlisted());
+    }
     let number = if outcome.reply.is_some() { 0 } else { 6 };
     let reply = outcome.reply.as_deref().unwrap_or_default();
     let theirs = answer(&before, number, reply, &outcome.table);
@@ -127,20 +133,6 @@ fn answer(before: &[Entry], number: u8, reply: &[u8], after: &[Entry]) -> String
         [vec![1], used(after)].concat()
     };
     hex(&[&[1, number, short(reply.len())], reply, &table].concat())
-}
-
-fn listed(case: &Case, before: &[Entry], outcome: &Outcome) -> Option<Difference> {
-    let frame = Frame {
-        store: &case.store,
-        unicast: true,
-        request: &case.request,
-    };
-    let said = Said {
-        reply: outcome.reply.as_deref(),
-        other_store: outcome.store != case.store,
-        other_table: outcome.table != before,
-    };
-    Difference::of(&frame, &said)
 }
 
 /// A table's count and slots.

@@ -7,8 +7,8 @@ use crate::frame::Frame;
 use crate::sides::{Ran, Sides};
 use crate::verdict::Verdict;
 
-/// The least room that the replies of 02 and 03 need.
-const ROOM: usize = 6;
+/// The least room that every reply to them fits.
+pub const ROOM: usize = 9;
 
 /// The names in docs/DIFFERENCES.md of the two differences in the reply buffer.
 const BEHIND: &str = "bytes of the reply buffer behind a reply";
@@ -22,7 +22,8 @@ pub struct Listed {
 
 /// The frames of docs/DIFFERENCES.md over store T. Of the three writes: attribute
 /// 0 is read-only, so its record fails; behind it, a write without response has a
-/// record that stores 0 in attribute 1.
+/// record that stores 0 in attribute 1. Of the undivided writes that divide: such
+/// a record, or one that fails, before a string that is too long.
 pub fn listed(sides: &mut Sides) -> Result<Vec<Listed>, String> {
     let mut frames = Vec::new();
     for condition in Condition::ALL {
@@ -33,6 +34,10 @@ pub fn listed(sides: &mut Sides) -> Result<Vec<Listed>, String> {
         }
     }
     frames.push((Difference::DefaultResponse, unhex("00000b")));
+    for before in ["01002000", "000000"] {
+        let request = format!("000003{before}070042050000000000");
+        frames.push((Difference::Divided, unhex(&request)));
+    }
     let one = |(difference, request): (Difference, Vec<u8>)| {
         let ran = ran(sides, difference.name(), &request, ROOM)?;
         Ok(Listed { difference, ran })

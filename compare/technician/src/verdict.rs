@@ -3,7 +3,7 @@
 use std::fmt::Write;
 
 use cases::Difference;
-use frames::sides::{agrees, listed};
+use frames::sides::difference;
 
 use crate::difference::{Side, first};
 use crate::sides::{Old, Ran};
@@ -26,10 +26,10 @@ impl Ran {
         match (&self.new, &self.old) {
             (Ok(new), old) if *new == self.frame.document => match old {
                 Old::NoCounterpart => Verdict::NoCounterpart,
-                Old::Said(outcome) if agrees(new, outcome) => Verdict::Equal,
-                Old::Said(outcome) => match listed(&self.frame.case, outcome) {
-                    Some(difference) => Verdict::Listed(difference),
-                    None => Verdict::Unlisted(self.shown()),
+                Old::Said(outcome) => match difference(&self.frame.case, new, outcome) {
+                    Ok(None) => Verdict::Equal,
+                    Ok(Some(listed)) => Verdict::Listed(listed),
+                    Err(_) => Verdict::Unlisted(self.shown()),
                 },
                 Old::Panicked(_) => Verdict::Unlisted(self.shown()),
             },
@@ -87,6 +87,9 @@ mod tests {
         }
     }
 
+    /// Bench frame 7.
+    const DIVIDED: &str = "002b0301002009070042054142434445";
+
     #[test]
     fn right_answers() {
         assert_eq!(ran(&bench(), "002a000000").verdict(), Verdict::Equal);
@@ -94,6 +97,7 @@ mod tests {
         for (request, difference) in [
             ("00000200001002", boolean),
             ("00000b", Difference::DefaultResponse),
+            (DIVIDED, Difference::Divided),
         ] {
             let verdict = ran(&bench(), request).verdict();
             assert_eq!(verdict, Verdict::Listed(difference));
@@ -115,6 +119,7 @@ mod tests {
             ("002a000000", bench()),
             ("00000200001002", bench()),
             ("00000b", bench()),
+            (DIVIDED, bench()),
             ("002a00", vec![0]),
         ] {
             let right = ran(&store, request);
@@ -146,6 +151,24 @@ mod tests {
         };
         outcome.store[36] = 1;
         says(&wrong, "first difference: store, byte 36: old 01, new 00");
+    }
+
+    /// A frame that meets a listed difference does not excuse any other answer,
+    /// not even the right one.
+    #[test]
+    fn the_old_one_otherwise_than_listed() {
+        let mut other = ran(&bench(), DIVIDED);
+        let Old::Said(outcome) = &mut other.old else {
+            panic!("it is asked");
+        };
+        outcome.store[40] = 8;
+        says(&other, "first difference: store, byte 40: old 08, new 07");
+        let mut right = ran(&bench(), DIVIDED);
+        let Old::Said(outcome) = &mut right.old else {
+            panic!("it is asked");
+        };
+        outcome.store[40] = 7;
+        says(&right, "old:\n  reply    182b04870700");
     }
 
     #[test]

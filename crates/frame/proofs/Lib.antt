@@ -25,6 +25,8 @@ pub mod Listings
 pub mod Passes
 -- the state that a command leaves
 pub mod States
+-- a pass in which a record's status is the same at every moment
+pub mod Failing
 -- what a pass over records that can all be read comes to; where none of them fails; which trouble counts
 pub mod Halts
 pub mod NoneFails

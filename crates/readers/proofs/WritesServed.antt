@@ -1,7 +1,7 @@
 -- Reading the reply to a write, undivided or not, gives the failures that were listed. Assumes nothing.
-use mathlib.Core.Path.{_≡_, refl, sym, subst}
+use mathlib.Core.Path.{_≡_, refl, subst}
 use mathlib.Core.Bool.{Bool, true, false, cond}
-use mathlib.Core.List.{List, [], _∷_, _++_}
+use mathlib.Core.List.{List, _++_}
 use Prim.Native.Nat.{ℕ, _+_, _<_, _^_}
 use native.Mathlib.Omega.{arith}
 use lib.ListN.{length, getD}
@@ -13,21 +13,19 @@ use Rattle.types.specs.declared.extent.Extent.the-variants.{End, Cut, Without}
 use Rattle.types.proofs.Numbers.{unsigned-below}
 use Rattle.frame.specs.declared.header.ZclHeader.{ZclHeader}
 use Rattle.frame.specs.declared.command_identifier.CommandIdentifier.the-variants.{WriteAttributes, WriteAttributesUndivided, WriteAttributesResponse}
-use Rattle.frame.specs.declared.answer.Refusal.the-variants.{RecordCut, ReplyTooLong}
 use Rattle.frame.specs.Header.{replyHead}
 use Rattle.frame.specs.Walk.{item, unread, Way, through, broken, stopped, reached, All}
 use Rattle.frame.specs.Encoded.{fits}
 use Rattle.frame.specs.Failures.{Sofar, pass, encodeFailures, concluded, performed}
-use Rattle.frame.proofs.States.{pass-keeps}
 use Rattle.write.specs.Request.{WriteRecord, valued, recordAt, recordsAt, records}
 use Rattle.write.specs.Reply.{Failure, encode}
-use Rattle.write.specs.Write.{checked, writing, checking, ifNone, undivided, writeAttributes, writeUndivided}
+use Rattle.write.specs.Write.{writing, checking, settled, writtenAll, writeAttributes, writeUndivided}
 use Rattle.server.specs.Serve.{commanded}
 use Rattle.readers.specs.Replies.{writeReplyOf}
 use Rattle.readers.specs.Claims.Sendable.{WriteSendable}
 use Rattle.readers.specs.Claims.Back.{WriteReplies}
 use Rattle.readers.specs.Claims.Served.{writeMade, undividedMade, WriteServed, UndividedServed}
-use Rattle.readers.proofs.Outs.{Sends, sends-refused, concluded-sends, performed-sends, headed-sends}
+use Rattle.readers.proofs.Outs.{Sends, concluded-sends, performed-sends, headed-sends}
 use Rattle.readers.proofs.Keeping.{every-read, keeps-failures}
 use Rattle.readers.proofs.Answers.{Commands, serves-by}
 
@@ -64,11 +62,6 @@ module _ (body : List ℕ) (bytes : AllBytes body) where
     checked-good : All WriteSendable (reached (pass (checking form h) fine (records body) s) .failures)
     checked-good = keeps-failures (checking form h) WriteSendable Named (λ why r n f. (f, n)) fine (records body) s named-all
 
-    -- and a first pass leaves the store
-    checked-leaves : reached (pass (checking form h) fine (records body) s) .state ≡ s
-    unfolding checked
-    checked-leaves = pass-keeps (checking form h) (λ x. x ≡ s) Named (λ x r e n. e) (records body) named-all fine s refl
-
 -- ---- 02
 
 written-sent : Commands WriteAttributesResponse (encodeFailures encode) (All WriteSendable) WriteAttributes writeMade
@@ -83,44 +76,24 @@ written-sent form limit s l unicast h body room t store =
 pub write-served : WriteReplies → WriteServed
 write-served back = serves-by writeReplyOf WriteAttributesResponse (encodeFailures encode) (All WriteSendable) (back .0) WriteAttributes writeMade written-sent
 
--- ---- 03: the failures of the first pass, or if it has none those of the second
+-- ---- 03: the failures of the first pass
 
-module _ (form : ℕ) (h : ZclHeader) (body : List ℕ) (room : ℕ) (head s : List ℕ) where
-  abbrev second : List Failure
-  second = reached (pass (writing form h) (fits encode room (length head)) (records body) s) .failures
-
-  undivided-sends : (way : Way (Sofar (List ℕ) Failure)) → reached way .state ≡ s
-      → Sends (undivided form h body room head way) (head ++ encodeFailures encode (ifNone (reached way .failures) second (reached way .failures)))
-  unfolding undivided concluded
-  undivided-sends (through x) e = go (x .failures) refl
-    where
-      go : (fs : List Failure) → x .failures ≡ fs
-          → Sends (ifNone fs (performed (writing form h) (records body) (x .state) room head) (concluded encode room head (through x)))
-          (head ++ encodeFailures encode (ifNone fs second fs))
-      go [] k =
-          subst (λ (y : List ℕ). Sends (performed (writing form h) (records body) y room head) (head ++ encodeFailures encode second)) (sym e)
-          (performed-sends (writing form h) (records body) s room head)
-      go (f ∷ fs) k =
-          subst (λ (l : List Failure). Sends (concluded encode room head (through x)) (head ++ encodeFailures encode l)) k
-          (concluded-sends encode room head (through x))
-  undivided-sends (broken x) e = sends-refused room RecordCut (x .state) _
-  undivided-sends (stopped x y) e = sends-refused room ReplyTooLong (y .state) _
-
-if-none-good : (P : Failure → Type 0) (first second : List Failure) → All P first → All P second → All P (ifNone first second first)
-if-none-good P [] second h k = k
-if-none-good P (f ∷ fs) second h k = h
+settled-failures : (writes : List ℕ → List ℕ) (way : Way (Sofar (List ℕ) Failure)) → reached (settled writes way) .failures ≡ reached way .failures
+settled-failures writes (through x) = refl
+settled-failures writes (broken x) = refl
+settled-failures writes (stopped x y) = refl
 
 undivided-sent : Commands WriteAttributesResponse (encodeFailures encode) (All WriteSendable) WriteAttributesUndivided undividedMade
 unfolding commanded writeUndivided replyHead
 undivided-sent form limit s l unicast h body room t store =
-    let fine : List Failure → Bool = fits encode room 3 in
-    let way : Way (Sofar (List ℕ) Failure) = pass (checking form h) fine (records body) s in
+    let head : List ℕ = replyHead h WriteAttributesResponse in
+    let way : List ℕ → Way (Sofar (List ℕ) Failure) = λ head. pass (checking form h) (fits encode room (length head)) (records body) s in
+    let leads : List ℕ → Way (Sofar (List ℕ) Failure) = λ head. settled (writtenAll form h body) (way head) in
     record {
-      sendable = if-none-good WriteSendable (reached way .failures) (writeMade form limit s l h body room)
-          (checked-good body (t .1) form h s fine) (written-good body (t .1) form h s fine);
-      sends = headed-sends h WriteAttributesResponse s room
-          (λ head. undivided form h body room head (pass (checking form h) (fits encode room (length head)) (records body) s)) _
-          (undivided-sends form h body room (replyHead h WriteAttributesResponse) s way (checked-leaves body (t .1) form h s fine));
+      sendable = checked-good body (t .1) form h s (fits encode room 3);
+      sends = headed-sends h WriteAttributesResponse s room (λ head. concluded encode room head (leads head)) _
+          (subst (λ (fs : List Failure). Sends (concluded encode room head (leads head)) (head ++ encodeFailures encode fs)) (settled-failures (writtenAll form h body) (way head))
+          (concluded-sends encode room head (leads head)));
     }
 
 pub undivided-served : WriteReplies → UndividedServed

@@ -53,7 +53,7 @@ fn report(t: Tally, whole: bool) {
         b"listed differences of commands: ",
         t,
         b'x',
-        b" as document 01 says\n",
+        b" as documents 01 and 02 say\n",
     );
     row(b"histories of a table: ", t, b'm', b" agree\n");
     row(b"requests with a table: ", t, b'q', b" agree\n");

@@ -6,7 +6,6 @@ use mathlib.Core.Path.{_≡_, refl, ap, _∙_, fun-ext}
 use mathlib.Core.Bool.{Bool, false, _&&_, and-false}
 use mathlib.Core.List.{List}
 use Prim.Native.Nat.{ℕ, _/_, _%_}
-use lib.ListN.{length}
 use lib.Dec.{eqb}
 use Rattle.frame.specs.declared.header.ZclHeader.{ZclHeader}
 use Rattle.frame.specs.declared.header.FrameType.{FrameType}
@@ -14,20 +13,16 @@ use Rattle.frame.specs.declared.header.FrameType.the-variants.{GlobalCommand, C
 use Rattle.frame.specs.declared.status.Status.{Status}
 use Rattle.frame.specs.declared.status.Status.the-variants.{UnsupCommand}
 use Rattle.frame.specs.declared.command_identifier.CommandIdentifier.{CommandIdentifier}
-use Rattle.frame.specs.declared.command_identifier.CommandIdentifier.the-variants.{WriteAttributesResponse, ConfigureReportingResponse}
+use Rattle.frame.specs.declared.command_identifier.CommandIdentifier.the-variants.{ConfigureReportingResponse}
 use Rattle.frame.specs.Header.{replyHead}
 use Rattle.frame.specs.Answer.{within}
 use Rattle.frame.specs.Status.{statusCode}
 use Rattle.frame.specs.CommandIdentifier.{commandOf}
-use Rattle.frame.specs.Walk.{Way, through, broken, stopped}
-use Rattle.frame.specs.Encoded.{fits}
-use Rattle.frame.specs.Failures.{Did, Sofar, pass, performed, headed}
+use Rattle.frame.specs.Failures.{Did, performed, headed}
 use Rattle.reporting.specs.declared.entry.Entry.{Entry}
 use Rattle.reporting.specs.Table.{Table, holding, bad}
 use Rattle.read.specs.Read.{recordFor, readOf}
-use Rattle.write.specs.Request.{records}
-use Rattle.write.specs.Reply.{Failure, encode}
-use Rattle.write.specs.Write.{written, checked, checking, undivided, writeAttributes, writeUndivided, writeSilently}
+use Rattle.write.specs.Write.{written, checked, writtenAll, writeAttributes, writeUndivided, writeSilently}
 use Rattle.discover.specs.Discover.{discoverOf}
 use Rattle.configure.specs.Request.{ConfigureRecord, received, reported, configures}
 use Rattle.configure.specs.Configure.{failing, encode as failed, tried, configureEntries, configureOf}
@@ -48,15 +43,9 @@ bare h =
     }
 
 module _ (form : ℕ) (s : List ℕ) (h : ZclHeader) (body : List ℕ) (room : ℕ) where
-  undivided-by : (head : List ℕ) (way : Way (Sofar (List ℕ) Failure)) → undivided form h body room head way ≡ undivided form (bare h) body room head way
-  unfolding undivided written
-  undivided-by head (through x) = refl
-  undivided-by head (broken x) = refl
-  undivided-by head (stopped x y) = refl
-
   undivided-sees : writeUndivided form s h body room ≡ writeUndivided form s (bare h) body room
-  unfolding writeUndivided checked headed replyHead
-  undivided-sees = ap (headed h WriteAttributesResponse s room) (fun-ext (λ head. undivided-by head (pass (checking form h) (fits encode room (length head)) (records body) s)))
+  unfolding writeUndivided writtenAll written checked headed replyHead
+  undivided-sees = refl
 
   tried-sees : (limit : ℕ) (l : List Entry) (r : ConfigureRecord) → tried form limit s h l r ≡ tried form limit s (bare h) l r
   unfolding tried
@@ -89,7 +78,7 @@ module _ (form limit : ℕ) (s : List ℕ) (t : Table) (unicast : Bool) (h : Zcl
   unsupported-sees = ap (neither s t) (default-sees UnsupCommand refl h unicast room)
 
   pub commanded-sees : (c : CommandIdentifier) → commanded form limit s t unicast h body room c ≡ commanded form limit s t unicast (bare h) body room c
-  unfolding readOf recordFor writeAttributes writeSilently written headed discoverOf replyHead
+  unfolding readOf recordFor writeAttributes writeSilently writtenAll written headed discoverOf replyHead
   commanded-sees =
       commanded-case form limit s t unicast body room (λ f. f h ≡ f (bare h))
       (record {

@@ -26,9 +26,8 @@ use Rattle.store.specs.declared.lookup.Attribute.{Attribute}
 use Rattle.reporting.specs.declared.entry.Entry.{Entry}
 use Rattle.reporting.specs.Table.{holding}
 use Rattle.read.specs.Read.{readOf}
-use Rattle.write.specs.Request.{records}
-use Rattle.write.specs.Reply.{Failure, encode}
-use Rattle.write.specs.Write.{writing, ifNone, undivided, writeAttributes, writeUndivided, writeSilently}
+use Rattle.write.specs.Reply.{encode}
+use Rattle.write.specs.Write.{writeAttributes, writeUndivided, writeSilently}
 use Rattle.discover.specs.Discover.{listed, completeByte, discoverReply, discoverOf}
 use Rattle.discover.specs.Inside.{recordsOf}
 use Rattle.discover.proofs.Choice.{listed-within}
@@ -124,19 +123,9 @@ module _ (form : ℕ) (s : List ℕ) (h : ZclHeader) (body : List ℕ) (room : �
   unfolding writeAttributes
   write-shape = headed-shape room h _ s _ (performed-shape room _ _ s)
 
-  undivided-by : (head : List ℕ) (way : Way (Sofar (List ℕ) Failure)) → Shape head room (undivided form h body room head way)
-  unfolding undivided
-  undivided-by head (through x) = go (x .failures)
-    where
-      go : (fs : List Failure) → Shape head room (ifNone fs (performed (writing form h) (records body) (x .state) room head) (concluded encode room head (through x)))
-      go [] = performed-shape room (writing form h) (records body) (x .state) head
-      go (f ∷ fs) = concluded-shape room encode head (through x)
-  undivided-by head (broken x) = concluded-shape room encode head (broken x)
-  undivided-by head (stopped x y) = concluded-shape room encode head (stopped x y)
-
   undivided-shape : Shape (replyHead h WriteAttributesResponse) room (writeUndivided form s h body room)
   unfolding writeUndivided
-  undivided-shape = headed-shape room h _ s _ (λ head. undivided-by head _)
+  undivided-shape = headed-shape room h _ s _ (λ head. concluded-shape room encode head _)
 
   silent-shape : Shape (replyHead h DefaultResponse) room (writeSilently form s h body room)
   unfolding writeSilently

@@ -1,158 +1,277 @@
 -- Which trouble counts in a served Write Attributes Undivided (specs/Claims/Troubles.antt). Assumes nothing.
 use mathlib.Core.Path.{_≡_, refl, sym, ap, _∙_}
-use mathlib.Core.Bool.{Bool, true, false, cond}
-use mathlib.Core.List.{List, _++_}
-use Prim.Native.Nat.{ℕ, _≤_, _<_}
+use mathlib.Core.Bool.{Bool, true, false}
+use mathlib.Core.List.{List, [], _∷_, _++_, append-nil}
+use Prim.Native.Nat.{ℕ, _+_, _≤_}
 use native.Mathlib.Omega.{arith}
-use lib.ListN.{length, drop}
-use lib.Dec.{leb}
-use borrow.Author.Tests.{le-leb, lt-leb, leb-true, leb-false}
+use lib.ListN.{length, drop, length-append}
+use borrow.Author.Tests.{le-leb}
+use Rattle.types.specs.Number.{zeros}
+use Rattle.types.proofs.Numbers.{length-bytes}
 use Rattle.frame.specs.declared.header.ZclHeader.{ZclHeader}
 use Rattle.frame.specs.declared.command_identifier.CommandIdentifier.the-variants.{WriteAttributesUndivided, WriteAttributesResponse}
 use Rattle.frame.specs.declared.answer.Refusal.the-variants.{RecordCut, ReplyTooLong}
 use Rattle.frame.specs.Header.{replyHead}
 use Rattle.frame.specs.Answer.{Outcome, refused}
-use Rattle.frame.specs.Walk.{done, cut, Records, ended, joined, Way, through, broken, stopped, reached}
-use Rattle.frame.specs.Encoded.{fits}
-use Rattle.frame.specs.Failures.{Sofar, pass, concluded, performed, headed}
-use Rattle.frame.specs.Claims.Troubles.{executed, Not5}
+use Rattle.frame.specs.Walk.{done, cut, Records, joined}
+use Rattle.frame.specs.Encoded.{encodeAll, fits}
+use Rattle.frame.specs.Claims.Troubles.{Is5, NoneFails}
 use Rattle.frame.proofs.Codes.{refusal-nonzero}
 use Rattle.frame.proofs.Headers.{reply-head-length}
-use Rattle.frame.proofs.Walks.{Ended, taken, halted}
-use Rattle.frame.proofs.States.{state-concluded, headed-keeps}
-use Rattle.frame.proofs.Halts.{way, way-ended, cut-behind, cut-ends}
-use Rattle.frame.proofs.Troubles.{roomy, cut-is-four}
+use Rattle.frame.proofs.Failing.{fits-closed, failing-append}
 use Rattle.reporting.specs.Table.{Table}
 use Rattle.write.specs.Request.{WriteRecord, records}
 use Rattle.write.specs.Reply.{Failure, encode}
-use Rattle.write.specs.Write.{checking, undivided, writeUndivided}
+use Rattle.write.specs.Write.{writtenAll, writeUndivided}
+use Rattle.write.specs.Claims.Undivided.{failing}
 use Rattle.write.proofs.Append.{records-append}
-use Rattle.write.proofs.Kept.{check-pass-same}
+use Rattle.write.proofs.UndividedWays.{Decided, tight, full, broke, listed, wrote, narrow, undivided-ways}
 use Rattle.server.specs.Serve.{State, state, storing, commanded, serve}
 use Rattle.server.specs.Claims.Asks.{Asks}
-use Rattle.server.specs.Claims.Troubles.{Unread, UndividedCutUntouched, UndividedCutIsFour, Reaches, firstPass, UndividedCutIsFourAtFirst}
+use Rattle.server.specs.Claims.Troubles.{Unread, UndividedCutUntouched, UndividedCutIsFour, UndividedFiveStays, UndividedFiveAtHeader, UndividedCutIsFourAtHeader}
 use Rattle.server.proofs.Heard.{Heard, refuses, hears, heard, asks-behind, alone, more-of}
 
--- ---- Undivided: a record that cannot be read ends it in its first pass
+never : {A : Type 0} → done ≡ cut → A
+never e = let z : _≡_ {A = ℕ} 0 1 = cc in absurd (omega arith)
 
-module _ (form : ℕ) (s : List ℕ) (h : ZclHeader) where
+some-none : {A : Type 0} (f : Failure) (l : List Failure) → [] ≡ f ∷ l → A
+some-none f l e = let z : _≡_ {A = ℕ} 0 1 = cc in absurd (omega arith)
+
+number : {S : Type 0} {o p : Outcome S} → o ≡ p → o .number ≡ p .number
+number {S} e = ap (λ (o : Outcome S). o .number) e
+
+left : {S : Type 0} {o p : Outcome S} → o ≡ p → o .state ≡ p .state
+left {S} e = ap (λ (o : Outcome S). o .state) e
+
+-- a list with a failure in it takes more than one byte
+long : (f : Failure) (l : List Failure) → 3 ≤ length (encodeAll encode (f ∷ l))
+unfolding encodeAll encode
+long f l = omega (arith, length-append (encode f) (encodeAll encode l), length-bytes 2 (f .id))
+
+-- no failure fits every room that the header fits
+none : {room : ℕ} → 3 ≤ room → fits encode room 3 [] ≡ true
+unfolding fits encodeAll
+none {room} h = le-leb 3 room h
+
+-- ---- the command: records that can all be read, and others behind them
+
+module _ (form : ℕ) (s : List ℕ) (h : ZclHeader) (a : List ℕ) (readable : records a .ending ≡ done) where
   abbrev head : List ℕ
   head = replyHead h WriteAttributesResponse
 
-  abbrev first : List ℕ → ℕ → Outcome (List ℕ)
-  first body room = firstPass form s h body room
+  abbrev answer : List ℕ → ℕ → Outcome (List ℕ)
+  answer body room = writeUndivided form s h body room
 
-  -- the first pass changes nothing
-  first-same : (body : List ℕ) (room : ℕ) → first body room .state ≡ s
-  unfolding performed
-  first-same body room =
-      headed-keeps (λ t. t ≡ s) h WriteAttributesResponse s room (performed (checking form h) (records body) s room) refl
-      (λ head. state-concluded room encode head (pass (checking form h) (fits encode room (length head)) (records body) s) ∙ check-pass-same form h (fits encode room (length head)) body s)
+  abbrev fs : List ℕ → List Failure
+  fs body = failing form h s (records body .list)
 
-  not-through : (body : List ℕ) (room : ℕ) (w : Way (Sofar (List ℕ) Failure)) → ((y : Sofar (List ℕ) Failure) → w ≡ through y → ⊥)
-      → undivided form h body room head w ≡ concluded encode room head w
-  unfolding undivided
-  not-through body room (through y) n = absurd (n y refl)
-  not-through body room (broken y) n = refl
-  not-through body room (stopped y z) n = refl
+  abbrev Decides : List ℕ → ℕ → Type 0
+  Decides body room = Decided room head s (writtenAll form h body s) (records body .ending) (fs body) (answer body room)
 
-  module _ (a : List ℕ) (readable : records a .ending ≡ done) (b : List ℕ) (room : ℕ) (unread : Unread records b) where
-    with-cut : records (a ++ b) ≡ joined (records a) (ended cut)
-    with-cut = records-append a b readable ∙ ap (joined (records a)) unread
+  decides : (body : List ℕ) (room : ℕ) → Decides body room
+  decides body room = undivided-ways form s h body room
 
-    -- so that it is what the first pass comes to
-    by-first : writeUndivided form s h (a ++ b) room ≡ executed (checking form h) h WriteAttributesResponse s (joined (records a) (ended cut)) room
-    unfolding writeUndivided headed performed
-    by-first =
-        let w : Way (Sofar (List ℕ) Failure) = way (checking form h) s room head (joined (records a) (ended cut)) in
-        ap (λ (rs : Records WriteRecord). cond (leb (length head) room) (undivided form h (a ++ b) room head (pass (checking form h) (fits encode room (length head)) rs s)) (refused room ReplyTooLong s)) with-cut
-        ∙ ap (λ (o : Outcome (List ℕ)). cond (leb (length head) room) o (refused room ReplyTooLong s)) (not-through (a ++ b) room w (cut-ends (checking form h) s room head (records a) readable))
+  module _ (b : List ℕ) where
+    both : records (a ++ b) ≡ joined (records a) (records b)
+    both = records-append a b readable
 
-    undivided-untouched : writeUndivided form s h (a ++ b) room .state ≡ s
-    undivided-untouched =
-        ap (λ (o : Outcome (List ℕ)). o .state) by-first
-        ∙ ap (λ (rs : Records WriteRecord). executed (checking form h) h WriteAttributesResponse s rs room .state) (sym with-cut)
-        ∙ first-same (a ++ b) room
+    fails-both : fs (a ++ b) ≡ fs a ++ fs b
+    fails-both = ap (λ (rs : Records WriteRecord). failing form h s (rs .list)) both ∙ failing-append _ _ (records a .list) (records b .list)
 
-    undivided-first : Not5 (first a room) → writeUndivided form s h (a ++ b) room ≡ refused room RecordCut s
-    undivided-first n =
-        by-first ∙ cut-is-four (checking form h) h WriteAttributesResponse s (records a) room readable n ∙ ap (refused room RecordCut) (first-same a room)
+  -- more failures fit no better
+  full-behind : (room : ℕ) (b : List ℕ) → fits encode room 3 (fs a) ≡ false → fits encode room 3 (fs (a ++ b)) ≡ true → {A : Type 0} → A
+  full-behind room b f g =
+      let k : true ≡ false = sym (fits-closed encode room 3 (fs a) (fs b) (ap (fits encode room 3) (sym (fails-both b)) ∙ g)) ∙ f in
+      let z : _≡_ {A = ℕ} 0 1 = cc in
+      absurd (omega arith)
 
-    abbrev first-way : Way (Sofar (List ℕ) Failure)
-    first-way = way (checking form h) s room head (records a)
+  -- ---- 5, with a byte behind the header
 
-    undivided-roomy : 3 ≤ room → writeUndivided form s h a room ≡ undivided form h a room head first-way
-    unfolding writeUndivided headed
-    undivided-roomy l = rw (le-leb (length head) room (omega (arith, reply-head-length h WriteAttributesResponse)))
+  five-alone : (room : ℕ) → 4 ≤ room → Is5 (answer a room) → (answer a room ≡ refused room ReplyTooLong s) × (fits encode room 3 (fs a) ≡ false)
+  five-alone room l n = go (decides a room)
+    where
+      go : Decides a room → (answer a room ≡ refused room ReplyTooLong s) × (fits encode room 3 (fs a) ≡ false)
+      go (tight k o) = absurd (omega arith)
+      go (full k f o) = (o, f)
+      go (broke k f e o) = never (sym readable ∙ e)
+      go (listed k f e x r z o) = absurd (omega (arith, n, number o))
+      go (wrote k e z o) = absurd (omega (arith, n, number o))
+      go (narrow k e z o) = absurd (omega arith)
 
-    undivided-tight : room < 3 → writeUndivided form s h a room ≡ refused room ReplyTooLong s
-    unfolding writeUndivided headed
-    undivided-tight l = rw (lt-leb (length head) room (omega (arith, reply-head-length h WriteAttributesResponse)))
+  five-behind : (room : ℕ) → 4 ≤ room → (b : List ℕ) → fits encode room 3 (fs a) ≡ false → answer (a ++ b) room ≡ refused room ReplyTooLong s
+  five-behind room l b f = go (decides (a ++ b) room)
+    where
+      go : Decides (a ++ b) room → answer (a ++ b) room ≡ refused room ReplyTooLong s
+      go (tight k o) = o
+      go (full k g o) = o
+      go (broke k g e o) = full-behind room b f g
+      go (listed k g e x r z o) = full-behind room b f g
+      go (wrote k e z o) = full-behind room b f (ap (fits encode room 3) z ∙ none (omega arith))
+      go (narrow k e z o) = absurd (omega arith)
 
-    halted-five : 3 ≤ room → (y z : Sofar (List ℕ) Failure) → first-way ≡ stopped y z → writeUndivided form s h a room .number ≡ 5
-    unfolding undivided concluded
-    halted-five l y z e = ap (λ (o : Outcome (List ℕ)). o .number) (undivided-roomy l ∙ ap (undivided form h a room head) e)
+  -- ---- a record behind them that cannot be read
 
-    -- a reply to the records alone: their first pass took them all
-    undivided-cut : writeUndivided form s h a room .number ≡ 0 → writeUndivided form s h (a ++ b) room ≡ refused room RecordCut s
-    undivided-cut zeroth = go (leb 3 room) refl (way-ended (checking form h) s room head (records a) readable)
+  module _ (b : List ℕ) (unread : Unread records b) where
+    ends-cut : records (a ++ b) .ending ≡ cut
+    ends-cut = ap (λ (rs : Records WriteRecord). rs .ending) (both b ∙ ap (joined (records a)) unread)
+
+    fails-same : fs (a ++ b) ≡ fs a
+    fails-same = ap (λ (rs : Records WriteRecord). failing form h s (rs .list)) (both b ∙ ap (joined (records a)) unread) ∙ ap (failing form h s) (append-nil (records a .list))
+
+    untouched : (room : ℕ) → answer (a ++ b) room .state ≡ s
+    untouched room = go (decides (a ++ b) room)
       where
-        go : (c : Bool) → leb 3 room ≡ c → Ended first-way → writeUndivided form s h (a ++ b) room ≡ refused room RecordCut s
-        go false l w = absurd (omega (arith, zeroth, ap (λ (o : Outcome (List ℕ)). o .number) (undivided-tight (leb-false 3 room l))))
-        go true l (taken y e) =
-            by-first
-            ∙ roomy (checking form h) h WriteAttributesResponse s room (leb-true 3 room l) (joined (records a) (ended cut))
-            ∙ cut-behind (checking form h) s room head (records a) readable y e
-            ∙ ap (refused room RecordCut) (ap (λ (w : Way (Sofar (List ℕ) Failure)). reached w .state) (sym e) ∙ check-pass-same form h (fits encode room (length head)) a s)
-        go true l (halted y z e) = absurd (omega (arith, zeroth, halted-five (leb-true 3 room l) y z e))
+        go : Decides (a ++ b) room → answer (a ++ b) room .state ≡ s
+        go (tight k o) = left o
+        go (full k f o) = left o
+        go (broke k f e o) = left o
+        go (listed k f e x r z o) = never (sym e ∙ ends-cut)
+        go (wrote k e z o) = never (sym e ∙ ends-cut)
+        go (narrow k e z o) = never (sym e ∙ ends-cut)
+
+    -- their failures fit: 4
+    four : (room : ℕ) → 3 ≤ room → fits encode room 3 (fs a) ≡ true → answer (a ++ b) room ≡ refused room RecordCut s
+    four room l f = go (decides (a ++ b) room)
+      where
+        go : Decides (a ++ b) room → answer (a ++ b) room ≡ refused room RecordCut s
+        go (tight k o) = absurd (omega arith)
+        go (full k g o) =
+            let y : true ≡ false = sym f ∙ ap (fits encode room 3) (sym fails-same) ∙ g in
+            let z : _≡_ {A = ℕ} 0 1 = cc in
+            absurd (omega arith)
+        go (broke k g e o) = o
+        go (listed k g e x r z o) = never (sym e ∙ ends-cut)
+        go (wrote k e z o) = never (sym e ∙ ends-cut)
+        go (narrow k e z o) = never (sym e ∙ ends-cut)
+
+    four-of-reply : (room : ℕ) → answer a room .number ≡ 0 → answer (a ++ b) room ≡ refused room RecordCut s
+    four-of-reply room n = go (decides a room)
+      where
+        go : Decides a room → answer (a ++ b) room ≡ refused room RecordCut s
+        go (tight k o) = absurd (omega (arith, n, number o))
+        go (full k f o) = absurd (omega (arith, n, number o))
+        go (broke k f e o) = absurd (omega (arith, n, number o))
+        go (listed k f e x r z o) = four room k f
+        go (wrote k e z o) = four room (omega arith) (ap (fits encode room 3) z ∙ none (omega arith))
+        go (narrow k e z o) = absurd (omega (arith, n, number o))
+
+  -- ---- room for the header alone, and no failure
+
+  clean : (more : ℕ) → NoneFails (answer a more) → (fs a ≡ []) × (answer a more .state ≡ writtenAll form h a s)
+  clean more n = go (decides a more)
+    where
+      go : Decides a more → (fs a ≡ []) × (answer a more .state ≡ writtenAll form h a s)
+      go (tight k o) = absurd (omega (arith, n .0, number o))
+      go (full k f o) = absurd (omega (arith, n .0, number o))
+      go (broke k f e o) = absurd (omega (arith, n .0, number o))
+      go (listed k f e x r z o) =
+          absurd (omega (arith, n .1, ap (λ (p : Outcome (List ℕ)). p .size) o, length-append head (encodeAll encode (x ∷ r)), reply-head-length h WriteAttributesResponse, long x r))
+      go (wrote k e z o) = (z, left o)
+      go (narrow k e z o) = absurd (omega (arith, n .0, number o))
+
+  header-five : (more : ℕ) → NoneFails (answer a more) → answer a 3 ≡ refused 3 ReplyTooLong (answer a more .state)
+  header-five more n = go (clean more n) (decides a 3)
+    where
+      go : (fs a ≡ []) × (answer a more .state ≡ writtenAll form h a s) → Decides a 3 → answer a 3 ≡ refused 3 ReplyTooLong (answer a more .state)
+      go c (tight k o) = absurd (omega arith)
+      go c (full k f o) =
+          let y : true ≡ false = sym (ap (fits encode 3 3) (c .0) ∙ none (omega arith)) ∙ f in
+          let z : _≡_ {A = ℕ} 0 1 = cc in
+          absurd (omega arith)
+      go c (broke k f e o) = never (sym readable ∙ e)
+      go c (listed k f e x r z o) = some-none x r (sym (c .0) ∙ z)
+      go c (wrote k e z o) = absurd (omega arith)
+      go c (narrow k e z o) = o ∙ ap (refused 3 ReplyTooLong) (sym (c .1))
+
+  header-four : (more : ℕ) → NoneFails (answer a more) → (b : List ℕ) → Unread records b → answer (a ++ b) 3 ≡ refused 3 RecordCut s
+  header-four more n b u = four b u 3 (omega arith) (ap (fits encode 3 3) (clean more n .0) ∙ none (omega arith))
 
 -- ---- served
 
 module _ (form limit : ℕ) (s : List ℕ) (t : Table) (cluster : ℕ) (unicast : Bool) (frame : List ℕ) (h : ZclHeader) (asks : Asks WriteAttributesUndivided frame h)
-    (readable : records (drop (h .body) frame) .ending ≡ done) (b : List ℕ) (room : ℕ) (unread : Unread records b) where
-  abbrev answer : List ℕ → Outcome State
-  answer f = serve form limit s t cluster unicast f room
+    (readable : records (drop (h .body) frame) .ending ≡ done) where
+  abbrev answers : List ℕ → ℕ → Outcome State
+  answers f room = serve form limit s t cluster unicast f room
 
-  abbrev records-of : List ℕ
-  records-of = drop (h .body) frame
+  abbrev own : List ℕ
+  own = drop (h .body) frame
 
   is-undivided : (body : List ℕ) (room : ℕ) → commanded form limit s t unicast h body room WriteAttributesUndivided ≡ storing t (writeUndivided form s h body room)
   unfolding commanded
   is-undivided body room = refl
 
-  module _ (f : (frame : List ℕ) (room : ℕ) → Asks WriteAttributesUndivided frame h → serve form limit s t cluster unicast frame room ≡ commanded form limit s t unicast h (drop (h .body) frame) room WriteAttributesUndivided) where
-    undivided-alone : answer frame ≡ storing t (writeUndivided form s h records-of room)
+  abbrev Reached : Type 0
+  Reached = (frame : List ℕ) (room : ℕ) → Asks WriteAttributesUndivided frame h → serve form limit s t cluster unicast frame room ≡ commanded form limit s t unicast h (drop (h .body) frame) room WriteAttributesUndivided
+
+  module _ (f : Reached) (room : ℕ) where
+    undivided-alone : answers frame room ≡ storing t (writeUndivided form s h own room)
     undivided-alone = alone form limit s t cluster unicast frame h WriteAttributesUndivided asks (λ u. state u t) (writeUndivided form s h) is-undivided f room
 
-    undivided-more : answer (frame ++ b) ≡ storing t (writeUndivided form s h (records-of ++ b) room)
-    undivided-more = more-of form limit s t cluster unicast frame h WriteAttributesUndivided asks (λ u. state u t) (writeUndivided form s h) is-undivided f b room
+    undivided-more : (b : List ℕ) → answers (frame ++ b) room ≡ storing t (writeUndivided form s h (own ++ b) room)
+    undivided-more b = more-of form limit s t cluster unicast frame h WriteAttributesUndivided asks (λ u. state u t) (writeUndivided form s h) is-undivided f b room
 
   abbrev HearsUndivided : Type 0
   HearsUndivided = Heard form limit s t cluster unicast h WriteAttributesUndivided
 
-  served-untouched : HearsUndivided → answer (frame ++ b) .state ≡ state s t
-  served-untouched (refuses why e f) = ap (λ (o : Outcome State). o .state) (f (frame ++ b) room (asks-behind WriteAttributesUndivided frame b h asks))
-  served-untouched (hears k f) =
-      ap (λ (o : Outcome State). o .state) (undivided-more f) ∙ ap (λ (l : List ℕ). state l t) (undivided-untouched form s h records-of readable b room unread)
+  behind : (b : List ℕ) → Asks WriteAttributesUndivided (frame ++ b) h
+  behind b = asks-behind WriteAttributesUndivided frame b h asks
 
-  served-undivided-cut : answer frame .number ≡ 0 → HearsUndivided → answer (frame ++ b) ≡ refused room RecordCut (state s t)
-  served-undivided-cut z (refuses why e f) = absurd (omega (arith, refusal-nonzero why, ap (λ (o : Outcome State). o .number) (f frame room asks), z))
-  served-undivided-cut z (hears k f) =
-      undivided-more f
-      ∙ ap (storing t) (undivided-cut form s h records-of readable b room unread (ap (λ (o : Outcome State). o .number) (sym (undivided-alone f)) ∙ z))
+  served-untouched : HearsUndivided → (b : List ℕ) (room : ℕ) → Unread records b → answers (frame ++ b) room .state ≡ state s t
+  served-untouched (refuses why e f) b room u = left (f (frame ++ b) room (behind b))
+  served-untouched (hears k f) b room u = left (undivided-more f room b) ∙ ap (λ (l : List ℕ). state l t) (untouched form s h own readable b u room)
 
-  served-first : Reaches (answer frame) → Not5 (firstPass form s h records-of room) → HearsUndivided → answer (frame ++ b) ≡ refused room RecordCut (state s t)
-  served-first r n (refuses why e f) = absurd (r why e (ap (λ (o : Outcome State). o .number) (f frame room asks)))
-  served-first r n (hears k f) = undivided-more f ∙ ap (storing t) (undivided-first form s h records-of readable b room unread n)
+  served-cut : HearsUndivided → (b : List ℕ) (room : ℕ) → Unread records b → answers frame room .number ≡ 0 → answers (frame ++ b) room ≡ refused room RecordCut (state s t)
+  served-cut (refuses why e f) b room u z = absurd (omega (arith, refusal-nonzero why, number (f frame room asks), z))
+  served-cut (hears k f) b room u z =
+      undivided-more f room b ∙ ap (storing t) (four-of-reply form s h own readable b u room (number (sym (undivided-alone f room)) ∙ z))
+
+  served-five : HearsUndivided → (b : List ℕ) (room : ℕ) → 4 ≤ room → Is5 (answers frame room)
+      → (answers frame room ≡ refused room ReplyTooLong (state s t)) × (answers (frame ++ b) room ≡ refused room ReplyTooLong (state s t))
+  served-five (refuses why e f) b room l n =
+      -- a refusal by that number is that refusal
+      let five : _≡_ {A = ℕ} _ 5 = number (sym (f frame room asks)) ∙ n in
+      let is : _≡_ {A = Outcome State} (refused room why (state s t)) (refused room ReplyTooLong (state s t)) = λ i. record { number = five i; size = 0; reply = zeros room; state = state s t } in
+      (f frame room asks ∙ is, f (frame ++ b) room (behind b) ∙ is)
+  served-five (hears k f) b room l n =
+      let x = five-alone form s h own readable room l (number (sym (undivided-alone f room)) ∙ n) in
+      (undivided-alone f room ∙ ap (storing t) (x .0), undivided-more f room b ∙ ap (storing t) (five-behind form s h own readable room l b (x .1)))
+
+  abbrev Clean : ℕ → Type 0
+  Clean more = NoneFails (answers frame more)
+
+  own-clean : (f : Reached) (more : ℕ) → Clean more → NoneFails (writeUndivided form s h own more)
+  own-clean f more n = (number (sym (undivided-alone f more)) ∙ n .0, ap (λ (o : Outcome State). o .size) (sym (undivided-alone f more)) ∙ n .1)
+
+  served-header : HearsUndivided → (more : ℕ) → Clean more → answers frame 3 ≡ refused 3 ReplyTooLong (answers frame more .state)
+  served-header (refuses why e f) more n = absurd (omega (arith, refusal-nonzero why, number (f frame more asks), n .0))
+  served-header (hears k f) more n =
+      undivided-alone f 3
+      ∙ ap (storing t) (header-five form s h own readable more (own-clean f more n))
+      ∙ ap (refused 3 ReplyTooLong) (left (sym (undivided-alone f more)))
+
+  served-header-cut : HearsUndivided → (b : List ℕ) (more : ℕ) → Unread records b → Clean more → answers (frame ++ b) 3 ≡ refused 3 RecordCut (state s t)
+  served-header-cut (refuses why e f) b more u n = absurd (omega (arith, refusal-nonzero why, number (f frame more asks), n .0))
+  served-header-cut (hears k f) b more u n = undivided-more f 3 b ∙ ap (storing t) (header-four form s h own readable more (own-clean f more n) b u)
+
+  hearing : HearsUndivided
+  hearing = heard form limit s cluster unicast h WriteAttributesUndivided t
 
 pub undivided-cut-untouched : UndividedCutUntouched
 undivided-cut-untouched form limit s t cluster unicast frame h asks readable b room u =
-    served-untouched form limit s t cluster unicast frame h asks readable b room u (heard form limit s cluster unicast h WriteAttributesUndivided t)
+    served-untouched form limit s t cluster unicast frame h asks readable (hearing form limit s t cluster unicast frame h asks readable) b room u
 
 pub undivided-cut-is-four : UndividedCutIsFour
 undivided-cut-is-four form limit s t cluster unicast frame h asks readable b room u z =
-    served-undivided-cut form limit s t cluster unicast frame h asks readable b room u z (heard form limit s cluster unicast h WriteAttributesUndivided t)
+    served-cut form limit s t cluster unicast frame h asks readable (hearing form limit s t cluster unicast frame h asks readable) b room u z
 
-pub undivided-cut-is-four-at-first : UndividedCutIsFourAtFirst
-undivided-cut-is-four-at-first form limit s t cluster unicast frame h asks readable b room u r n =
-    served-first form limit s t cluster unicast frame h asks readable b room u r n (heard form limit s cluster unicast h WriteAttributesUndivided t)
+pub undivided-five-stays : UndividedFiveStays
+undivided-five-stays form limit s t cluster unicast frame h asks readable b room l n =
+    served-five form limit s t cluster unicast frame h asks readable (hearing form limit s t cluster unicast frame h asks readable) b room l n
+
+pub undivided-five-at-header : UndividedFiveAtHeader
+undivided-five-at-header form limit s t cluster unicast frame h asks readable more n =
+    served-header form limit s t cluster unicast frame h asks readable (hearing form limit s t cluster unicast frame h asks readable) more n
+
+pub undivided-cut-is-four-at-header : UndividedCutIsFourAtHeader
+undivided-cut-is-four-at-header form limit s t cluster unicast frame h asks readable b more u n =
+    served-header-cut form limit s t cluster unicast frame h asks readable (hearing form limit s t cluster unicast frame h asks readable) b more u n

@@ -10,7 +10,7 @@ use Rattle.types.specs.Extent.{upto, times, count, text, series, member, struct
 use Rattle.frame.specs.declared.header.ZclHeader.{ZclHeader}
 use Rattle.frame.specs.declared.command_identifier.CommandIdentifier.{CommandIdentifier}
 use Rattle.frame.specs.declared.command_identifier.CommandIdentifier.the-variants.{WriteAttributes, WriteAttributesUndivided}
-use Rattle.frame.specs.declared.answer.Refusal.the-variants.{OtherCluster, HeaderShort, ReservedFrameType, RecordCut, ReplyTooLong, NothingToSend, NotAStore, NotATable, NoNumber, NotSuchAReply, EmptyReport, NotReportable}
+use Rattle.frame.specs.declared.answer.Refusal.the-variants.{RecordCut, ReplyTooLong}
 use Rattle.frame.specs.Header.{frameTypeOf, headerOf, replyHead}
 use Rattle.frame.specs.CommandIdentifier.{commandOf}
 use Rattle.frame.specs.Reply.{padded}
@@ -26,13 +26,13 @@ use Rattle.store.specs.Write.{tooLong, isWritable, checkOf, writeOf}
 use Rattle.reporting.specs.Table.{holding}
 use Rattle.write.specs.Request.{recordAt, recordsAt, records}
 use Rattle.write.specs.Reply.{encode}
-use Rattle.write.specs.Write.{written, checked, writeAttributes, undivided, writeUndivided}
+use Rattle.write.specs.Write.{written, checked, writeAttributes, writtenAll, writeUndivided}
 use Rattle.server.specs.Serve.{State, state, commanded, typed, byHeader, tabled, serve}
 use Rattle.server.specs.Claims.Asks.{Asks}
 use Rattle.server.specs.Claims.Bench.{T, cluster, benchAnswer}
-use Rattle.server.specs.Claims.Troubles.{Unread, Reaches, firstPass}
+use Rattle.server.specs.Claims.Troubles.{Unread}
 use Rattle.server.proofs.Troubles.{write-cut-is-four, write-five-stays, write-five-done, write-five-at-header, write-cut-is-four-at-header}
-use Rattle.server.proofs.Undivided.{undivided-cut-untouched, undivided-cut-is-four, undivided-cut-is-four-at-first}
+use Rattle.server.proofs.Undivided.{undivided-cut-untouched, undivided-cut-is-four, undivided-five-stays, undivided-five-at-header, undivided-cut-is-four-at-header}
 
 -- ---- records
 
@@ -47,9 +47,13 @@ ten = 0x01 ∷ 0x00 ∷ 0x20 ∷ 0x0a ∷ []
 abbrev fixed : List ℕ
 fixed = 0x00 ∷ 0x00 ∷ 0x23 ∷ 0x01 ∷ 0x00 ∷ 0x00 ∷ 0x00 ∷ []
 
--- attribute 7 has room for four characters: 87, and in a first pass none
+-- attribute 7 has room for four characters: 87
 abbrev wordy : List ℕ
 wordy = 0x07 ∷ 0x00 ∷ 0x42 ∷ 0x05 ∷ 0x41 ∷ 0x42 ∷ 0x43 ∷ 0x44 ∷ 0x45 ∷ []
+
+-- there is no attribute 9: 86
+abbrev absent : List ℕ
+absent = 0x09 ∷ 0x00 ∷ 0x20 ∷ 0x00 ∷ []
 
 -- a value of type 20 that is not there
 abbrev short : List ℕ
@@ -92,13 +96,16 @@ pub record Computed : Type 0 where
   pub wide : Frame WriteAttributes records 0x02 nine 64 (replied 64 success (left 0x09))
   pub full : Frame WriteAttributes records 0x02 (nine ++ fixed) 4 (refused 4 ReplyTooLong (left 0x09))
   pub listed : Frame WriteAttributes records 0x02 (nine ++ fixed) 64 (replied 64 (0x18 ∷ 0x2b ∷ 0x04 ∷ 0x88 ∷ 0x00 ∷ 0x00 ∷ []) (left 0x09))
-  -- Undivided: 9; and with a failure in the second pass that does not fit, where the first pass has none
+  -- Undivided: 9; and with a failure that does not fit, or does
   pub together : Frame WriteAttributesUndivided records 0x03 nine 64 (replied 64 success (left 0x09))
-  pub second : Frame WriteAttributesUndivided records 0x03 (nine ++ wordy) 4 (refused 4 ReplyTooLong (left 0x09))
-  pub first : firstPass 8 (T 0x07) (header 0x03) (nine ++ wordy) 4 .number ≡ 0
+  pub tied : Frame WriteAttributesUndivided records 0x03 (nine ++ wordy) 5 (refused 5 ReplyTooLong (left 0x07))
+  pub undone : Frame WriteAttributesUndivided records 0x03 (nine ++ wordy) 6 (replied 6 (0x18 ∷ 0x2b ∷ 0x04 ∷ 0x87 ∷ 0x07 ∷ 0x00 ∷ []) (left 0x07))
+  -- and with two, in their order
+  pub two : Frame WriteAttributesUndivided records 0x03 (wordy ++ absent) 9 (replied 9 (0x18 ∷ 0x2b ∷ 0x04 ∷ 0x87 ∷ 0x07 ∷ 0x00 ∷ 0x86 ∷ 0x09 ∷ 0x00 ∷ []) (left 0x07))
+  pub not-two : Frame WriteAttributesUndivided records 0x03 (wordy ++ absent) 8 (refused 8 ReplyTooLong (left 0x07))
 
 computed : Computed
-unfolding allZero le bytesOf unsignedAt sizeOf shapeOf upto times count text series member structure byShape valueAt seriesAt structureAt frameTypeOf headerOf replyHead commandOf padded recordsIn recordsFrom walk encodeAll fits doneWith passFrom encodeFailures answered concluded performed headed attributeAt attributesFrom attributesOf findIn findOf each ascending roomOk isText lengthOk followOn endFrom unusedOk isStore fitted stored tooLong isWritable checkOf writeOf recordAt recordsAt encode written checked writeAttributes undivided writeUndivided commanded typed byHeader tabled serve
+unfolding allZero le bytesOf unsignedAt sizeOf shapeOf upto times count text series member structure byShape valueAt seriesAt structureAt frameTypeOf headerOf replyHead commandOf padded recordsIn recordsFrom walk encodeAll fits doneWith passFrom encodeFailures answered concluded performed headed attributeAt attributesFrom attributesOf findIn findOf each ascending roomOk isText lengthOk followOn endFrom unusedOk isStore fitted stored tooLong isWritable checkOf writeOf recordAt recordsAt encode written checked writeAttributes writtenAll writeUndivided commanded typed byHeader tabled serve
 computed =
     record {
       cut-off = refl;
@@ -109,8 +116,10 @@ computed =
       full = record { asks = record { header = refl; global = refl; command = refl }; readable = refl; answer = refl };
       listed = record { asks = record { header = refl; global = refl; command = refl }; readable = refl; answer = refl };
       together = record { asks = record { header = refl; global = refl; command = refl }; readable = refl; answer = refl };
-      second = record { asks = record { header = refl; global = refl; command = refl }; readable = refl; answer = refl };
-      first = refl;
+      tied = record { asks = record { header = refl; global = refl; command = refl }; readable = refl; answer = refl };
+      undone = record { asks = record { header = refl; global = refl; command = refl }; readable = refl; answer = refl };
+      two = record { asks = record { header = refl; global = refl; command = refl }; readable = refl; answer = refl };
+      not-two = record { asks = record { header = refl; global = refl; command = refl }; readable = refl; answer = refl };
     }
 
 pub number : {o p : Outcome State} → o ≡ p → o .number ≡ p .number
@@ -168,23 +177,21 @@ undivided-four =
     let f = computed .together in
     undivided-cut-is-four 8 16 (T 0x07) (holding []) cluster true (frameOf 0x03 nine) (header 0x03) (f .asks) (f .readable) short 64 (computed .cut-off) (number (f .answer))
 
--- in room 4 the frame alone is refused by 5 in its second pass
-not-early : (o : Outcome State) → o .number ≡ 5 → Reaches o
-not-early o e OtherCluster early n = omega arith
-not-early o e HeaderShort early n = omega arith
-not-early o e ReservedFrameType early n = omega arith
-not-early o e RecordCut early n = omega arith
-not-early o e ReplyTooLong early n = let z : _≡_ {A = ℕ} 0 1 = cc in omega arith
-not-early o e NothingToSend early n = omega arith
-not-early o e NotAStore early n = omega arith
-not-early o e NotATable early n = omega arith
-not-early o e NoNumber early n = omega arith
-not-early o e NotSuchAReply early n = omega arith
-not-early o e EmptyReport early n = omega arith
-not-early o e NotReportable early n = omega arith
+-- a failure that does not fit is 5, whatever is behind it, and attribute 1 is 7 as it was
+undivided-five : benchAnswer (frameOf 0x03 (nine ++ wordy ++ short)) 5 ≡ refused 5 ReplyTooLong (left 0x07)
+undivided-five =
+    let f = computed .tied in
+    undivided-five-stays 8 16 (T 0x07) (holding []) cluster true (frameOf 0x03 (nine ++ wordy)) (header 0x03) (f .asks) (f .readable) short 5 (omega arith) (number (f .answer)) .1
 
-undivided-four-at-first : benchAnswer (frameOf 0x03 (nine ++ wordy ++ short)) 4 ≡ refused 4 RecordCut (left 0x07)
-undivided-four-at-first =
-    let f = computed .second in
-    undivided-cut-is-four-at-first 8 16 (T 0x07) (holding []) cluster true (frameOf 0x03 (nine ++ wordy)) (header 0x03) (f .asks) (f .readable) short 4 (computed .cut-off)
-    (not-early (benchAnswer (frameOf 0x03 (nine ++ wordy)) 4) (number (f .answer))) (λ n. omega (arith, n, computed .first))
+-- room for the header alone: bench frame 8, and with a record behind it that cannot be read
+undivided-at-header : benchAnswer (frameOf 0x03 nine) 3 ≡ refused 3 ReplyTooLong (left 0x09)
+undivided-at-header =
+    let f = computed .together in
+    undivided-five-at-header 8 16 (T 0x07) (holding []) cluster true (frameOf 0x03 nine) (header 0x03) (f .asks) (f .readable) 64 (number (f .answer), ap (λ (o : Outcome State). o .size) (f .answer))
+    ∙ ap (λ (o : Outcome State). refused 3 ReplyTooLong (o .state)) (f .answer)
+
+undivided-four-at-header : benchAnswer (frameOf 0x03 (nine ++ short)) 3 ≡ refused 3 RecordCut (left 0x07)
+undivided-four-at-header =
+    let f = computed .together in
+    undivided-cut-is-four-at-header 8 16 (T 0x07) (holding []) cluster true (frameOf 0x03 nine) (header 0x03) (f .asks) (f .readable) short 64 (computed .cut-off)
+    (number (f .answer), ap (λ (o : Outcome State). o .size) (f .answer))

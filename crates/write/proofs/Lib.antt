@@ -4,4 +4,7 @@ pub mod Append  -- the records of one body and then another
 pub mod Turns  -- one record done, and the loop that lists nothing
 pub mod Undivided  -- the two passes of an undivided write
 pub mod Kept  -- what the commands keep of a store
+pub mod Judged  -- records judged over one store
+pub mod UndividedWays  -- the ways of an undivided write
+pub mod Before  -- the commands as document 01 has them
 pub mod Unique  -- no second answer fits

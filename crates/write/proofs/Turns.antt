@@ -11,12 +11,12 @@ use Rattle.frame.specs.Walk.{item, Way, reached}
 use Rattle.frame.specs.Failures.{did, Doing, Sofar, sofar, also, passFrom, pass, always}
 use Rattle.frame.specs.Inside.Passes.{TookOne, TookNone}
 use Rattle.frame.proofs.Passes.{more, cut-here, done-here}
-use Rattle.store.specs.Contents.{nameOf, findOf}
-use Rattle.store.specs.Write.{checkOf, Wrote, wrote, writeOf}
+use Rattle.store.specs.Contents.{nameOf}
+use Rattle.store.specs.Write.{Wrote, wrote, writeOf}
 use Rattle.write.specs.declared.pass.Task.{Task}
 use Rattle.write.specs.Request.{WriteRecord, recordAt, recordsAt}
 use Rattle.write.specs.Reply.{Failure, failure, encode}
-use Rattle.write.specs.Write.{written, statusBy, checked}
+use Rattle.write.specs.Write.{written, checked}
 use Rattle.write.specs.Inside.{taskOf, wroteBy, doingOf}
 use Rattle.write.proofs.Items.{ahead}
 
@@ -29,7 +29,7 @@ some f = omega arith
 
 -- a value by its task
 module _ (task : Task) (form : ℕ) (s : List ℕ) (name t : ℕ) (v : List ℕ) where
-  pub checked-is : task ≡ Task.Check → (w : Status) → w ≡ statusBy (checkOf (findOf form s name) t v) → wrote w s ≡ taskOf task form s name t v
+  pub checked-is : task ≡ Task.Check → (w : Status) → w ≡ writeOf form s name t v .status → wrote w s ≡ taskOf task form s name t v
   checked-is e w q = ap (λ (x : Status). wrote x s) q ∙ ap (λ (k : Task). taskOf k form s name t v) (sym e)
 
   pub written-is : task ≡ Task.Write → (x : Wrote) → x ≡ writeOf form s name t v → x ≡ taskOf task form s name t v

@@ -10,14 +10,13 @@ use Rattle.frame.specs.Status.{statusCode}
 use Rattle.frame.specs.Walk.{Item, item, unread}
 use Rattle.frame.specs.Failures.{Doing}
 use Rattle.frame.specs.Inside.Passes.{TookOne, TookNone}
-use Rattle.store.specs.Contents.{findOf}
-use Rattle.store.specs.Write.{checkOf, Wrote, wrote, writeOf}
+use Rattle.store.specs.Write.{Wrote, wrote, writeOf}
 use Rattle.write.specs.declared.record.Next.{Next}
 use Rattle.write.specs.declared.pass.Task.{Task}
 use Rattle.write.specs.declared.pass.Step.{Step}
 use Rattle.write.specs.Request.{WriteRecord, recordAt}
 use Rattle.write.specs.Reply.{Failure, failure}
-use Rattle.write.specs.Write.{written, statusBy, checked, listing}
+use Rattle.write.specs.Write.{written, checked, listing}
 
 abbrev pub itemOf : List ℕ → ℕ → Next → Item WriteRecord
 itemOf body at (Next.Record id t end) = item (record { id = id .0; type = t .0; value = take (end - (at + 3)) (drop (at + 3) body) }) end
@@ -25,7 +24,7 @@ itemOf body at Next.Cut = unread
 
 -- what a task does with a value of type t under a name, and with a record
 abbrev pub taskOf : Task → ℕ → List ℕ → ℕ → ℕ → List ℕ → Wrote
-taskOf Task.Check form s name t v = wrote (statusBy (checkOf (findOf form s name) t v)) s
+taskOf Task.Check form s name t v = wrote (writeOf form s name t v .status) s
 taskOf Task.Write form s name t v = writeOf form s name t v
 
 abbrev pub wroteBy : Task → ℕ → ZclHeader → List ℕ → WriteRecord → Wrote

@@ -2,9 +2,7 @@
 ghost use mathlib.Core.Path.{_≡_};
 ghost use lib.ListN.{length};
 ghost use Rattle.frame.specs.Answer.{seen};
-ghost use Rattle.frame.specs.Inside.Passes.{Performs};
-ghost use Rattle.write.specs.Request.{records};
-ghost use Rattle.write.specs.Write.{writing, writeAttributes, writeUndivided, writeSilently};
+ghost use Rattle.write.specs.Write.{writeAttributes, writeUndivided, writeSilently};
 ghost use Rattle.write.specs.Inside.{isClean};
 use super::pass::Task;
 use super::pass::apply_write_records;
@@ -30,20 +28,6 @@ fn is_clean(done: Pass, start: usize) -> bool
     }
 }
 
-// Every record written, and the answer, behind a header that ends at `start`.
-fn write_steps(
-    store: &mut [u8],
-    request: ZclHeader,
-    body: &[u8],
-    reply: &mut [u8],
-    start: usize,
-) -> Answer
-    ensures { λ r. ⌜ Performs (writing 8 request) (records (now (body .entry))) start (now (store .entry)) (now (reply .entry)) r (now (store .exit)) (now (reply .exit)) ⌝ }
-{
-    let done = pass_records(store, Task::Write, request, body, reply, start);
-    conclude(reply, start, done)
-}
-
 // Write Attributes.
 pub fn write_attributes(
     store: &mut [u8],
@@ -57,10 +41,11 @@ pub fn write_attributes(
     let Put::At(start) = begun else {
         return refuse(reply, Refusal::ReplyTooLong);
     };
-    write_steps(store, request, body, reply, start)
+    let done = pass_records(store, Task::Write, request, body, reply, start);
+    conclude(reply, start, done)
 }
 
-// Write Attributes Undivided: the checks first, and the writes only where none of them failed.
+// Write Attributes Undivided: the checks first, and the writes only where none of them failed, so that none can fail any more.
 pub fn write_attributes_undivided(
     store: &mut [u8],
     request: ZclHeader,
@@ -75,7 +60,7 @@ pub fn write_attributes_undivided(
     };
     let first = pass_records(store, Task::Check, request, body, reply, start);
     if is_clean(first, start) {
-        return write_steps(store, request, body, reply, start);
+        apply_write_records(store, request, body);
     }
     conclude(reply, start, first)
 }

@@ -106,7 +106,7 @@ pub const ALLOWED: &[(&str, u8, &[Detail])] = &[
             Later(0x88),
             Later(0x8d),
             Said("nothing asked"),
-            Said("87 in the second pass, others stored"),
+            Said("too long beside another failure"),
         ],
     ),
     ("undivided", 4, &[Said("cut"), Said("without extent")]),
@@ -115,10 +115,11 @@ pub const ALLOWED: &[(&str, u8, &[Detail])] = &[
         5,
         &[
             Said("header"),
-            Said("a failure in the first pass"),
-            Said("a failure in the second pass"),
+            Said("a failure"),
             Said("the one 00"),
-            Said("earlier records stored"),
+            Said("all records stored"),
+            Said("too long beside another failure"),
+            Said("too long before a record that cannot be read"),
         ],
     ),
     // no response

@@ -95,12 +95,7 @@ fn global(store: &mut [u8], table: &mut Vec<Entry>, cluster: u16, request: &Requ
     match request.header.command {
         0x00 => read(store, body, request.reply(0x01)?),
         0x02 => write(store, body, request.reply(0x04)?),
-        0x03 => undivided(
-            store,
-            request.body,
-            request.reply(0x04)?,
-            request.reply(0x04)?,
-        ),
+        0x03 => undivided(store, body, request.reply(0x04)?),
         0x05 => without_response(store, body),
         0x06 => configure(store, table, cluster, body, request.reply(0x07)?),
         0x08 => read_configuration(store, table, cluster, body, request.reply(0x09)?),

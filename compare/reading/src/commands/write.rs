@@ -28,6 +28,12 @@ impl<'a> Record<'a> {
     fn written(&self, store: &mut [u8]) -> u8 {
         store::write(store, self.id, self.type_code, self.value)
     }
+
+    /// The same status, and nothing is stored.
+    fn checked(&self, store: &[u8]) -> u8 {
+        let writable = store::writable(store, self.id, self.type_code, self.value);
+        writable.err().unwrap_or(0x00)
+    }
 }
 
 /// The failures that a reply lists.
@@ -49,6 +55,14 @@ impl Failures {
         let [low, high] = id_bytes(id);
         self.reply.put(&[status, low, high])
     }
+
+    /// The list, or one 00.
+    fn concluded(mut self) -> Served {
+        if self.none {
+            self.reply.put(&[0x00])?;
+        }
+        self.reply.done()
+    }
 }
 
 pub fn write(store: &mut [u8], mut body: Body<'_>, reply: Reply) -> Served {
@@ -57,26 +71,25 @@ pub fn write(store: &mut [u8], mut body: Body<'_>, reply: Reply) -> Served {
         let record = Record::read(&mut body)?;
         failures.add(record.written(store), record.id)?;
     }
-    let Failures { mut reply, none } = failures;
-    if none {
-        reply.put(&[0x00])?;
-    }
-    reply.done()
+    failures.concluded()
 }
 
-/// `again` is the reply of the second pass: as `reply`, with its header alone.
-pub fn undivided(store: &mut [u8], body: &[u8], reply: Reply, again: Reply) -> Served {
+/// All records are read and checked before the first is stored, and none is
+/// stored where one cannot be read or fails (document 02, request 2).
+pub fn undivided(store: &mut [u8], mut body: Body<'_>, reply: Reply) -> Served {
     let mut failures = Failures::new(reply);
-    let mut first = Body::new(body);
-    while first.goes_on() {
-        let record = Record::read(&mut first)?;
-        let checked = store::check(store, record.id, record.type_code);
-        failures.add(checked.err().unwrap_or(0x00), record.id)?;
+    let mut records = Vec::new();
+    while body.goes_on() {
+        let record = Record::read(&mut body)?;
+        failures.add(record.checked(store), record.id)?;
+        records.push(record);
     }
-    if !failures.none {
-        return failures.reply.done();
+    if failures.none {
+        for record in records {
+            record.written(store);
+        }
     }
-    write(store, Body::new(body), again)
+    failures.concluded()
 }
 
 /// Up to a record that cannot be read.

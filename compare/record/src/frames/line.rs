@@ -2,7 +2,7 @@
 //! room, and the line that holds them.
 
 use cases::kinds::{self, Call};
-use cases::{Condition, hex};
+use cases::{Case, Difference, hex};
 use oracle::{Oracle, Request};
 use reading::commands::serve;
 use reading::store::cluster_of;
@@ -38,16 +38,18 @@ pub fn line(input: &[u8], oracle: &mut Oracle, counts: &mut Counts) -> Result<St
         return Err(named("a field is too long".to_owned()));
     }
     let [input, first, second] = fields.map(|field| hex(&field));
-    if ours.iter().zip(&theirs).all(|(one, two)| one.agrees(two)) {
+    let as_listed = |(room, said)| is_as_listed(store, request, room, said);
+    let lets = theirs.iter().enumerate().all(as_listed);
+    if lets && ours.iter().zip(&theirs).all(|(one, two)| one.agrees(two)) {
         return Ok(format!("c {input} {first}"));
     }
-    let condition = Condition::of_frame(store, request).filter(|_| silent(&ours, &theirs));
-    let condition = condition.ok_or_else(|| {
+    let listed = Difference::of(&Case::over(store, request, 0)).filter(|_| lets);
+    let (difference, _) = listed.ok_or_else(|| {
         named(format!(
             "a difference that is not listed, document 01 {first}, the Rust {second}"
         ))
     })?;
-    let command = (condition, command_of(request));
+    let command = (difference, command_of(request));
     *counts.differences.entry(command).or_default() += 1;
     Ok(format!("x {input} {first} {second}"))
 }
@@ -66,11 +68,12 @@ fn both(
     Ok((ours, theirs))
 }
 
-/// A listed difference is one way only: the Rust has no reply.
-fn silent(ours: &[Said], theirs: &[Said]) -> bool {
-    ours.iter()
-        .zip(theirs)
-        .all(|(one, two)| one.agrees(two) || two.number == 6)
+/// Whether the Rust says what a listed difference lets it, where the frame meets
+/// one.
+fn is_as_listed(store: &[u8], request: &[u8], room: usize, rust: &Said) -> bool {
+    let reply = (rust.number == 0).then_some(&rust.reply[..]);
+    let listed = Difference::of(&Case::over(store, request, room));
+    listed.is_none_or(|(_, said)| said.is(reply, &rust.store, &[]))
 }
 
 fn command_of(request: &[u8]) -> u8 {
@@ -174,6 +177,20 @@ mod tests {
         let answers = format!("01050000 00 00 01050001{stored} 010004182b040001{stored} 00");
         let answers = answers.replace(' ', "");
         assert_eq!(line_of("002b0301002009"), format!("c {input} {answers}"));
+    }
+
+    /// Frame 7: the Rust stores from room 3 on, and both reply from room 6 on.
+    #[test]
+    fn bench_frame_7() {
+        let store = hex(&bench());
+        let stored = store.replace("0738ff", "0938ff");
+        let frame = "002b0301002009070042054142434445";
+        let ours = "01050000 00 00 00 00 00 010006182b0487070000 00".replace(' ', "");
+        let theirs =
+            format!("01060000 00 00 01060001{stored} 00 00 010006182b0487070001{stored} 00");
+        let theirs = theirs.replace(' ', "");
+        let expected = format!("x 073000{store}{frame} {ours} {theirs}");
+        assert_eq!(line_of(frame), expected);
     }
 
     #[test]

@@ -5,17 +5,19 @@ use cases::hex;
 use super::answers::{buffers, with_stores};
 use super::block::{Block, Table, code, heading, text};
 use crate::commands::Command;
+use crate::listed::ROOM;
 use crate::results::Results;
 
 pub fn section(results: &Results) -> Vec<Block> {
     vec![
         heading("The listed differences, by their smallest frames"),
-        text(
+        text(&format!(
             "All stand in docs/DIFFERENCES.md. To step over a value that it does not store, the old server reads it with a reader that refuses some values \
-             whose end is known; there it ends without a reply, or without the records behind. The new one steps over them. The last row is another: the old \
-             server answers a Default Response by a Default Response, so that two of them never stop, and the new one sends nothing. These frames were \
-             run for this page, over store T of document 01, with room for 6 bytes of reply:",
-        ),
+             whose end is known; there it ends without a reply, or without the records behind. The new one steps over them. The last three rows are others. The old \
+             server answers a Default Response by a Default Response, so that two of them never stop; the new one sends nothing. In an undivided write the \
+             old server finds too late that a string is too long: it has stored the record before, or has listed another failure and not this one; the new \
+             one stores nothing and lists every failure. These frames were run for this page, over store T of document 01, with room for {ROOM} bytes of reply:",
+        )),
         in_answers(results),
         text(
             "In two more the reply buffer itself differs, outside of what is sent. It was all zeros before the old call; the new server leaves zeros \

@@ -16,6 +16,7 @@ pub fn section() -> Vec<Block> {
             "Reading a reply of the new server, or a report, gives back exactly the records that it wrote, and for each value the number that the \
              attribute has in the store.",
             "Bad frames, stores and tables are refused by number, and what each refusal leaves is part of the definition.",
+            "An undivided write is done whole or not at all: every record is checked first, and none can fail once the first is written.",
             "A chain of replies ends: whatever boxes hand each other their replies, over any stores and tables, no more than two replies are sent, since a Default \
              Response gets nothing.",
         ]),

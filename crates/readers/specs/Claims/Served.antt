@@ -26,7 +26,7 @@ use Rattle.reporting.specs.Table.{holding}
 use Rattle.read.specs.Read as Read
 use Rattle.write.specs.Request.{records}
 use Rattle.write.specs.Reply as Write
-use Rattle.write.specs.Write.{writing, checking, ifNone}
+use Rattle.write.specs.Write.{writing, checking}
 use Rattle.configure.specs.Request.{configures, askedFrom}
 use Rattle.configure.specs.Configure as Configure
 use Rattle.configure.specs.Configuration as Configuration
@@ -60,11 +60,9 @@ settingsMade form limit s l h body room =
 abbrev pub writeMade : OfRequest (List Write.Failure)
 writeMade form limit s l h body room = reached (pass (writing form h) (fits Write.encode room 3) (records body) s) .failures
 
--- the first pass's failures, or if it has none those of the write steps
+-- nothing fails behind the first pass
 abbrev pub undividedMade : OfRequest (List Write.Failure)
-undividedMade form limit s l h body room =
-    let first : List Write.Failure = reached (pass (checking form h) (fits Write.encode room 3) (records body) s) .failures in
-    ifNone first (writeMade form limit s l h body room) first
+undividedMade form limit s l h body room = reached (pass (checking form h) (fits Write.encode room 3) (records body) s) .failures
 
 abbrev pub configureMade : OfRequest (List Configure.Failure)
 configureMade form limit s l h body room =

@@ -8,19 +8,16 @@ use Prim.Native.Nat.{ℕ, _≤_}
 use lib.ListN.{drop}
 use Rattle.frame.specs.declared.header.ZclHeader.{ZclHeader}
 use Rattle.frame.specs.declared.command_identifier.CommandIdentifier.{CommandIdentifier}
-use Rattle.frame.specs.declared.command_identifier.CommandIdentifier.the-variants.{WriteAttributes, WriteAttributesUndivided, WriteAttributesResponse, ConfigureReporting}
-use Rattle.frame.specs.declared.answer.Refusal.{Refusal}
+use Rattle.frame.specs.declared.command_identifier.CommandIdentifier.the-variants.{WriteAttributes, WriteAttributesUndivided, ConfigureReporting}
 use Rattle.frame.specs.declared.answer.Refusal.the-variants.{RecordCut, ReplyTooLong}
-use Rattle.frame.specs.Answer.{refusalNumber, Outcome, refused}
+use Rattle.frame.specs.Answer.{Outcome, refused}
 use Rattle.frame.specs.Walk.{done, cut, Records, ended}
-use Rattle.frame.specs.Claims.Troubles.{executed, Is5, Not5, single, NoneFails}
+use Rattle.frame.specs.Claims.Troubles.{Is5, Not5, single, NoneFails}
 use Rattle.reporting.specs.Table.{Table}
 use Rattle.write.specs.Request.{records}
-use Rattle.write.specs.Write.{checking}
 use Rattle.configure.specs.Request.{configures}
 use Rattle.server.specs.Serve.{State, state, serve}
 use Rattle.server.specs.Claims.Asks.{Asks}
-use Rattle.server.specs.Claims.Left.{Early}
 
 -- ---- frames
 
@@ -109,7 +106,7 @@ ConfigureFiveAtHeader = ServedFiveAtHeader ConfigureReporting configures
 abbrev pub ConfigureCutIsFourAtHeader : Type 0
 ConfigureCutIsFourAtHeader = ServedCutIsFourAtHeader ConfigureReporting configures
 
--- ---- Write Attributes Undivided (03)
+-- ---- Write Attributes Undivided (03): nothing is written before every record was checked (document 02, request 2)
 
 -- where a record cannot be read, store and table are as they came, whatever the answer
 abbrev pub UndividedCutUntouched : Type 0
@@ -122,21 +119,21 @@ UndividedCutIsFour =
     OfEvery WriteAttributesUndivided records
     (λ answer came frame. (b : List ℕ) (room : ℕ) → Unread records b → answer frame room .number ≡ 0 → answer (frame ++ b) room ≡ refused room RecordCut came)
 
--- and wherever the frame is refused by none of 1, 2, 3, 7 and 8, and no failure of the first pass by 5: the frame alone may still be refused by 5 in its second pass
-abbrev pub Reaches : Outcome State → Type 0
-Reaches o = (why : Refusal) → Early why → o .number ≡ refusalNumber why → ⊥
+-- 5, with room for the header and one byte at least: a failure does not fit, whatever follows; store and table are as they came
+abbrev pub UndividedFiveStays : Type 0
+UndividedFiveStays =
+    OfEvery WriteAttributesUndivided records
+    (λ answer came frame.
+    (b : List ℕ) (room : ℕ)
+    → 4 ≤ room
+    → Is5 (answer frame room)
+    → (answer frame room ≡ refused room ReplyTooLong came) × (answer (frame ++ b) room ≡ refused room ReplyTooLong came))
 
--- the first pass by itself, as a command that lists the failures of the three checks
-abbrev pub firstPass : ℕ → List ℕ → ZclHeader → List ℕ → ℕ → Outcome (List ℕ)
-firstPass form s h body room = executed (checking form h) h WriteAttributesResponse s (records body) room
+-- with room for the header alone, where no record fails: 5, all done (bench frame 8); and 4, nothing done, where a record behind them cannot be read
+abbrev pub UndividedFiveAtHeader : Type 0
+UndividedFiveAtHeader = ServedFiveAtHeader WriteAttributesUndivided records
 
-abbrev pub UndividedCutIsFourAtFirst : Type 0
-UndividedCutIsFourAtFirst =
-    (form limit : ℕ) (s : List ℕ) (t : Table) (cluster : ℕ) (unicast : Bool) (frame : List ℕ) (h : ZclHeader)
-    → Asks WriteAttributesUndivided frame h
-    → records (drop (h .body) frame) .ending ≡ done
-    → (b : List ℕ) (room : ℕ)
-    → Unread records b
-    → Reaches (serve form limit s t cluster unicast frame room)
-    → Not5 (firstPass form s h (drop (h .body) frame) room)
-    → serve form limit s t cluster unicast (frame ++ b) room ≡ refused room RecordCut (state s t)
+abbrev pub UndividedCutIsFourAtHeader : Type 0
+UndividedCutIsFourAtHeader =
+    OfEvery WriteAttributesUndivided records
+    (λ answer came frame. (b : List ℕ) (more : ℕ) → Unread records b → NoneFails (answer frame more) → answer (frame ++ b) 3 ≡ refused 3 RecordCut came)

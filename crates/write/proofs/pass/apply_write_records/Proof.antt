@@ -11,7 +11,7 @@ use Rattle.frame.proofs.Passes.{took-ahead}
 use Rattle.write.specs.declared.pass.Step.{Step}
 use Rattle.write.specs.Request.{recordAt}
 use Rattle.write.specs.Reply.{Failure, failure}
-use Rattle.write.specs.Write.{writing}
+use Rattle.write.specs.Write.{writing, writtenAll}
 use Rattle.write.specs.Inside.{Took}
 use Rattle.write.proofs.Items.{ahead}
 use Rattle.write.proofs.Turns.{Silent, silent-first, silent-more, silent-cut, silent-end}
@@ -57,6 +57,7 @@ same-length : tie.Need-same-length Inv-loop μ-loop
 same-length c = c .before .before .before .before .record-turn .kept .0 ∙ c .before .before .before .before .before .before .before .loop .inv .store-length
 
 returns : tie.Need-returns Inv-loop μ-loop
+unfolding writtenAll
 returns c =
     silent-cut (c .before .before .before .before .before .before .before .loop .inv) (c .before .before .before .before .before .before .loop-test .taken) (c .before .before .before .before .record-turn .last .0) (did (c .before .before) Step.Cut (c .enum-told .given .1))
 
@@ -72,6 +73,7 @@ same-length-2 : tie.Need-same-length-2 Inv-loop μ-loop
 same-length-2 c = c .before .loop .inv .store-length
 
 returns-2 : tie.Need-returns-2 Inv-loop μ-loop
+unfolding writtenAll
 returns-2 c = silent-end (c .before .loop .inv) (c .loop-test .left)
 
 pub apply-write-records-spec : {M : Type 1} → statement M
