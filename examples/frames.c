@@ -64,6 +64,8 @@ static void commands(void)
     serves("undivided, too long and absent, room 8", "002b0307004205414243444509002000", 8, HD_TOO_LONG, "", 7);
     serves("undivided, too long and cut", "002b0307004205414243444501", 6, HD_RECORD_CUT, "", 7);
     serves("undivided, too long and cut, room 5", "002b0307004205414243444501", 5, HD_TOO_LONG, "", 7);
+    serves("a scene: the last level counts", "002b03010020090700420254560100200a", 4, 0, "182b0400", 10);
+    serves("a scene with a name too long", "002b03010020090700420541424344450100200a", 60, 0, "182b04870700", 7);
     serves("frame 9", "002c0c010002", 60, 0, "182c0d00010020050029", 7);
     serves("frame 9, maximum 3", "002c0c010003", 60, 0, "182c0d01010020050029070042", 7);
     serves("frame 10", "002c0c080000", 60, 0, "182c0d01", 7);

@@ -16,3 +16,5 @@ pub mod LogExample
 pub mod Through
 -- what every call of the server's functions leaves
 pub mod Leaves
+-- an undivided write is done whole or not at all
+pub mod AllOrNothing

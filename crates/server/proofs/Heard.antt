@@ -6,6 +6,7 @@ use Prim.Native.Nat.{ℕ}
 use lib.ListN.{drop}
 use lib.Seq.{drop-append-le}
 use lib.Dec.{eqb}
+use borrow.Author.Tests.{eq-eqb}
 use Rattle.frame.specs.declared.header.ZclHeader.{ZclHeader}
 use Rattle.frame.specs.declared.command_identifier.CommandIdentifier.{CommandIdentifier}
 use Rattle.frame.specs.declared.answer.Refusal.{Refusal}
@@ -15,6 +16,7 @@ use Rattle.frame.specs.Answer.{Outcome, within, refused}
 use Rattle.frame.proofs.Headers.{header-body, header-behind}
 use Rattle.store.specs.Contents.{clusterOf}
 use Rattle.store.specs.Layout.{isStore}
+use Rattle.reporting.specs.declared.entry.Entry.{Entry}
 use Rattle.reporting.specs.Table.{Table, holding, bad}
 use Rattle.server.specs.Serve.{State, state, commanded, typed, byHeader, tabled, serve}
 use Rattle.server.specs.Claims.Asks.{Asks}
@@ -41,6 +43,12 @@ module _ (form limit : ℕ) (s : List ℕ) (cluster : ℕ) (unicast : Bool) (h :
       ap (byHeader form limit s t unicast frame room) (a .header)
       ∙ ap (typed form limit s t unicast h (drop (h .body) frame) room) (a .global)
       ∙ ap (commanded form limit s t unicast h (drop (h .body) frame) room) (a .command)
+
+  -- a store of this cluster, and a table that is one
+  pub reaches : (l : List Entry) → isStore form s ≡ true → cluster ≡ clusterOf s → (frame : List ℕ) (room : ℕ) → Asks c frame h
+      → serve form limit s (holding l) cluster unicast frame room ≡ commanded form limit s (holding l) unicast h (drop (h .body) frame) room c
+  unfolding serve tabled
+  reaches l e f frame room a = rw (e, eq-eqb cluster (clusterOf s) f) (by-header (holding l) frame room a)
 
   no-store : (t : Table) → isStore form s ≡ false → Heard form limit s t cluster unicast h c
   unfolding serve

@@ -20,6 +20,8 @@ pub mod Stays  -- a store stays a store
 pub mod Heard  -- a frame reaches its command, or not
 pub mod Troubles  -- which trouble counts in a write, and in a configure request
 pub mod Undivided  -- and in an undivided write
+pub mod AllOrNothing  -- an undivided write is done whole or not at all
+pub mod Scene  -- a scene over store T, computed
 pub mod WorkedTroubles  -- frames that meet what is supposed there of writes, computed
 pub mod WorkedConfigureTroubles  -- and of configure requests
 pub mod Unique  -- no second answer fits

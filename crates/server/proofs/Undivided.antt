@@ -31,16 +31,16 @@ use Rattle.server.specs.Claims.Asks.{Asks}
 use Rattle.server.specs.Claims.Troubles.{Unread, UndividedCutUntouched, UndividedCutIsFour, UndividedFiveStays, UndividedFiveAtHeader, UndividedCutIsFourAtHeader}
 use Rattle.server.proofs.Heard.{Heard, refuses, hears, heard, asks-behind, alone, more-of}
 
-never : {A : Type 0} → done ≡ cut → A
+pub never : {A : Type 0} → done ≡ cut → A
 never e = let z : _≡_ {A = ℕ} 0 1 = cc in absurd (omega arith)
 
-some-none : {A : Type 0} (f : Failure) (l : List Failure) → [] ≡ f ∷ l → A
+pub some-none : {A : Type 0} (f : Failure) (l : List Failure) → [] ≡ f ∷ l → A
 some-none f l e = let z : _≡_ {A = ℕ} 0 1 = cc in absurd (omega arith)
 
 number : {S : Type 0} {o p : Outcome S} → o ≡ p → o .number ≡ p .number
 number {S} e = ap (λ (o : Outcome S). o .number) e
 
-left : {S : Type 0} {o p : Outcome S} → o ≡ p → o .state ≡ p .state
+pub left : {S : Type 0} {o p : Outcome S} → o ≡ p → o .state ≡ p .state
 left {S} e = ap (λ (o : Outcome S). o .state) e
 
 -- a list with a failure in it takes more than one byte
@@ -49,7 +49,7 @@ unfolding encodeAll encode
 long f l = omega (arith, length-append (encode f) (encodeAll encode l), length-bytes 2 (f .id))
 
 -- no failure fits every room that the header fits
-none : {room : ℕ} → 3 ≤ room → fits encode room 3 [] ≡ true
+pub none : {room : ℕ} → 3 ≤ room → fits encode room 3 [] ≡ true
 unfolding fits encodeAll
 none {room} h = le-leb 3 room h
 

@@ -86,7 +86,7 @@ status-any s t (Fine a) v = refl
 status-any s t (Failed why) v = refl
 
 module _ (form : ℕ) (request : ZclHeader) (s : List ℕ) (wide : 8 ≤ form) (is : isStore form s ≡ true) where
-  status-alike : (t : List ℕ) (r : WriteRecord) → StoreLike form s t → Whole r → written form request t r .status ≡ statusOver form request s r
+  pub status-alike : (t : List ℕ) (r : WriteRecord) → StoreLike form s t → Whole r → written form request t r .status ≡ statusOver form request s r
   unfolding written writeOf findOf
   status-alike t r a w =
       let name : ℕ = nameOf (request .«manufacturer_code» .0) (r .id) in
@@ -96,7 +96,7 @@ module _ (form : ℕ) (request : ZclHeader) (s : List ℕ) (wide : 8 ≤ form) (
   alike : (t : List ℕ) (r : WriteRecord) → StoreLike form s t → Whole r → StoreLike form s (written form request t r .store)
   alike t r a w = record-alike form s request wide t r a w
 
-  itself : StoreLike form s s
+  pub itself : StoreLike form s s
   itself = record { still = is; same-length = refl; same-contents = refl }
 
   module _ (body : List ℕ) where

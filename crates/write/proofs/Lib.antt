@@ -5,6 +5,7 @@ pub mod Turns  -- one record done, and the loop that lists nothing
 pub mod Undivided  -- the two passes of an undivided write
 pub mod Kept  -- what the commands keep of a store
 pub mod Judged  -- records judged over one store
+pub mod Last  -- what records of which none fails leave
 pub mod UndividedWays  -- the ways of an undivided write
 pub mod Before  -- the commands as document 01 has them
 pub mod Unique  -- no second answer fits
