@@ -1,0 +1,6 @@
+-- What a reader must believe of this crate, a file for an idea.
+
+-- definitions that decide an answer
+pub mod Saved  -- the saved form of a reporting table
+-- what is claimed of them
+pub mod Claims

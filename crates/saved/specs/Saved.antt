@@ -1,0 +1,105 @@
+-- Definitions. The saved form of a reporting table (document 02, request 5), for flash: count (1 byte), then a contents list of key and offset from the start in
+-- table order, then the bodies in that order, nothing after. Over the limit, and the widths of a key and of a body.
+use Prim.Native.Nat.{ℕ, suc, _+_, _*_}
+use mathlib.Core.Bool.{Bool, true, false, _&&_}
+use mathlib.Core.List.{List, [], _∷_, _++_, map}
+use lib.ListN.{length, getD, drop}
+use lib.Dec.{leb, eqb}
+use Rattle.reporting.specs.declared.entry.Entry.{Entry}
+use Rattle.reporting.specs.Entries.{findL, fresh}
+use Rattle.reporting.specs.Wish.{Wish, toClear, toRefuse, toSet, wish}
+use Rattle.reporting.specs.Carried.{total, rowsLaid, rowsIn, countIn}
+
+-- ---- the form
+
+-- the widths of a key's numbers, and of a body's
+pub record Form : Type 0 where
+  pub keys : List ℕ
+  pub bodies : List ℕ
+
+-- cluster, attribute (2 each); minimum, maximum (2 each), change (8)
+abbrev pub plain : Form
+plain = record { keys = 2 ∷ 2 ∷ []; bodies = 2 ∷ 2 ∷ 8 ∷ [] }
+
+abbrev pub keyOf : Entry → List ℕ
+keyOf e = e .key .cluster .0 ∷ e .key .attribute .0 ∷ []
+
+abbrev pub bodyOf : Entry → List ℕ
+bodyOf e = e .config .«min_interval» ∷ e .config .«max_interval» ∷ e .config .«reportable_change» ∷ []
+
+-- a row of the contents: the key, and an offset of two bytes
+abbrev pub rowOf : Form → List ℕ
+rowOf f = f .keys ++ (2 ∷ [])
+
+-- where body i of n starts: behind the contents and the bodies before it
+abbrev pub offsetAt : Form → ℕ → ℕ → ℕ
+offsetAt f n i = 1 + n * total (rowOf f) + i * total (f .bodies)
+
+abbrev pub savedSize : Form → ℕ → ℕ
+savedSize f n = offsetAt f n n
+
+-- ---- written
+
+-- the rows of the contents of n entries, from number i on
+unfoldable pub contentsFrom : Form → ℕ → ℕ → List (List ℕ) → List (List ℕ)
+contentsFrom f n i [] = []
+contentsFrom f n i (k ∷ ks) = (k ++ (offsetAt f n i ∷ [])) ∷ contentsFrom f n (suc i) ks
+
+-- THE SAVED FORM of a table's entries
+unfoldable pub savedBytes : Form → List Entry → List ℕ
+savedBytes f l = length l ∷ (rowsLaid (rowOf f) (contentsFrom f (length l) 0 (map keyOf l)) ++ rowsLaid (f .bodies) (map bodyOf l))
+
+-- "Keys repeated"
+unfoldable pub distinct : List Entry → Bool
+distinct [] = true
+distinct (e ∷ es) = eqb (findL (e .key) es) (length es) && distinct es
+
+-- "a maximum of ffff, 0 with minimum ffff, or nonzero below its minimum": what no record sets (reporting, Wish.antt)
+abbrev pub isSet : Wish → Bool
+isSet toClear = false
+isSet toRefuse = false
+isSet toSet = true
+
+unfoldable pub allSet : List Entry → Bool
+allSet [] = true
+allSet (e ∷ es) = isSet (wish (e .config)) && allSet es
+
+-- a table that is written
+abbrev pub isSavable : List Entry → Bool
+isSavable l = distinct l && allSet l
+
+-- ---- read
+
+abbrev pub rowsOf : Form → List ℕ → List (List ℕ)
+rowsOf f bs = rowsIn (rowOf f) (countIn bs) (drop 1 bs)
+
+abbrev pub bodiesOf : Form → List ℕ → List (List ℕ)
+bodiesOf f bs = rowsIn (f .bodies) (countIn bs) (drop (offsetAt f (countIn bs) 0) bs)
+
+-- an entry from a row and a body: not yet reported
+abbrev pub entryFrom : List ℕ → List ℕ → Entry
+entryFrom k b =
+    fresh (record { cluster = record { 0 = getD k 0 0 }; attribute = record { 0 = getD k 1 0 } })
+    (record { «min_interval» = getD b 0 0; «max_interval» = getD b 1 0; «reportable_change» = getD b 2 0 })
+
+unfoldable pub entriesFrom : List (List ℕ) → List (List ℕ) → List Entry
+entriesFrom [] bs = []
+entriesFrom (k ∷ ks) [] = []
+entriesFrom (k ∷ ks) (b ∷ bs) = entryFrom k b ∷ entriesFrom ks bs
+
+-- THE ENTRIES of a saved form
+unfoldable pub savedIn : Form → List ℕ → List Entry
+savedIn f bs = entriesFrom (rowsOf f bs) (bodiesOf f bs)
+
+-- "offsets that do not follow on": the first body stands right behind the contents, each next one behind the one before it
+unfoldable pub followOn : Form → ℕ → ℕ → List (List ℕ) → Bool
+followOn f n i [] = true
+followOn f n i (r ∷ rs) = eqb (getD r (length (f .keys)) 0) (offsetAt f n i) && followOn f n (suc i) rs
+
+-- WHETHER BYTES ARE A SAVED FORM of up to `limit` entries
+unfoldable pub isSaved : Form → ℕ → List ℕ → Bool
+isSaved f limit bs =
+    leb (countIn bs) limit
+    && (eqb (length bs) (savedSize f (countIn bs))
+    && (followOn f (countIn bs) 0 (rowsOf f bs)
+    && isSavable (savedIn f bs)))
