@@ -22,4 +22,4 @@ pub use differences::{Difference, Said};
 pub use hex::{hex, unhex};
 pub use random::Random;
 pub use records::{End, Record, body_of, records};
-pub use shorter::shorter;
+pub use shorter::{fewest, shorter};

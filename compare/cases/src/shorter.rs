@@ -22,9 +22,26 @@ pub fn shorter<T: Clone>(history: &[T], mut wrong: impl FnMut(&[T]) -> Option<us
     history
 }
 
+/// What is made with as few of these as it goes wrong with.
+pub fn fewest<T: Clone, C>(
+    all: &[T],
+    with: impl Fn(&[T]) -> C,
+    mut wrong: impl FnMut(&C) -> bool,
+) -> C {
+    let none = with(&[]);
+    if wrong(&none) {
+        return none;
+    }
+    // `shorter` asks at which place a row goes wrong: here at its last
+    with(&shorter(all, |some| {
+        let last = some.len().checked_sub(1)?;
+        wrong(&with(some)).then_some(last)
+    }))
+}
+
 #[cfg(test)]
 mod tests {
-    use super::shorter;
+    use super::{fewest, shorter};
 
     #[test]
     fn only_what_is_needed() {
@@ -39,6 +56,13 @@ mod tests {
         assert_eq!(shorter(&history, wrong), [5, 3, 9]);
         assert_eq!(shorter(&[5, 3, 9], wrong), [5, 3, 9]);
         assert_eq!(shorter(&[5, 5, 3, 1, 9, 2], wrong), [5, 3, 9]);
+    }
+
+    #[test]
+    fn none_may_be_enough() {
+        let sum = |some: &[u32]| some.iter().sum::<u32>();
+        assert_eq!(fewest(&[1, 2, 4, 8], sum, |&sum| sum >= 8), 8);
+        assert_eq!(fewest(&[1, 2, 4, 8], sum, |_| true), 0);
     }
 
     #[test]

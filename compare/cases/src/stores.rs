@@ -1,6 +1,7 @@
 //! Stores, built from their parts.
 
 use reading::Kind;
+use reading::store::attributes;
 
 use crate::random::Random;
 
@@ -53,6 +54,25 @@ pub fn built(parts: &[Part]) -> Vec<u8> {
         bodies.extend(&part.body);
     }
     [contents, bodies].concat()
+}
+
+/// The parts of a store.
+pub fn parts(store: &[u8]) -> Vec<Part> {
+    attributes(store)
+        .unwrap_or_default()
+        .iter()
+        .map(|entry| {
+            let body = &store[entry.offset..entry.offset + entry.room];
+            Part::new(entry.id, entry.type_code, entry.access, body)
+        })
+        .collect()
+}
+
+/// A store of these parts, and of the cluster of another.
+pub fn rebuilt(store: &[u8], parts: &[Part]) -> Vec<u8> {
+    let mut rebuilt = built(parts);
+    rebuilt[..2].copy_from_slice(&store[..2]);
+    rebuilt
 }
 
 /// A store of one attribute, whose id is 1.
@@ -146,6 +166,7 @@ mod tests {
             let parts = random_parts(&mut random);
             let store = built(&parts);
             assert!(is_store(&store), "{}", hex(&store));
+            assert_eq!(rebuilt(&store, &super::parts(&store)), store);
             assert!(store.len() <= 4 + 5 * 24);
             strings += parts.iter().filter(|part| part.code == 0x41).count();
         }

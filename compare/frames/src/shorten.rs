@@ -1,8 +1,8 @@
 //! A case that goes wrong, made as short as may be.
 
-use cases::stores::{Part, built};
-use cases::{Case, shorter};
-use reading::store::{attributes, is_store};
+use cases::stores::{Part, parts, rebuilt};
+use cases::{Case, fewest};
+use reading::store::is_store;
 use reading::table::{Entry, entries, to_bytes};
 
 /// The case without what it goes wrong without: entries, attributes, bytes of
@@ -26,23 +26,6 @@ pub fn shorten(case: &Case, mut wrong: impl FnMut(&Case) -> bool) -> Case {
     least.unwrap_or(case)
 }
 
-/// The case with as few of these as it goes wrong with.
-fn fewest<T: Clone>(
-    all: &[T],
-    with: impl Fn(&[T]) -> Case,
-    mut wrong: impl FnMut(&Case) -> bool,
-) -> Case {
-    let none = with(&[]);
-    if wrong(&none) {
-        return none;
-    }
-    // `shorter` asks at which place a row goes wrong: here at its last
-    with(&shorter(all, |some| {
-        let last = some.len().checked_sub(1)?;
-        wrong(&with(some)).then_some(last)
-    }))
-}
-
 fn with_entries(case: &Case, held: &[Entry]) -> Case {
     Case {
         table: to_bytes(held),
@@ -58,23 +41,10 @@ fn with_request(case: &Case, request: &[u8]) -> Case {
 }
 
 fn with_parts(case: &Case, parts: &[Part]) -> Case {
-    let mut store = built(parts);
-    store[..2].copy_from_slice(&case.store[..2]);
     Case {
-        store,
+        store: rebuilt(&case.store, parts),
         ..case.clone()
     }
-}
-
-fn parts(store: &[u8]) -> Vec<Part> {
-    attributes(store)
-        .unwrap_or_default()
-        .iter()
-        .map(|entry| {
-            let body = &store[entry.offset..entry.offset + entry.room];
-            Part::new(entry.id, entry.type_code, entry.access, body)
-        })
-        .collect()
 }
 
 #[cfg(test)]

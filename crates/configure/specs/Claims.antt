@@ -1,5 +1,4 @@
 -- Claims about the definitions, proved in proofs/, a file for an idea.
 pub mod History  -- the events of a frame
 pub mod Leads  -- a frame is its events
-pub mod Lists  -- a list cut in two
 pub mod Unique  -- no second answer fits a contract

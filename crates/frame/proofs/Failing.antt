@@ -9,7 +9,7 @@ use lib.Dec.{eqb}
 use borrow.Author.Tests.{le-leb}
 use Rattle.frame.specs.declared.status.Status.{Status}
 use Rattle.frame.specs.Status.{statusCode}
-use Rattle.frame.specs.Walk.{Ending, done, cut, Way, through, broken, stopped, walk, All}
+use Rattle.frame.specs.Walk.{Ending, done, cut, Way, through, broken, stopped, walk, reached, All}
 use Rattle.frame.specs.Encoded.{encodeAll, fits}
 use Rattle.frame.specs.Failures.{Doing, Sofar, sofar, also, doneWith}
 use Rattle.frame.specs.Claims.Failing.{failingBy}
@@ -49,6 +49,11 @@ failing-append {F = F} status fails (r ∷ a) b = go (eqb (statusCode (status r)
         → cond c (failingBy status fails (a ++ b)) (f ∷ failingBy status fails (a ++ b)) ≡ cond c (failingBy status fails a) (f ∷ failingBy status fails a) ++ failingBy status fails b
     go true e = e
     go false e = ap (λ (l : List F). f ∷ l) e
+
+-- the records that a walk takes, with these failures before them: the one at which it stops too
+abbrev pub takes : {R F : Type 0} → (R → Status) → (Status → R → F) → (List F → Bool) → List F → List R → List R
+takes status fails fine l [] = []
+takes status fails fine l (r ∷ rs) = r ∷ cond (fine (also l (status r) (fails (status r) r))) (takes status fails fine (also l (status r) (fails (status r) r)) rs) []
 
 -- one failure more
 module _ {R F : Type 0} (status : R → Status) (fails : Status → R → F) (l : List F) (r : R) (rs : List R) where
@@ -116,3 +121,16 @@ module _ {S R F : Type 0} (doing : Doing S R F) (P : S → Type 0) (Q : R → Ty
       go : (b : Bool) → fine (with l r) ≡ b → (fine (with l r) ≡ true → Halts (goes (sofar (doing .does s r .state) (with l r)) e rs)) → Halts (goes (sofar s l) e (r ∷ rs))
       go true k rec = let h = rec k in record { before = h .before; after = h .after; is = turn e r rs s l p (q .0) true k ∙ h .is }
       go false k rec = record { before = sofar s l; after = sofar (doing .does s r .state) (with l r); is = turn e r rs s l p (q .0) false k }
+
+  -- either way the state is what the records leave that it takes
+  pub taken-leave : (e : Ending) (rs : List R) (s : S) (l : List F) → P s → All Q rs → reached (goes (sofar s l) e rs) .state ≡ folded doing s (takes status (doing .fails) fine l rs)
+  unfolding walk
+  taken-leave done [] s l p q = refl
+  taken-leave cut [] s l p q = refl
+  taken-leave e (r ∷ rs) s l p q = go (fine (with l r)) refl (taken-leave e rs (doing .does s r .state) (with l r) (keep s r p (q .0)) (q .1))
+    where
+      go : (b : Bool) → fine (with l r) ≡ b
+          → reached (goes (sofar (doing .does s r .state) (with l r)) e rs) .state ≡ folded doing (doing .does s r .state) (takes status (doing .fails) fine (with l r) rs)
+          → reached (goes (sofar s l) e (r ∷ rs)) .state ≡ folded doing (doing .does s r .state) (cond b (takes status (doing .fails) fine (with l r) rs) [])
+      go true k rec = ap (λ (w : Way (Sofar S F)). reached w .state) (turn e r rs s l p (q .0) true k) ∙ rec
+      go false k rec = ap (λ (w : Way (Sofar S F)). reached w .state) (turn e r rs s l p (q .0) false k)

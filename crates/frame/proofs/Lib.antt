@@ -27,6 +27,8 @@ pub mod Passes
 pub mod States
 -- a pass in which a record's status is the same at every moment
 pub mod Failing
+-- a list cut in two: where the whole is not refused by 5, no part is stopped
+pub mod Split
 -- what a pass over records that can all be read comes to; where none of them fails; which trouble counts
 pub mod Halts
 pub mod NoneFails

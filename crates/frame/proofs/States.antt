@@ -75,7 +75,7 @@ module _ {S R F : Type 0} (doing : Doing S R F) (fine : List F → Bool) where
   abbrev goes : Sofar S F → Ending → List R → Way (Sofar S F)
   goes x e rs = walk (doneWith doing) (λ y. fine (y .failures)) x e rs
 
-  walk-folded : (e : Ending) (rs : List R) (x : Sofar S F) → Unstopped (goes x e rs) → reached (goes x e rs) .state ≡ folded doing (x .state) rs
+  pub walk-folded : (e : Ending) (rs : List R) (x : Sofar S F) → Unstopped (goes x e rs) → reached (goes x e rs) .state ≡ folded doing (x .state) rs
   unfolding walk doneWith
   walk-folded done [] x u = refl
   walk-folded cut [] x u = refl
@@ -88,7 +88,7 @@ module _ {S R F : Type 0} (doing : Doing S R F) (fine : List F → Bool) where
       go false u rec = absurd u
 
 -- only a stop, or a reply that does not fit, is 5
-not-five : {S F : Type 0} (bytes : F → List ℕ) (room : ℕ) (head : List ℕ) (way : Way (Sofar S F)) → (concluded bytes room head way .number ≡ 5 → ⊥) → Unstopped way
+pub not-five : {S F : Type 0} (bytes : F → List ℕ) (room : ℕ) (head : List ℕ) (way : Way (Sofar S F)) → (concluded bytes room head way .number ≡ 5 → ⊥) → Unstopped way
 unfolding concluded
 not-five bytes room head (through x) n = tt
 not-five bytes room head (broken x) n = tt

@@ -38,14 +38,14 @@ module _ {S R F : Type 0} (doing : Doing S R F) (request : ZclHeader) (command :
   unfolding headed
   tight room h rs = rw (lt-leb (length head3) room (omega (arith, reply-head-length request command)))
 
-  some-room : (rs : Records R) (room : ℕ) → Not5 (answer rs room) → 3 ≤ room
+  pub some-room : (rs : Records R) (room : ℕ) → Not5 (answer rs room) → 3 ≤ room
   some-room rs room n = go (leb 3 room) refl
     where
       go : (b : Bool) → leb 3 room ≡ b → 3 ≤ room
       go true e = leb-true 3 room e
       go false e = absurd (n (ap (λ (o : Outcome S). o .number) (tight room (leb-false 3 room e) rs)))
 
-  behind-head : (rs : Records R) (room : ℕ) → Not5 (answer rs room) → Not5 (performed doing rs s room head3)
+  pub behind-head : (rs : Records R) (room : ℕ) → Not5 (answer rs room) → Not5 (performed doing rs s room head3)
   behind-head rs room n = subst (λ (o : Outcome S). Not5 o) (roomy room (some-room rs room n) rs) n
 
   four : (a : Records R) (room : ℕ) → a .ending ≡ done → Not5 (answer a room) → answer (joined a (ended cut)) room ≡ refused room RecordCut (answer a room .state)

@@ -103,7 +103,7 @@ module _ (s bs : List ℕ) (cluster unicast : ℕ) (frame : List ℕ) (size : �
   fits-before : Kept capacity (tableIn bs)
   fits-before = record { small = omega (arith, table-count bs, the-conditions capacity bs is .count); clean = table-clean capacity bs tb is }
 
-  fits-after : Kept capacity after
+  pub fits-after : Kept capacity after
   fits-after =
       subst (Kept capacity) (request-is capacity asked (tableIn bs) .table)
       (run-keeps capacity (requestEvents capacity asked (tableIn bs)) (tableIn bs) (request-fits capacity asked (tableIn bs) sb fb) fits-before)

@@ -18,3 +18,5 @@ pub mod Through
 pub mod Leaves
 -- an undivided write is done whole or not at all
 pub mod AllOrNothing
+-- a list cut in two, and two lists in either order
+pub mod Split

@@ -1,6 +1,7 @@
 -- Claims about the definitions, proved in proofs/, a file for an idea.
 pub mod Left  -- what every call of these leaves
 pub mod AllOrNothing  -- an undivided write is done whole or not at all
+pub mod Split  -- a list cut in two, and two lists in either order
 pub mod Log  -- what the functions left, and demand 3 of it
 pub mod LogExample  -- a log that meets what demand 3 supposes
 pub mod Numbers  -- the number of a value, from the store to the head-end

@@ -22,6 +22,10 @@ pub mod Troubles  -- which trouble counts in a write, and in a configure request
 pub mod Undivided  -- and in an undivided write
 pub mod AllOrNothing  -- an undivided write is done whole or not at all
 pub mod Scene  -- a scene over store T, computed
+pub mod Called  -- calls over a store of the cluster and a table
+pub mod Split  -- a list cut in two
+pub mod Order  -- two lists in either order
+pub mod SplitExample  -- where these laws do not hold, computed
 pub mod WorkedTroubles  -- frames that meet what is supposed there of writes, computed
 pub mod WorkedConfigureTroubles  -- and of configure requests
 pub mod Unique  -- no second answer fits

@@ -4,6 +4,8 @@ pub mod Left  -- what every answer leaves
 pub mod Troubles  -- what numbers 4 and 5 leave of a list
 pub mod AllOrNothing  -- an undivided write is done whole or not at all
 pub mod Scene  -- a scene over store T, computed
+pub mod Split  -- a list cut in two, and two lists in either order
+pub mod SplitExample  -- where these laws do not hold, computed
 pub mod Starts  -- how every reply starts
 pub mod Chain  -- a chain of replies ends
 pub mod ChainExample  -- chains over store T, computed

@@ -93,7 +93,7 @@ module _ (form : ℕ) (request : ZclHeader) (s : List ℕ) (wide : 8 ≤ form) (
       ap (λ (l : List Attribute). writeBy t (checkOf (findIn l name) (r .type) (r .value)) (r .value) .status) (a .same-contents)
       ∙ status-any s t (checkOf (findOf form s name) (r .type) (r .value)) (r .value)
 
-  alike : (t : List ℕ) (r : WriteRecord) → StoreLike form s t → Whole r → StoreLike form s (written form request t r .store)
+  pub alike : (t : List ℕ) (r : WriteRecord) → StoreLike form s t → Whole r → StoreLike form s (written form request t r .store)
   alike t r a w = record-alike form s request wide t r a w
 
   pub itself : StoreLike form s s

@@ -94,7 +94,7 @@ module _ (form : ℕ) (request : ZclHeader) (s : List ℕ) (wide : 8 ≤ form) (
 
   -- ---- all of them
 
-  fronts : (rs : List WriteRecord) → All Whole rs → (t : List ℕ) → StoreLike form s t → take (bodiesAt form s) (leaves t rs) ≡ take (bodiesAt form s) t
+  pub fronts : (rs : List WriteRecord) → All Whole rs → (t : List ℕ) → StoreLike form s t → take (bodiesAt form s) (leaves t rs) ≡ take (bodiesAt form s) t
   fronts [] all t like = refl
   fronts (r ∷ rs) all t like = fronts rs (all .1) (after t r) (like-after t like r (all .0)) ∙ front t like r (all .0)
 

@@ -7,5 +7,7 @@ pub mod Kept  -- what the commands keep of a store
 pub mod Judged  -- records judged over one store
 pub mod Last  -- what records of which none fails leave
 pub mod UndividedWays  -- the ways of an undivided write
+pub mod Coded  -- of a header only the manufacturer code counts
+pub mod Order  -- what each command does to a store, and two of them in either order
 pub mod Before  -- the commands as document 01 has them
 pub mod Unique  -- no second answer fits
