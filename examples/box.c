@@ -6,8 +6,10 @@
  *   HEX             a request comes in; its reply is written in hex, a refusal as its number
  *   tick N          N seconds pass
  *   set ID VALUE    the hardware changes a value: ID in four hex digits, VALUE decimal
+ *   save            what is configured goes to flash: it is written as 'saved HEX'
+ *   restore HEX     the power fails, and flash has these bytes when it comes back; a refusal is written as its number
  *   # ..            nothing, and so an empty line
- * After each of the first three, every report that is due is written as 'report HEX'. With --read each reply and report is read back as the
+ * After each of the first five, every report that is due is written as 'report HEX'. With --read each reply and report is read back as the
  * head-end does it, and the text stands behind it.
  *
  * A line that is none of these is named on standard error, changes nothing, and makes the exit status 1.
@@ -24,8 +26,8 @@
 
 enum { CLUSTER = 0xfc21 };
 
-/* The longest frame, in and out, and the longest line: a frame as digits. */
-enum { FRAME_BYTES = 80, LINE_CHARS = 2 * FRAME_BYTES };
+/* The longest frame, in and out, and the longest line: 'restore' with the longest saved form as digits. */
+enum { FRAME_BYTES = 80, RESTORE_CHARS = sizeof "restore " - 1, LINE_CHARS = RESTORE_CHARS + 2 * HD_SAVED_BYTES };
 
 /* Where in the store the values stand, behind the head and four entries. */
 enum {
@@ -204,6 +206,36 @@ static int set(const char *text)
     return 0;
 }
 
+/* 'save'. Only requests and saved forms configure this table, and neither sets intervals that are not saved: it has a form, and the buffer holds any. */
+static void save(void)
+{
+    uint8_t saved[HD_SAVED_BYTES], number;
+    size_t used;
+
+    if ((number = hd_save(table, sizeof table, saved, sizeof saved, &used)) != HD_OK)
+        stop("hd_save", number);
+    printf("saved ");
+    hex_print(saved, used);
+    putchar('\n');
+}
+
+/*
+ * 'restore HEX', from behind the blank. After a power cut RAM holds anything. So the table is overwritten first with what is no table, a count above
+ * 16: whatever is reported then comes from the form alone. Values and clock stay as they are; a form has neither.
+ */
+static int restore(const char *text, size_t digits)
+{
+    uint8_t saved[HD_SAVED_BYTES], number;
+
+    if (digits == 0 || !hex_read(text, digits, saved, sizeof saved))
+        return 0;
+    memset(table, 0xa5, sizeof table);
+    number = hd_restore(table, sizeof table, saved, digits / 2);
+    if (number != HD_OK)
+        printf("%u\n", number);
+    return 1;
+}
+
 /* One line, of `n` characters, a 0 behind them. 0 where it is none. */
 static int happens(const char *line, size_t n)
 {
@@ -219,6 +251,11 @@ static int happens(const char *line, size_t n)
             return 0;
     } else if (strncmp(line, "set ", 4) == 0) {
         if (!set(line + 4))
+            return 0;
+    } else if (strcmp(line, "save") == 0) {
+        save();
+    } else if (strncmp(line, "restore ", RESTORE_CHARS) == 0) {
+        if (!restore(line + RESTORE_CHARS, n - RESTORE_CHARS))
             return 0;
     } else if (hex_read(line, n, request, sizeof request)) {
         serve(request, n / 2);
@@ -273,7 +310,7 @@ int main(int argc, char **argv)
     while ((found = next_line(line, &n)) != NO_LINE) {
         count++;
         if (found == LONG_LINE || !happens(line, n)) {
-            fprintf(stderr, "line %lu: %s\n", count, found == LONG_LINE ? "too long" : "no request, tick or set");
+            fprintf(stderr, "line %lu: %s\n", count, found == LONG_LINE ? "too long" : "no request, tick, set, save or restore");
             status = 1;
         }
     }

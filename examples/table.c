@@ -1,10 +1,11 @@
 /*
- * How a driver uses the reporting table: configure an attribute, ask before each report whether it is due, and mark each report
- * that was sent. Every answer is checked; examples/run compares what is printed with table.expected.
+ * How a driver uses the reporting table: configure an attribute, ask before each report whether it is due, mark each report that was sent, and
+ * save what is configured, so that it is there again after a power cut. Every answer is checked; examples/run compares what is printed with table.expected.
  */
 #include <inttypes.h>
 #include <stdio.h>
 #include <stdlib.h>
+#include <string.h>
 
 #include "hingedrift.h"
 
@@ -35,9 +36,10 @@ static void ask(uint32_t now, int64_t value, int expected)
 
 int main(void)
 {
-    uint8_t accepted, found;
+    uint8_t saved[HD_SAVED_BYTES], accepted, found;
     uint16_t minimum, maximum;
     uint64_t change;
+    size_t used;
 
     expect(hd_table_new(table, sizeof table) == HD_OK, "no new table");
     printf("new table: %u of 16 configured\n", table[0]);
@@ -62,6 +64,16 @@ int main(void)
     ask(159, -200, 0);  /* not moved */
     ask(160, -200, 1);  /* the maximum */
     ask(90, 0, 0);      /* the clock went back: no time has passed */
+
+    /* What goes to flash tells what is configured, and no last report. RAM holds anything after a power cut; here a count that no table has. */
+    expect(hd_save(table, sizeof table, saved, sizeof saved, &used) == HD_OK, "save was refused");
+    printf("saved: %u bytes\n", (unsigned)used);
+    memset(table, 0xa5, sizeof table);
+    expect(hd_restore(table, sizeof table, saved, used) == HD_OK, "restore was refused");
+    printf("restored: %u of 16 configured\n", table[0]);
+    ask(3, -200, 1);    /* configured, and not reported yet */
+    expect(hd_mark(table, sizeof table, CLUSTER, ATTRIBUTE, 3, -200) == HD_OK, "mark was refused");
+    ask(12, 0, 0);      /* the minimum is 10 again */
 
     expect(hd_clear(table, sizeof table, CLUSTER, ATTRIBUTE) == HD_OK, "clear was refused");
     printf("cleared: %u of 16 configured\n", table[0]);

@@ -10,7 +10,7 @@
  * Every function returns one of the numbers below. A refusal, any number but HD_OK, writes 0 through every pointer to a result and
  * zeros to the whole reply buffer. Store and table are then as they were, with three exceptions of hd_handle_request: after HD_RECORD_CUT
  * what the earlier records did stays done, after HD_TOO_LONG what the records up to there did, and after HD_NOTHING_TO_SEND all that the
- * command did.
+ * command did; and one of hd_restore, which leaves an empty table after HD_NOT_A_SAVED_FORM.
  *
  * No pointer may be null, also not one that is lent with length 0; otherwise a length of 0 may come with any pointer, one past the end of an
  * array too, since nothing is read or written there. Between the buffers and results of one call no byte may be shared: lent buffers do not
@@ -28,6 +28,9 @@ extern "C" {
 
 /* The bytes of a table. It has room for 16 attributes. */
 #define HD_TABLE_BYTES 465
+
+/* The bytes of the longest saved form of a table: one byte, and 18 for each of 16 attributes. */
+#define HD_SAVED_BYTES 289
 
 /* What a call returns: that it was done, */
 #define HD_OK 0
@@ -55,6 +58,8 @@ extern "C" {
 #define HD_EMPTY_REPORT 11
 /* An attribute to report is missing or not reportable. */
 #define HD_NOT_REPORTABLE 12
+/* The bytes are no saved form of a table, or the table is one that is not saved. */
+#define HD_NOT_A_SAVED_FORM 13
 
 /* The commands of requests, and of replies and reports: the last byte of a frame's header. */
 #define HD_READ 0x00
@@ -113,6 +118,21 @@ uint8_t hd_ask(const uint8_t *table, size_t table_len, uint16_t cluster, uint16_
  * the table is as it was.
  */
 uint8_t hd_mark(uint8_t *table, size_t table_len, uint16_t cluster, uint16_t attribute, uint32_t now, int64_t value);
+
+/*
+ * Writes the saved form of the table to the start of `saved`, zeros behind it, and its length to *saved_used: what a box keeps in flash, so that
+ * its reports outlive a power cut. It tells what is configured, and no last report; docs/TABLE.md has its layout. HD_SAVED_BYTES are enough. A
+ * table is not saved, HD_NOT_A_SAVED_FORM, if an attribute stands in it twice, or with intervals that no request can set: a maximum of ffff, a
+ * maximum of 0 with a minimum of ffff, or a maximum that is not 0 and below the minimum. The table stays as it is.
+ */
+uint8_t hd_save(const uint8_t *table, size_t table_len, uint8_t *saved, size_t saved_len, size_t *saved_used);
+
+/*
+ * Makes a table of a saved form, whatever the table's bytes were: its attributes are configured, and none is reported yet. `saved_len` is the
+ * form's own length, as hd_save gave it. Bytes that are no saved form get HD_NOT_A_SAVED_FORM and make an empty table. HD_NOT_A_TABLE where
+ * table_len is not HD_TABLE_BYTES; then the bytes are as they were.
+ */
+uint8_t hd_restore(uint8_t *table, size_t table_len, const uint8_t *saved, size_t saved_len);
 
 /*
  * Writes the number of an attribute's value to *value: Int types with their sign, every other type without one, but that a value of

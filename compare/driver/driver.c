@@ -100,6 +100,10 @@ static uint8_t answer(uint64_t function, const uint64_t *a, uint8_t *const *b, c
     case 11:
         list = b[1];
         return read_rows(b[0], len[0], list, len[1] / sizeof(struct row));
+    case 12:
+        return hd_save(b[0], len[0], b[1], len[1], &r[0].used);
+    case 13:
+        return hd_restore(b[0], len[0], b[1], len[1]);
     default:
         end("there is no such function");
         return 0;

@@ -4,7 +4,8 @@
  *     speed --frames | stack
  *
  * Arguments and return address count; what else a call of an empty function takes is subtracted. Every function is called on every row: the server's
- * with its requests, the readers with what was asked and what was said, the table's with the attributes of its store and with its asks.
+ * with its requests, the readers with what was asked and what was said, the table's with the attributes of its store and with its asks. A table is saved
+ * and restored as it stands in a row, and first a full one.
  *
  * Prints a line a function: its name, bytes, and the row and frame. Exits with 1 where one was never called, never said HD_OK or took no stack.
  */
@@ -18,6 +19,9 @@ static const struct call *call;
 static uint8_t table[HD_TABLE_BYTES];
 static const uint8_t *frame;
 static size_t frame_len, k;
+/* a saved form's bytes and how many of them are lent; */
+static uint8_t saved[HD_SAVED_BYTES];
+static size_t saved_len;
 /* their results; */
 static uint8_t reply[ROOM], b1, b2, b3, b4;
 static size_t used, records, place, length;
@@ -40,6 +44,8 @@ static volatile uint8_t said;
     F(hd_configuration, KEY, &b1, &w1, &w2, &change) \
     F(hd_ask, KEY, call->now, call->value, &b1) \
     F(hd_mark, KEY, call->now, call->value) \
+    F(hd_save, table, sizeof table, saved, saved_len, &used) \
+    F(hd_restore, table, sizeof table, saved, saved_len) \
     F(hd_number, STORE, call->attribute, &value) \
     F(hd_handle_request, STORE, row.table, sizeof row.table, call->cluster, 1, FRAME, REPLY) \
     F(hd_unsupported_cluster, &w1, 0, call->cluster, 1, FRAME, REPLY) \
@@ -156,6 +162,36 @@ static void report(void)
         read_back(reply, used);
 }
 
+/* A save and a restore, each first refused: there is no buffer, and the form's last byte is missing. */
+static void save_and_restore(void)
+{
+    saved_len = 0;
+    measure(call_hd_save);
+    saved_len = sizeof saved;
+    measure(call_hd_save);
+    if (said != HD_OK)
+        return;
+    saved_len = used - 1;
+    measure(call_hd_restore);
+    saved_len = used;
+    measure(call_hd_restore);
+}
+
+/* The same with a table of 16 entries. */
+static void full(void)
+{
+    uint16_t i;
+
+    strcpy(name, "a full table");
+    strcpy(what, "of 16 entries");
+    hd_table_new(table, sizeof table);
+    for (i = 0; i < 16; i++) {
+        hd_configure(table, sizeof table, 0x0402, i, 10, 300, 50, &b1);
+        hd_mark(table, sizeof table, 0x0402, i, 100000, -5);
+    }
+    save_and_restore();
+}
+
 /* The functions of the table with the call's attribute, as it stands in the table and, behind the clear, as a new one. */
 static void keep(void)
 {
@@ -169,6 +205,8 @@ static void keep(void)
     memcpy(table, row.table, sizeof table);
     for (i = 0; i < sizeof calls / sizeof *calls; i++)
         measure(calls[i]);
+    memcpy(table, row.table, sizeof table);
+    save_and_restore();
 }
 
 /* Each attribute of the row's store: its number, a report of it alone, and the table. */
@@ -219,6 +257,7 @@ int main(void)
     int status = 0;
 
     base = stack_of(call_empty) - sizeof(void *);
+    full();
     each_line(take);
     for (function = functions; function < functions + MANY; function++) {
         printf("%s %lu %s\n", function->name, (unsigned long)function->most, function->on);

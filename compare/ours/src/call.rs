@@ -103,6 +103,14 @@ impl Call {
         Self::new("readers", 11, &[], [closed(frame), open(rows)], NONE)
     }
 
+    pub fn save(table: &[u8], room: usize) -> Self {
+        Self::new("save", 12, &[], [closed(table), reply(room)], LONG)
+    }
+
+    pub fn restore(table: &[u8], saved: &[u8]) -> Self {
+        Self::new("restore", 13, &[], [open(table), closed(saved)], NONE)
+    }
+
     fn new<const N: usize>(
         name: &'static str,
         function: u64,

@@ -25,6 +25,11 @@ impl<'a> Body<'a> {
         self.at < self.bytes.len()
     }
 
+    /// Where the next byte stands.
+    pub fn at(&self) -> usize {
+        self.at
+    }
+
     /// All that is left.
     pub fn rest(&self) -> &'a [u8] {
         &self.bytes[self.at..]

@@ -23,7 +23,9 @@ use Rattle.reporting.specs.Entries.{acceptsL, configureL, clearL}
 use Rattle.reporting.specs.Table.{capacity, changeTold}
 use Rattle.reporting.specs.Carried.{tableIn, tableRead, readT}
 use Rattle.reporting.specs.Inside.{ChangeKept, keptAs, configureIn}
-use Rattle.reporting.specs.Wish.{Wish, toClear, toRefuse, toSet, wish, statusW, recordW}
+use Rattle.reporting.specs.declared.entry.Wish.{Wish}
+use Rattle.reporting.specs.declared.entry.Wish.the-variants.{ToClear, ToRefuse, ToSet}
+use Rattle.reporting.specs.Wish.{wish, statusW, recordW}
 use Rattle.reporting.proofs.CarriageTable.{read-is}
 use Rattle.configure.specs.Configure.{checked, setting}
 use Rattle.configure.specs.declared.settle.Deed.{Deed}
@@ -32,7 +34,7 @@ use Rattle.configure.specs.Inside.{Judges, Settles}
 -- ---- a deed, and the table's bytes
 
 -- an answer other than Done accepts nothing
-pub not-done : (a : Change) → OneOf (1 ∷ 2 ∷ []) (tagOf change.the-type a) → InsufficientSpace ≡ statusW toSet (changeTold a .accepted)
+pub not-done : (a : Change) → OneOf (1 ∷ 2 ∷ []) (tagOf change.the-type a) → InsufficientSpace ≡ statusW ToSet (changeTold a .accepted)
 not-done ChangeV.Done o = absurd (miss (1 ∷ 2 ∷ []) 0 tt o)
 not-done ChangeV.Full o = refl
 not-done (ChangeV.Refused why) o = refl
@@ -48,13 +50,13 @@ module _ (k : Key) (bs after : List ℕ) where
       let h = read-is capacity after (clearL k (tableIn bs)) e in
       record { table = h .0; is = ap (did Success) (h .1) }
 
-  pub set-settles : (g : ReportingConfig) (answer : Change) (status : Status) → status ≡ statusW toSet (changeTold answer .accepted) → keptAs answer after ≡ configureIn k g (tableIn bs)
+  pub set-settles : (g : ReportingConfig) (answer : Change) (status : Status) → status ≡ statusW ToSet (changeTold answer .accepted) → keptAs answer after ≡ configureIn k g (tableIn bs)
       → Settles (Deed.Sets k g) bs after status
   unfolding configureIn
   set-settles g answer status q e =
       let h = read-is capacity after (configureL capacity k g (tableIn bs)) (ap (λ (x : ChangeKept). x .table) e) in
       let told : changeTold answer .accepted ≡ acceptsL capacity k (tableIn bs) = ap (λ (x : ChangeKept). x .told .accepted) e ∙ told-is (acceptsL capacity k (tableIn bs)) in
-      let is : status ≡ statusW toSet (acceptsL capacity k (tableIn bs)) = q ∙ ap (statusW toSet) told in
+      let is : status ≡ statusW ToSet (acceptsL capacity k (tableIn bs)) = q ∙ ap (statusW ToSet) told in
       record { table = h .0; is = λ i. did (is i) (h .1 i) }
 
 -- ---- the deed that a configuration wishes
@@ -64,14 +66,14 @@ module _ (k : Key) (g : ReportingConfig) where
   unfolding setting
   by-wish w e l = ap (λ (v : Wish). did (statusW v (acceptsL capacity k l)) (recordW v capacity k g l)) (sym e)
 
-  pub wish-clears : wish g ≡ toClear → Judges (setting capacity k g) (Deed.Clears k)
-  wish-clears e l = by-wish toClear e l
+  pub wish-clears : wish g ≡ ToClear → Judges (setting capacity k g) (Deed.Clears k)
+  wish-clears e l = by-wish ToClear e l
 
-  pub wish-refused : wish g ≡ toRefuse → Judges (setting capacity k g) (Deed.Fails InvalidValue)
-  wish-refused e l = by-wish toRefuse e l
+  pub wish-refused : wish g ≡ ToRefuse → Judges (setting capacity k g) (Deed.Fails InvalidValue)
+  wish-refused e l = by-wish ToRefuse e l
 
-  pub wish-sets : wish g ≡ toSet → Judges (setting capacity k g) (Deed.Sets k g)
-  wish-sets e l = by-wish toSet e l
+  pub wish-sets : wish g ≡ ToSet → Judges (setting capacity k g) (Deed.Sets k g)
+  wish-sets e l = by-wish ToSet e l
 
 -- ---- the checks before it
 

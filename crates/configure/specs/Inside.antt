@@ -15,7 +15,8 @@ use Rattle.reporting.specs.declared.entry.Entry.{Entry}
 use Rattle.reporting.specs.Entries.{acceptsL, configureL, clearL, lookupL}
 use Rattle.reporting.specs.Table.{capacity}
 use Rattle.reporting.specs.Carried.{tableIn, isTable}
-use Rattle.reporting.specs.Wish.{toSet, statusW}
+use Rattle.reporting.specs.declared.entry.Wish.the-variants.{ToSet}
+use Rattle.reporting.specs.Wish.{statusW}
 use Rattle.configure.specs.declared.record.Next.{Next}
 use Rattle.configure.specs.declared.settle.Deed.{Deed}
 use Rattle.configure.specs.declared.pass.Turn.{Turn}
@@ -43,7 +44,7 @@ itemOf Next.Cut = unread
 abbrev pub deedOf : Deed → List Entry → Did (List Entry)
 deedOf (Deed.Fails why) l = did why l
 deedOf (Deed.Clears k) l = did Success (clearL k l)
-deedOf (Deed.Sets k g) l = did (statusW toSet (acceptsL capacity k l)) (configureL capacity k g l)
+deedOf (Deed.Sets k g) l = did (statusW ToSet (acceptsL capacity k l)) (configureL capacity k g l)
 
 -- it is what the definition wants, whatever the entries
 abbrev pub Judges : (List Entry → Did (List Entry)) → Deed → Type 0

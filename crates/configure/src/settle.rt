@@ -2,7 +2,8 @@
 ghost use mathlib.Core.Path.{_≡_};
 ghost use Rattle.store.specs.Contents.{nameOf, findOf};
 ghost use Rattle.reporting.specs.Table.{capacity, changeTold};
-ghost use Rattle.reporting.specs.Wish.{toSet, statusW};
+ghost use Rattle.reporting.specs.declared.entry.Wish.the-variants.{ToSet};
+ghost use Rattle.reporting.specs.Wish.{statusW};
 ghost use Rattle.configure.specs.Request.{keyFor};
 ghost use Rattle.configure.specs.Configure.{checked, setting};
 ghost use Rattle.configure.specs.Inside.{Judges};
@@ -10,9 +11,8 @@ use super::key::key_for;
 use frame::header::ZclHeader;
 use frame::status::Status;
 use reporting::entry::Key;
-use reporting::entry::MAX_INTERVAL_DISABLED;
-use reporting::entry::MIN_INTERVAL_DEFAULT;
 use reporting::entry::ReportingConfig;
+use reporting::entry::Wish;
 use reporting::table::Change;
 use store::lookup::Found;
 use store::lookup::find;
@@ -28,25 +28,15 @@ pub(crate) enum Deed {
     Sets(Key, ReportingConfig),
 }
 
-// By its intervals: maximum ffff, or maximum 0 with minimum ffff, clears; a maximum that is not 0 and below the minimum is wrong, 87.
+// By its intervals: what is cleared, what is wrong, 87, and what is set.
 fn wished(key: Key, config: ReportingConfig) -> Deed
     ensures { λ r. ⌜ Judges (setting capacity key config) r ⌝ }
 {
-    let max = config.max_interval;
-    let min = config.min_interval;
-    if max == MAX_INTERVAL_DISABLED {
-        return Deed::Clears(key);
+    match config.wish() {
+        Wish::ToClear => Deed::Clears(key),
+        Wish::ToRefuse => Deed::Fails(Status::InvalidValue),
+        Wish::ToSet => Deed::Sets(key, config),
     }
-    if max == 0 {
-        if min == MIN_INTERVAL_DEFAULT {
-            return Deed::Clears(key);
-        }
-        return Deed::Sets(key, config);
-    }
-    if max < min {
-        return Deed::Fails(Status::InvalidValue);
-    }
-    Deed::Sets(key, config)
 }
 
 // Checks a configuration against the store, and then its intervals: 86, 8c, 8d, 87.
@@ -76,7 +66,7 @@ pub(crate) fn judge(
 
 // What a configuration that was to be set came to: 89 where there was no room.
 pub(crate) fn status_of(answer: Change) -> Status
-    ensures { λ r. ⌜ r ≡ statusW toSet (changeTold answer .accepted) ⌝ }
+    ensures { λ r. ⌜ r ≡ statusW ToSet (changeTold answer .accepted) ⌝ }
 {
     let Change::Done = answer else {
         return Status::InsufficientSpace;

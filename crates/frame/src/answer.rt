@@ -17,6 +17,7 @@ pub enum Refusal {
     NotSuchAReply,
     EmptyReport,
     NotReportable,
+    NotASavedForm,
 }
 
 impl Refusal {
@@ -37,6 +38,7 @@ impl Refusal {
             Refusal::NotSuchAReply => 10,
             Refusal::EmptyReport => 11,
             Refusal::NotReportable => 12,
+            Refusal::NotASavedForm => 13,
         }
     }
 }

@@ -2,33 +2,31 @@
 use Prim.Native.Nat.{ℕ}
 use mathlib.Core.Path.{_≡_, refl, sym, ap, _∙_}
 use mathlib.Core.Bool.{Bool}
-use mathlib.Core.List.{List, []}
+use mathlib.Core.List.{List, [], _∷_}
 use lib.ListN.{length}
 use lib.IntN.{ℤ}
 use borrow.Author.Tests.{eq-eqb, ne-eqb}
+use types.Run.{OneOf, miss}
+use denote.Enum.Declared.{tagOf}
 use Rattle.types.specs.Number.{zeros}
-use Rattle.frame.specs.Reply.{padded}
 use Rattle.frame.specs.Answer.{refusalNumber}
 use Rattle.frame.specs.declared.answer.Refusal.the-variants.{NotATable}
 use Rattle.reporting.specs.declared.entry.Key.{Key}
 use Rattle.reporting.specs.declared.entry.ReportingConfig.{ReportingConfig}
 use Rattle.reporting.specs.declared.table.Change.{Change}
+use Rattle.reporting.specs.declared.table.Change.the-variants as ChangeV
 use Rattle.reporting.specs.declared.table.Report.{Report}
 use Rattle.reporting.specs.declared.table.Setting.{Setting}
-use Rattle.reporting.specs.Table.{capacity, changeTold, ReportTold, reportTold, SettingTold, settingTold}
-use Rattle.reporting.specs.Carried.{total, rowsLaid, tableSize, tableBytes, Written, written}
+use Rattle.reporting.specs.Table.{changeTold, ReportTold, reportTold, SettingTold, settingTold}
+use Rattle.reporting.specs.Carried.{Written, written}
 use Rattle.reporting.specs.Lent.{askLent, configurationLent, markLent, clearLent, ChangeLeft, leftAs, configureLent, tableNumber}
+use Rattle.reporting.proofs.table.Change as change
+use Rattle.reporting.proofs.CarriageLoops.{table-size, empty-bytes}
+use Rattle.saved.specs.Lent.{restoreLent}
 use Rattle.hingedrift.specs.Tables.{bit, left, noResult, newLeft, configureLeft, clearLeft, markLeft, askLeft, configurationBy, configurationLeft}
+use Rattle.hingedrift.specs.Saving.{restoreLeft}
 
 -- hd_table_new
-empty-bytes : tableBytes capacity [] ≡ zeros 465
-unfolding tableBytes padded total rowsLaid
-empty-bytes = refl
-
-table-size : tableSize capacity ≡ 465
-unfolding total
-table-size = refl
-
 module _ (bs : List ℕ) where
   pub new-refused : (n : ℕ) → n ≡ refusalNumber NotATable → (length bs ≡ 465 → ⊥) → left n bs noResult ≡ newLeft bs
   unfolding newLeft
@@ -56,6 +54,16 @@ pub configured-so : (bs : List ℕ) (g : ReportingConfig) {bs′ : List ℕ} {k 
     → left (changeTold a .number) bs′ (bit (changeTold a .accepted)) ≡ configureLeft bs k g
 configured-so bs g {bs′} p key e =
     ap (λ (x : ChangeLeft). left (x .told .number) (x .bytes) (bit (x .told .accepted))) (ap (λ (x : Change). leftAs x bs′) (sym e) ∙ p ∙ (λ i. configureLent (key i) g bs))
+
+-- hd_restore: by the number that its answer tells
+pub restored-so : (was form bs : List ℕ) (r : Change) → leftAs r bs ≡ restoreLent form was → (n : ℕ) → n ≡ changeTold r .number → left n bs noResult ≡ restoreLeft was form
+restored-so was form bs r p n e = ap (λ (m : ℕ). left m bs noResult) e ∙ ap (λ (x : ChangeLeft). left (x .told .number) (x .bytes) noResult) p
+
+-- an answer that is no refusal tells 0
+pub no-refusal : (a : Change) → OneOf (0 ∷ 1 ∷ []) (tagOf change.the-type a) → 0 ≡ changeTold a .number
+no-refusal ChangeV.Done o = refl
+no-refusal ChangeV.Full o = refl
+no-refusal (ChangeV.Refused why) o = absurd (miss (0 ∷ 1 ∷ []) 2 tt o)
 
 done-so : {bs : List ℕ} {x : Written} {r a : Bool} → written r bs ≡ x → r ≡ a → left (tableNumber a) bs noResult ≡ left (tableNumber (x .done)) (x .bytes) noResult
 done-so {bs} p e = ap (λ (y : Written). left (tableNumber (y .done)) (y .bytes) noResult) (ap (λ (b : Bool). written b bs) (sym e) ∙ p)

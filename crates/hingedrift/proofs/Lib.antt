@@ -12,10 +12,14 @@ pub mod Kept
 pub mod Logged
 -- a log that meets its suppositions
 pub mod LogExample
+-- one with a power cut, and demand 3 of the table read in after it
+pub mod PowerCut
 -- the number of a value, from the store to the head-end
 pub mod Through
 -- what every call of the server's functions leaves
 pub mod Leaves
+-- the saved form: what its calls leave, and both ways
+pub mod RoundTrip
 -- an undivided write is done whole or not at all
 pub mod AllOrNothing
 -- a list cut in two, and two lists in either order

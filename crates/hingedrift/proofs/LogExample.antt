@@ -34,6 +34,7 @@ use Rattle.server.specs.Claims.ServedHistory.{g}
 use Rattle.server.specs.Claims.LogExample.{configuring, crossed, told}
 use Rattle.server.proofs.LogExample as served
 use Rattle.hingedrift.specs.Tables.{newLeft}
+use Rattle.hingedrift.specs.Claims.Log.{made}
 use Rattle.hingedrift.specs.Claims.LogExample.{was, new, first, after, LogStands, LogEvents, LogSupposed}
 use Rattle.hingedrift.proofs.Logged.{demand-3-of-bytes}
 
@@ -47,7 +48,7 @@ bytes-cons : (b : ℕ) (bs : List ℕ) → b < 256 → AllBytes bs → AllBytes 
 bytes-cons b bs h k zero = h
 bytes-cons b bs h k (suc i) = k i
 
-bytes-small : (l : List ℕ) → small l ≡ true → AllBytes l
+pub bytes-small : (l : List ℕ) → small l ≡ true → AllBytes l
 bytes-small [] e = λ i. omega arith
 bytes-small (b ∷ bs) e = go (ltb b 256) refl e (λ h. bytes-small bs h)
   where
@@ -81,5 +82,5 @@ log-supposed = served.log-supposed
 pub log-promised : Promised g 59 (asksOf key told)
 log-promised =
     subst (λ (es : List Event). Promised g 59 (asksOf key es)) (log-events .1)
-    (demand-3-of-bytes was new [] first after [] key g [] 59 (log-stands .0) (log-stands .1) (log-events .0) (log-supposed .0) (log-supposed .1)
+    (demand-3-of-bytes made was new [] first after [] key g [] 59 (log-stands .0) (log-stands .1) (log-events .0) (log-supposed .0) (log-supposed .1)
     (subst (Supposed key 59) (sym (log-events .1)) (log-supposed .2)))

@@ -10,8 +10,10 @@ use Rattle.hingedrift.specs.Tables.{keyAs, configOf, Left, left, noResul
 use Rattle.server.specs.Lent.{Lent, lent}
 use Rattle.hingedrift.specs.Serving.{handed, unsupportedLeft, reportLeft, handleLeft}
 use Rattle.readers.specs.Told.{Told, told, ValueFields, SettingFields}
+use Rattle.hingedrift.specs.Saving.{saveLeft, restoreLeft}
 use Rattle.hingedrift.specs.Claims.Unique.{HdNumberOnce, HdHandleRequestOnce, HdUnsupportedClusterOnce, HdReportOnce, HdTableNewOnce, HdConfigureOnce}
 use Rattle.hingedrift.specs.Claims.Unique.{HdClearOnce, HdConfigurationOnce, HdAskOnce, HdMarkOnce}
+use Rattle.hingedrift.specs.Claims.Unique.{HdSaveOnce, HdRestoreOnce}
 use Rattle.hingedrift.specs.Claims.Unique.{HdReadCheckOnce, HdReadRecordOnce, HdWriteCheckOnce, HdWriteRecordOnce, HdConfigureCheckOnce, HdConfigureRecordOnce}
 use Rattle.hingedrift.specs.Claims.Unique.{HdConfigurationCheckOnce, HdConfigurationRecordOnce, HdDiscoverCheckOnce, HdDiscoverRecordOnce}
 use Rattle.hingedrift.specs.Claims.Unique.{HdDefaultResponseOnce, HdReportCheckOnce, HdReportRecordOnce}
@@ -85,6 +87,14 @@ hd-ask-once table cluster attribute now value r q x y e f = let w = one-outcome 
 
 pub hd-mark-once : HdMarkOnce
 hd-mark-once table cluster attribute now value r q bs cs e f = one-table (markLeft table (keyAs cluster attribute) now value) r q bs cs e f
+
+-- src/saving.rt
+
+pub hd-save-once : HdSaveOnce
+hd-save-once table saved r q m n x y e f = one-reply (saveLeft table (length saved)) r q m n x y e f
+
+pub hd-restore-once : HdRestoreOnce
+hd-restore-once table saved r q bs cs e f = one-table (restoreLeft table saved) r q bs cs e f
 
 -- src/reading.rt
 

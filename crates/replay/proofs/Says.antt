@@ -33,7 +33,7 @@ use Rattle.frame.specs.declared.reply.Put.{Put}
 use Rattle.frame.specs.declared.reply.Put.the-variants.{At, Full}
 use Rattle.frame.specs.declared.status.Status.{Status}
 use Rattle.frame.specs.declared.answer.Refusal.{Refusal}
-use Rattle.frame.specs.declared.answer.Refusal.the-variants.{OtherCluster, HeaderShort, ReservedFrameType, RecordCut, ReplyTooLong, NothingToSend, NotAStore, NotATable, NoNumber, NotSuchAReply, EmptyReport, NotReportable}
+use Rattle.frame.specs.declared.answer.Refusal.the-variants.{OtherCluster, HeaderShort, ReservedFrameType, RecordCut, ReplyTooLong, NothingToSend, NotAStore, NotATable, NoNumber, NotSuchAReply, EmptyReport, NotReportable, NotASavedForm}
 use Rattle.frame.specs.declared.header.ZclHeader.{ZclHeader}
 use Rattle.frame.specs.declared.header.HeaderRead.the-variants.{Header, Short}
 use Rattle.frame.proofs.Buffer.{put-ways}
@@ -143,6 +143,7 @@ some-number NoNumber = refl
 some-number NotSuchAReply = refl
 some-number EmptyReport = refl
 some-number NotReportable = refl
+some-number NotASavedForm = refl
 
 module _ (held : List ℕ) where
   pub number-refused : (why : Refusal) (n : ℕ) → n ≡ refusalNumber why → Is (same (n ∷ []) held) ≡ agreement (some (numberSays (telling (Numbered.Refused why)))) held

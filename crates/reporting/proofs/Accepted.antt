@@ -12,15 +12,17 @@ use Rattle.reporting.specs.declared.entry.Key.{Key}
 use Rattle.reporting.specs.declared.entry.ReportingConfig.{ReportingConfig}
 use Rattle.reporting.specs.declared.entry.Entry.{Entry}
 use Rattle.reporting.specs.Entries.{acceptsL}
-use Rattle.reporting.specs.Wish.{Wish, toClear, toRefuse, toSet, wish, statusW, recordStatus}
+use Rattle.reporting.specs.declared.entry.Wish.{Wish}
+use Rattle.reporting.specs.declared.entry.Wish.the-variants.{ToClear, ToRefuse, ToSet}
+use Rattle.reporting.specs.Wish.{wish, statusW, recordStatus}
 use Rattle.reporting.specs.Demand3.{AcceptedRecord}
 
 IsSets : Wish → Type 0
-IsSets toClear = ⊥
-IsSets toRefuse = ⊥
-IsSets toSet = Unit
+IsSets ToClear = ⊥
+IsSets ToRefuse = ⊥
+IsSets ToSet = Unit
 
-rule-cases : (a b c d : Bool) → cond (a || (b && c)) toClear (cond (not b && d) toRefuse toSet) ≡ toSet → (a ≡ false) × (b ≡ false → d ≡ false)
+rule-cases : (a b c d : Bool) → cond (a || (b && c)) ToClear (cond (not b && d) ToRefuse ToSet) ≡ ToSet → (a ≡ false) × (b ≡ false → d ≡ false)
 unfolding IsSets
 rule-cases true b c d h = absurd (subst IsSets (sym h) tt)
 rule-cases false true true d h = absurd (subst IsSets (sym h) tt)
@@ -40,13 +42,13 @@ module _ (g : ReportingConfig) (acc : AcceptedRecord g) where
 
 -- a record that gets SUCCESS, with a maximum from 1 to 65534, sets, and there is room for it
 pub record-accepted : (limit : ℕ) (k : Key) (g : ReportingConfig) (l : List Entry) → recordStatus limit k g l ≡ Success → 1 ≤ g .«max_interval» → g .«max_interval» ≤ 65534
-    → (wish g ≡ toSet) × (acceptsL limit k l ≡ true)
+    → (wish g ≡ ToSet) × (acceptsL limit k l ≡ true)
 record-accepted limit k g l st low high = go (ltb (g .«max_interval») (g .«min_interval»)) refl (acceptsL limit k l) refl st
   where
-    is : wish g ≡ cond (ltb (g .«max_interval») (g .«min_interval»)) toRefuse toSet
+    is : wish g ≡ cond (ltb (g .«max_interval») (g .«min_interval»)) ToRefuse ToSet
     is = simp (ne-eqb (g .«max_interval») 0xffff (λ z. omega (arith, z)), ne-eqb (g .«max_interval») 0 (λ z. omega (arith, z)))
 
-    go : (b : Bool) → ltb (g .«max_interval») (g .«min_interval») ≡ b → (a : Bool) → acceptsL limit k l ≡ a → statusW (wish g) a ≡ Success → (wish g ≡ toSet) × (a ≡ true)
-    go true e a f s = absurd (let z : 0x87 ≡ 0 = ap statusCode (sym (ap (λ w. statusW w a) (is ∙ ap (λ b. cond b toRefuse toSet) e)) ∙ s) in omega (arith, z))
-    go false e true f s = (is ∙ ap (λ b. cond b toRefuse toSet) e, refl)
-    go false e false f s = absurd (let z : 0x89 ≡ 0 = ap statusCode (sym (ap (λ w. statusW w false) (is ∙ ap (λ b. cond b toRefuse toSet) e)) ∙ s) in omega (arith, z))
+    go : (b : Bool) → ltb (g .«max_interval») (g .«min_interval») ≡ b → (a : Bool) → acceptsL limit k l ≡ a → statusW (wish g) a ≡ Success → (wish g ≡ ToSet) × (a ≡ true)
+    go true e a f s = absurd (let z : 0x87 ≡ 0 = ap statusCode (sym (ap (λ w. statusW w a) (is ∙ ap (λ b. cond b ToRefuse ToSet) e)) ∙ s) in omega (arith, z))
+    go false e true f s = (is ∙ ap (λ b. cond b ToRefuse ToSet) e, refl)
+    go false e false f s = absurd (let z : 0x89 ≡ 0 = ap statusCode (sym (ap (λ w. statusW w false) (is ∙ ap (λ b. cond b ToRefuse ToSet) e)) ∙ s) in omega (arith, z))

@@ -43,11 +43,11 @@ module _ (z : ℤ) (f : SFits w64 z) where
 -- ---- a slot at a place
 
 -- numbers one behind the other, by their places
-abbrev numbersAt : List ℕ → List ℕ → ℕ → List ℕ
+abbrev pub numbersAt : List ℕ → List ℕ → ℕ → List ℕ
 numbersAt [] bs at = []
 numbersAt (w ∷ ws) bs at = unsignedAt bs at w ∷ numbersAt ws bs (at + w)
 
-numbers-at : (ws bs : List ℕ) (at : ℕ) → numbersIn ws (drop at bs) ≡ numbersAt ws bs at
+pub numbers-at : (ws bs : List ℕ) (at : ℕ) → numbersIn ws (drop at bs) ≡ numbersAt ws bs at
 unfolding numbersIn unsignedAt
 numbers-at [] bs at = refl
 numbers-at (w ∷ ws) bs at =
@@ -106,11 +106,11 @@ module _ (bs : List ℕ) (at : ℕ) where
   entry-at = ap entryOf slot-numbers ∙ rw (one-byte bs (at + 16))
 
 -- numbers written one behind the other
-abbrev puts : List ℕ → List ℕ → List ℕ → ℕ → List ℕ
+abbrev pub puts : List ℕ → List ℕ → List ℕ → ℕ → List ℕ
 puts [] ns l at = l
 puts (w ∷ ws) ns l at = puts ws (drop 1 ns) (sets l at (bytesOf w (getD ns 0 0))) (at + w)
 
-puts-laid : (ws ns l : List ℕ) (at : ℕ) → puts ws ns l at ≡ sets l at (laid ws ns)
+pub puts-laid : (ws ns l : List ℕ) (at : ℕ) → puts ws ns l at ≡ sets l at (laid ws ns)
 unfolding laid
 puts-laid [] ns l at = refl
 puts-laid (w ∷ ws) ns l at =

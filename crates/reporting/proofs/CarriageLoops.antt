@@ -29,26 +29,40 @@ pub table-size : tableSize 16 ≡ 465
 unfolding total
 table-size = refl
 
+-- an empty table is all zeros
+pub empty-bytes : tableBytes 16 [] ≡ zeros 465
+unfolding tableBytes total padded rowsLaid
+empty-bytes = refl
+
+pub empty-length : length (tableBytes 16 []) ≡ 465
+empty-length = ap length empty-bytes ∙ length-replicate {A = ℕ} 465 0
+
 -- ---- the slots, one after the other
 
 -- the slots from the i-th on
 abbrev pub slotsFrom : List ℕ → ℕ → ℕ → List (List ℕ)
 slotsFrom bs count i = rowsIn widths (count - i) (drop (1 + 29 * i) bs)
 
+-- of the rows from number i on, the first of which stands at `at`, one and the others; and none of none
+module _ (ws bs : List ℕ) (count i at : ℕ) where
+  pub rows-more : (next : ℕ) → i < count → at + total ws ≡ next → rowsIn ws (count - i) (drop at bs) ≡ numbersIn ws (drop at bs) ∷ rowsIn ws (count - (i + 1)) (drop next bs)
+  unfolding rowsIn
+  rows-more next h p =
+      let n : count - i ≡ suc (count - (i + 1)) = omega arith in
+      ap (λ (k : ℕ). rowsIn ws k (drop at bs)) n
+      ∙ ap (λ (l : List ℕ). numbersIn ws (drop at bs) ∷ rowsIn ws (count - (i + 1)) l) (drop-drop (total ws) at bs ∙ ap (λ (k : ℕ). drop k bs) p)
+
+  pub rows-end : count ≤ i → rowsIn ws (count - i) (drop at bs) ≡ []
+  unfolding rowsIn
+  rows-end h =
+      let n : count - i ≡ 0 = omega arith in
+      ap (λ (k : ℕ). rowsIn ws k (drop at bs)) n
+
 pub slots-more : (bs : List ℕ) (count i : ℕ) → i < count → slotsFrom bs count i ≡ numbersIn widths (drop (1 + 29 * i) bs) ∷ slotsFrom bs count (i + 1)
-unfolding rowsIn
-slots-more bs count i h =
-    let n : count - i ≡ suc (count - (i + 1)) = omega arith in
-    let p : 1 + 29 * i + total widths ≡ 1 + 29 * (i + 1) = omega (arith, slot-size) in
-    ap (λ (k : ℕ). rowsIn widths k (drop (1 + 29 * i) bs)) n
-    ∙ ap (λ (l : List ℕ). numbersIn widths (drop (1 + 29 * i) bs) ∷ rowsIn widths (count - (i + 1)) l)
-    (drop-drop (total widths) (1 + 29 * i) bs ∙ ap (λ (k : ℕ). drop k bs) p)
+slots-more bs count i h = rows-more widths bs count i (1 + 29 * i) (1 + 29 * (i + 1)) h (omega (arith, slot-size))
 
 pub slots-end : (bs : List ℕ) (count i : ℕ) → count ≤ i → slotsFrom bs count i ≡ []
-unfolding rowsIn
-slots-end bs count i h =
-    let n : count - i ≡ 0 = omega arith in
-    ap (λ (k : ℕ). rowsIn widths k (drop (1 + 29 * i) bs)) n
+slots-end bs count i h = rows-end widths bs count i (1 + 29 * i) h
 
 -- what is looked at after i slots: they are in form, so that the others decide
 abbrev pub FormSoFar : List ℕ → ℕ → ℕ → Type 0
@@ -175,12 +189,17 @@ filled capacity count es i = padded capacity (count ∷ rowsLaid widths (map num
 pub cleared-length : (bs l : List ℕ) → length bs ≡ 465 → l ≡ zeros (length bs) → length l ≡ 465
 cleared-length bs l n z = ap length z ∙ length-replicate (length bs) 0 ∙ n
 
-filled-none : (capacity count : ℕ) (es : List Entry) → 0 < capacity → set (zeros capacity) 0 count ≡ filled capacity count es 0
-unfolding filled padded rowsLaid
-filled-none zero count es h = absurd (omega arith)
-filled-none (suc capacity) count es h =
-    let e : capacity ≡ suc capacity - 1 = omega arith in
+-- a count alone, in a buffer of zeros
+pub count-first : (room count : ℕ) → 0 < room → set (zeros room) 0 count ≡ padded room (count ∷ [])
+unfolding padded
+count-first zero count h = absurd (omega arith)
+count-first (suc room) count h =
+    let e : room ≡ suc room - 1 = omega arith in
     ap (λ (n : ℕ). count ∷ zeros n) e
+
+filled-none : (capacity count : ℕ) (es : List Entry) → 0 < capacity → set (zeros capacity) 0 count ≡ filled capacity count es 0
+unfolding filled rowsLaid
+filled-none capacity count es h = count-first capacity count h
 
 filled-more : (capacity count : ℕ) (es : List Entry) (i : ℕ) (d : Entry) → i < length es → 1 + 29 * (i + 1) ≤ capacity
     → sets (filled capacity count es i) (1 + 29 * i) (laid widths (numbersOf (getD es i d))) ≡ filled capacity count es (i + 1)

@@ -13,10 +13,14 @@ use Rattle.reporting.specs.declared.entry.Key.{Key}
 use Rattle.reporting.specs.declared.entry.ReportingConfig.{ReportingConfig}
 use Rattle.reporting.specs.declared.entry.Entry.{Entry}
 use Rattle.reporting.specs.Entries.{same, matches, fresh, replaced, findL, lookupL, Distinct, updateL, acceptsL, configureL, markE, markL}
-use Rattle.reporting.specs.Wish.{Wish, toClear, toRefuse, toSet, wish, statusW, recordW}
-use Rattle.reporting.specs.Claims.Events.{Event, configured, cleared, asked, marked, keyOf, after, run, Honest, Leads, CallsAreEvents, HistoriesAreEvents, eventsW, ifSuccess, configRecord, configure, clear, ask, mark, configuration, len, call, events, calls, history}
+use Rattle.reporting.specs.declared.entry.Wish.{Wish}
+use Rattle.reporting.specs.declared.entry.Wish.the-variants.{ToClear, ToRefuse, ToSet}
+use Rattle.reporting.specs.Wish.{wish, statusW, recordW}
+use Rattle.reporting.specs.Claims.Events.{Event, configured, cleared, asked, marked, keyOf, after, run, Honest, Leads, CallsAreEvents, HistoriesAreEvents, eventsW, ifSuccess, configRecord, configure, clear, ask, mark, configuration, len, restore, call, events, calls, history}
 use Rattle.reporting.specs.Claims.Sentences.{KeysStayDistinct, KeysNeverTwice}
 use Rattle.reporting.proofs.Places.{lookup-none, lookup-at}
+use Rattle.reporting.proofs.Runs.{run-append, honest-append}
+use Rattle.reporting.proofs.Restored.{restore-is}
 use Rattle.reporting.proofs.Others.{key-is, key-other, other-not, update-other, update-own, update-distinct, append-other, append-own, append-distinct, clear-other, clear-distinct}
 
 -- ---- one event
@@ -73,19 +77,6 @@ pub run-distinct : (limit : ℕ) (es : List Event) (l : List Entry) → Distinct
 run-distinct limit [] l d = d
 run-distinct limit (e ∷ es) l d = run-distinct limit es (after limit e l) (after-distinct limit e l d)
 
-pub run-append : (limit : ℕ) (es fs : List Event) (l : List Entry) → run limit (es ++ fs) l ≡ run limit fs (run limit es l)
-run-append limit [] fs l = refl
-run-append limit (e ∷ es) fs l = run-append limit es fs (after limit e l)
-
--- what comes after honest events is honest from the table that they leave
-pub honest-rest : (limit : ℕ) (es fs : List Event) (l : List Entry) → Honest limit (es ++ fs) l → Honest limit fs (run limit es l)
-honest-rest limit [] fs l h = h
-honest-rest limit (e ∷ es) fs l h = honest-rest limit es fs (after limit e l) (h .1)
-
-pub honest-append : (limit : ℕ) (es fs : List Event) (l : List Entry) → Honest limit es l → Honest limit fs (run limit es l) → Honest limit (es ++ fs) l
-honest-append limit [] fs l h k = k
-honest-append limit (e ∷ es) fs l h k = (h .0, honest-append limit es fs (after limit e l) (h .1) k)
-
 -- ---- calls
 
 -- a configuration that is refused leaves the table
@@ -104,14 +95,14 @@ configure-is limit k g l = go (acceptsL limit k l) refl
     go true e = record { honest = (e, tt); table = refl }
     go false e = record { honest = tt; table = sym (configure-refused limit k g l e) }
 
-by-status : (accepted : Bool) (es : List Event) → cond accepted es [] ≡ ifSuccess (statusW toSet accepted) es
+by-status : (accepted : Bool) (es : List Event) → cond accepted es [] ≡ ifSuccess (statusW ToSet accepted) es
 by-status true es = refl
 by-status false es = refl
 
 record-is : (limit : ℕ) (w : Wish) (k : Key) (g : ReportingConfig) (l : List Entry) → Leads limit (ifSuccess (statusW w (acceptsL limit k l)) (eventsW w k g)) l (recordW w limit k g l)
-record-is limit toClear k g l = record { honest = (tt, tt); table = refl }
-record-is limit toRefuse k g l = record { honest = tt; table = refl }
-record-is limit toSet k g l = subst (λ (es : List Event). Leads limit es l (configureL limit k g l)) (by-status (acceptsL limit k l) (configured k g ∷ [])) (configure-is limit k g l)
+record-is limit ToClear k g l = record { honest = (tt, tt); table = refl }
+record-is limit ToRefuse k g l = record { honest = tt; table = refl }
+record-is limit ToSet k g l = subst (λ (es : List Event). Leads limit es l (configureL limit k g l)) (by-status (acceptsL limit k l) (configured k g ∷ [])) (configure-is limit k g l)
 
 -- A call is its events: they are honest, and the table after the call is their fold.
 pub call-is : CallsAreEvents
@@ -122,6 +113,7 @@ call-is limit (ask k now v) l = record { honest = (refl, tt); table = refl }
 call-is limit (mark k now v) l = record { honest = (tt, tt); table = refl }
 call-is limit (configuration k) l = record { honest = tt; table = refl }
 call-is limit len l = record { honest = tt; table = refl }
+call-is limit (restore come) l = restore-is limit come l
 
 pub leads-then : (limit : ℕ) (es fs : List Event) (l m n : List Entry) → Leads limit es l m → Leads limit fs m n → Leads limit (es ++ fs) l n
 leads-then limit es fs l m n a b =

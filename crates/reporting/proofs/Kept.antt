@@ -34,7 +34,7 @@ module _ (P : Entry → Type 0) where
       go true ih = (c e (h .0), h .1)
       go false ih = (h .0, ih)
 
-  append-all : (l : List Entry) (e : Entry) → All P l → P e → All P (l ++ (e ∷ []))
+  pub append-all : (l : List Entry) (e : Entry) → All P l → P e → All P (l ++ (e ∷ []))
   append-all [] e h c = (c, tt)
   append-all (x ∷ l) e h c = (h .0, append-all l e (h .1) c)
 

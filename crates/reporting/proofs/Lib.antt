@@ -4,6 +4,9 @@ pub mod Due
 pub mod Places
 pub mod Slots
 pub mod Others
+pub mod Runs
+-- entries read in from a saved form, as events
+pub mod Restored
 pub mod Histories
 pub mod Accepted
 pub mod Follows

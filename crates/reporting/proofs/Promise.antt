@@ -17,7 +17,8 @@ use Rattle.reporting.specs.Wish.{recordW}
 use Rattle.reporting.specs.Claims.Events.{configured, marked, run, Call, configRecord, call, calls, history}
 use Rattle.reporting.specs.Demand3.{Ask, asksOf, Paced, owed, MarkedAsks, AcceptedRecord, AllNo, Since, Moved, Promised, Demand3Standing, Demand3From, Demand3, Demand3OfCalls}
 use Rattle.reporting.proofs.Due.{ripe-early, ripe-late, ripe-between}
-use Rattle.reporting.proofs.Histories.{configure-own, configure-distinct, run-distinct, honest-rest, history-is}
+use Rattle.reporting.proofs.Runs.{honest-rest}
+use Rattle.reporting.proofs.Histories.{configure-own, configure-distinct, run-distinct, history-is}
 use Rattle.reporting.proofs.Accepted.{ordered, record-accepted}
 use Rattle.reporting.proofs.Follows.{carry, markAll, Follows, paced-after, marked-after, marked-head, Unmarked, AllRipe, onlyMark, timed, untimed}
 

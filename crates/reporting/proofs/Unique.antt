@@ -26,7 +26,7 @@ use Rattle.reporting.specs.Entries.{configureL, clearL}
 use Rattle.reporting.specs.Carried.{tableIn, tableBytes, isTable, tableRead, Reading, readT, Written, written, writeT}
 use Rattle.reporting.specs.Lent.{askLent, configurationLent, markLent, clearLent, ChangeLeft}
 use Rattle.reporting.specs.Inside.{ChangeKept, configureIn}
-use Rattle.reporting.specs.Claims.Unique.{IsTableOnce, ReadTableOnce, WriteTableOnce, DistanceOnce, IsOnce, MovedByOnce, RipeOnce, FreshOnce, IsOfOnce, EntryMarkOnce, ConfigurationInOnce, ConfigureInOnce, ClearInOnce, DueOnce, AskLentOnce, ConfigurationLentOnce, MarkLentOnce, ClearLentOnce, ConfigureLentOnce, NewOnce, ConfigureOnce, ClearOnce, ReportingTableMarkOnce, ConfigurationOnce, AskOnce, LenOnce}
+use Rattle.reporting.specs.Claims.Unique.{IsTableOnce, ReadTableOnce, WriteTableOnce, ReadSlotOnce, WriteSlotOnce, DistanceOnce, IsOnce, WishOnce, MovedByOnce, RipeOnce, FreshOnce, IsOfOnce, EntryMarkOnce, ConfigurationInOnce, ConfigureInOnce, ClearInOnce, DueOnce, FindSlotOnce, AskLentOnce, ConfigurationLentOnce, MarkLentOnce, ClearLentOnce, ConfigureLentOnce, U16InOnce, U64InOnce, PutU16InOnce, PutU64InOnce, NewOnce, ConfigureOnce, ClearOnce, ReportingTableMarkOnce, ConfigurationOnce, AskOnce, LenOnce}
 use Rattle.reporting.proofs.CarriageTable.{bytes-back}
 use Rattle.reporting.proofs.Lending.{seen-bytes}
 
@@ -148,6 +148,12 @@ write-table-once bytes table r q x y e f = one-written (writeT 16 table bytes) r
 
 -- src/distance.rt
 
+pub read-slot-once : ReadSlotOnce
+read-slot-once bytes at r q e f = e ∙ sym f
+
+pub write-slot-once : WriteSlotOnce
+write-slot-once bytes at e x y p q = p ∙ sym q
+
 pub distance-once : DistanceOnce
 distance-once a b r q e f = e ∙ sym f
 
@@ -155,6 +161,9 @@ distance-once a b r q e f = e ∙ sym f
 
 pub is-once : IsOnce
 is-once self other r q e f = e ∙ sym f
+
+pub wish-once : WishOnce
+wish-once self r q e f = e ∙ sym f
 
 pub moved-by-once : MovedByOnce
 moved-by-once self from to r q e f = e ∙ sym f
@@ -175,6 +184,9 @@ pub due-once : DueOnce
 due-once self now value r q e f = e ∙ sym f
 
 -- src/lent.rt
+
+pub find-slot-once : FindSlotOnce
+find-slot-once bytes key r q e f = e ∙ sym f
 
 pub ask-lent-once : AskLentOnce
 ask-lent-once bytes key now value r q e f = one-report (askLent key now value bytes) r q e f
@@ -215,6 +227,18 @@ pub clear-in-once : ClearInOnce
 clear-in-once bytes key x y a b e f = one-seen (clearL key (tableIn bytes)) x y a b e f
 
 -- src/table.rt
+
+pub u16-in-once : U16InOnce
+u16-in-once bytes at r q e f = e ∙ sym f
+
+pub u64-in-once : U64InOnce
+u64-in-once bytes at r q e f = e ∙ sym f
+
+pub put-u16-in-once : PutU16InOnce
+put-u16-in-once bytes at n x y e f = e ∙ sym f
+
+pub put-u64-in-once : PutU64InOnce
+put-u64-in-once bytes at n x y e f = e ∙ sym f
 
 pub new-once : NewOnce
 new-once r q e f = alike r q (e ∙ sym f)

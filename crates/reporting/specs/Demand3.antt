@@ -17,7 +17,8 @@ use Rattle.reporting.specs.declared.entry.ReportingConfig.{ReportingConf
 use Rattle.reporting.specs.declared.entry.Entry.{Entry}
 use Rattle.reporting.specs.Entries.{same, lookupL, Distinct, fresh}
 use Rattle.reporting.specs.Due.{movedBy}
-use Rattle.reporting.specs.Wish.{toSet, wish, recordStatus}
+use Rattle.reporting.specs.declared.entry.Wish.the-variants.{ToSet}
+use Rattle.reporting.specs.Wish.{wish, recordStatus}
 use Rattle.reporting.specs.Claims.Events.{Event, configured, cleared, asked, marked, Honest, Call, calls, history, configRecord}
 
 -- ---- a key's asks, read from the events
@@ -55,7 +56,7 @@ asksOf k (marked j now v ∷ es) = asksOf k es
 -- neither clears (maximum ffff) nor is wrong (maximum nonzero and below minimum). A direct call takes any interval: of it this is
 -- a supposition.
 pub record AcceptedRecord (g : ReportingConfig) : Type 0 where
-  pub rule : wish g ≡ toSet
+  pub rule : wish g ≡ ToSet
   pub one : 1 ≤ g .«max_interval»
 
 -- "nothing later configures or clears it"

@@ -24,10 +24,11 @@ use types::ids::ClusterId;
 use types::number::all_zero;
 use types::number::bits_i64;
 
-pub(crate) const LIMIT: usize = 16;
+// How many entries a table has room for.
+pub const LIMIT: usize = 16;
 
 // The bytes of one entry.
-pub(crate) const SLOT: usize = 29;
+pub const SLOT: usize = 29;
 
 // The count's byte, and the slots.
 pub const TABLE_BYTES: usize = 465;
@@ -115,8 +116,8 @@ pub fn is_table(bytes: &[u8]) -> bool
     slots_in_form(bytes, count)
 }
 
-// The entry of the slot at `at`.
-pub(crate) fn read_slot(bytes: &[u8], at: usize) -> Entry
+// The entry of the slot at `at`. Public for crate `saved` alone, no entry point: the slot must be there.
+pub fn read_slot(bytes: &[u8], at: usize) -> Entry
     requires { ⌜ at + 29 ≤ length (now bytes) ⌝ }
     ensures { λ r. ⌜ r ≡ entryOf (numbersIn widths (drop at (now (bytes .entry)))) ⌝ }
 {
@@ -145,7 +146,8 @@ pub(crate) fn read_slot(bytes: &[u8], at: usize) -> Entry
 }
 
 // Writes the slot of an entry at `at`. Any entry that code holds is within the widths, as its fields are of these types.
-pub(crate) fn write_slot(bytes: &mut [u8], at: usize, e: Entry)
+// Public for crate `saved` alone, no entry point: the slot must be there.
+pub fn write_slot(bytes: &mut [u8], at: usize, e: Entry)
     requires { ⌜ at + 29 ≤ length (now bytes) ⌝ }
     ensures { λ _. ⌜ now (bytes .exit) ≡ sets (now (bytes .entry)) at (laid widths (numbersOf e)) ⌝ }
     ensures { λ _. ⌜ Clean (quieted e) ⌝ }

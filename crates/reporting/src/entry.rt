@@ -3,6 +3,7 @@ ghost use mathlib.Core.Path.{_≡_};
 ghost use Prim.Native.Nat.{_-_};
 ghost use Rattle.reporting.specs.Entries.{same, matches, fresh, markE};
 ghost use Rattle.reporting.specs.Due.{movedBy, ripe, dueE};
+ghost use Rattle.reporting.specs.Wish.{wish};
 use super::distance::distance;
 use types::ids::AttributeId;
 use types::ids::ClusterId;
@@ -24,6 +25,13 @@ pub struct ReportingConfig {
     pub min_interval: u16,
     pub max_interval: u16,
     pub reportable_change: u64,
+}
+
+// What a configuration asks for by its intervals: that the key's entry is cleared, that nothing is done, or that the entry is set.
+pub enum Wish {
+    ToClear,
+    ToRefuse,
+    ToSet,
 }
 
 // `marked` says whether there was a report since it was configured; else time and value are 0.
@@ -51,6 +59,27 @@ fn elapsed(then: u32, now: u32) -> u32
 }
 
 impl ReportingConfig {
+    // A maximum of ffff, or 0 with a minimum of ffff, clears; a maximum that is not 0 and below the minimum is wrong.
+    pub fn wish(self) -> Wish
+        ensures { λ r. ⌜ r ≡ wish self ⌝ }
+    {
+        let max = self.max_interval;
+        let min = self.min_interval;
+        if max == MAX_INTERVAL_DISABLED {
+            return Wish::ToClear;
+        }
+        if max == 0 {
+            if min == MIN_INTERVAL_DEFAULT {
+                return Wish::ToClear;
+            }
+            return Wish::ToSet;
+        }
+        if max < min {
+            return Wish::ToRefuse;
+        }
+        Wish::ToSet
+    }
+
     // How far a value has moved, for an attribute that is configured so.
     pub fn moved_by(self, from: i64, to: i64) -> u64
         ensures { λ r. ⌜ r ≡ movedBy self from to ⌝ }

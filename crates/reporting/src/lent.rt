@@ -37,8 +37,9 @@ fn slot_is_of(bytes: &[u8], at: usize, key: Key) -> bool
     attribute == key.attribute.0 && cluster == key.cluster.0
 }
 
-// The place of the key's first slot, or the count where there is none. Not public: the bytes must be a table.
-fn find_slot(bytes: &[u8], key: Key) -> usize
+// The place of the key's first slot, or the count where there is none. Public for crate `saved` alone, no entry point: the bytes must be
+// a table.
+pub fn find_slot(bytes: &[u8], key: Key) -> usize
     requires { ⌜ isTable capacity (now bytes) ≡ true ⌝ }
     ensures { λ r. ⌜ r ≡ findL key (tableIn (now (bytes .entry))) ⌝ }
 {

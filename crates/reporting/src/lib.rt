@@ -4,5 +4,5 @@ pub mod carried;
 pub mod distance;
 pub mod entry;
 pub mod lent;
-mod numbers;
+pub mod numbers;
 pub mod table;

@@ -1,5 +1,5 @@
-// Numbers of two, four and eight bytes at a place, the low byte first. None of these functions is public: all bytes must be there, so
-// that nothing is tested, and the compiler makes one load or store of a number.
+// Numbers of two, four and eight bytes at a place, the low byte first. All bytes must be there, so that nothing is tested, and
+// the compiler makes one load or store of a number. No entry points: those that are public are so for crate `saved` alone.
 ghost use mathlib.Core.Path.{_≡_};
 ghost use Prim.Native.Nat.{_+_, _≤_};
 ghost use lib.ListN.{length};
@@ -7,7 +7,7 @@ ghost use lib.Seq.{sets};
 ghost use Rattle.types.specs.Number.{bytesOf, unsignedAt};
 
 // The two-byte number at `at`.
-pub(crate) fn u16_in(bytes: &[u8], at: usize) -> u16
+pub fn u16_in(bytes: &[u8], at: usize) -> u16
     requires { ⌜ at + 2 ≤ length (now bytes) ⌝ }
     ensures { λ r. ⌜ r ≡ unsignedAt (now (bytes .entry)) at 2 ⌝ }
 {
@@ -27,7 +27,7 @@ pub(crate) fn u32_in(bytes: &[u8], at: usize) -> u32
 }
 
 // The eight-byte number at `at`.
-pub(crate) fn u64_in(bytes: &[u8], at: usize) -> u64
+pub fn u64_in(bytes: &[u8], at: usize) -> u64
     requires { ⌜ at + 8 ≤ length (now bytes) ⌝ }
     ensures { λ r. ⌜ r ≡ unsignedAt (now (bytes .entry)) at 8 ⌝ }
 {
@@ -37,7 +37,7 @@ pub(crate) fn u64_in(bytes: &[u8], at: usize) -> u64
 }
 
 // Writes the two bytes of n at `at`.
-pub(crate) fn put_u16_in(bytes: &mut [u8], at: usize, n: u16)
+pub fn put_u16_in(bytes: &mut [u8], at: usize, n: u16)
     requires { ⌜ at + 2 ≤ length (now bytes) ⌝ }
     ensures { λ _. ⌜ now (bytes .exit) ≡ sets (now (bytes .entry)) at (bytesOf 2 n) ⌝ }
 {
@@ -55,7 +55,7 @@ pub(crate) fn put_u32_in(bytes: &mut [u8], at: usize, n: u32)
 }
 
 // Writes the eight bytes of n at `at`.
-pub(crate) fn put_u64_in(bytes: &mut [u8], at: usize, n: u64)
+pub fn put_u64_in(bytes: &mut [u8], at: usize, n: u64)
     requires { ⌜ at + 8 ≤ length (now bytes) ⌝ }
     ensures { λ _. ⌜ now (bytes .exit) ≡ sets (now (bytes .entry)) at (bytesOf 8 n) ⌝ }
 {

@@ -1,24 +1,27 @@
 -- A table has one saved form, and a saved form one table (specs/Claims/RoundTrip.antt). Assumes nothing.
 use Prim.Native.Nat.{ℕ, zero, suc, _+_, _*_, _≤_, _<_, _^_}
 use mathlib.Core.Path.{_≡_, refl, sym, ap, _∙_}
-use mathlib.Core.Bool.{Bool, true, cond, _&&_}
+use mathlib.Core.Bool.{Bool, true, _&&_}
 use mathlib.Core.List.{List, [], _∷_, _++_, map, append-nil}
 use native.Mathlib.Omega.{arith}
-use lib.ListN.{length, getD, take, drop, length-append, length-drop, length-map, take-append-drop}
+use lib.ListN.{length, getD, take, drop, length-drop, length-map, take-append-drop}
 use lib.Seq.{drop-at, drop-drop, take-all}
 use lib.Dec.{leb, eqb}
 use borrow.Author.Tests.{le-leb, eqb-true, eq-eqb}
 use Rattle.types.specs.Number.{AllBytes}
 use Rattle.types.proofs.Numbers.{bytes-drop}
-use Rattle.reporting.specs.declared.entry.Key.{Key}
 use Rattle.reporting.specs.declared.entry.Entry.{Entry}
-use Rattle.reporting.specs.Entries.{matches, findL}
+use Rattle.reporting.specs.Entries.{unreported}
 use Rattle.reporting.specs.Wish.{wish}
 use Rattle.reporting.specs.Carried.{total, numbersIn, rowsLaid, rowsIn, countIn}
 use Rattle.reporting.specs.Claims.RoundTrip.{AllClean}
-use Rattle.reporting.proofs.Carriage.{AllWithin, length-rows, rows-laid, laid-rows, both}
-use Rattle.saved.specs.Saved.{plain, keyOf, bodyOf, offsetAt, savedSize, contentsFrom, savedBytes, distinct, isSet, allSet, isSavable, rowsOf, bodiesOf, entriesFrom, savedIn, followOn, isSaved}
-use Rattle.saved.specs.Claims.RoundTrip.{unreported, SavedIs, SavedBack, FormBack}
+use Rattle.reporting.proofs.Restored.{distinct-same}
+use Rattle.reporting.proofs.Carriage.{AllWithin, rows-laid, laid-rows, both}
+use Rattle.saved.specs.Saved.{plain, keyOf, bodyOf, offsetAt, savedSize, contentsFrom, savedBytes, isSet, allSet, isSavable, rowsOf, bodiesOf, entriesFrom, savedIn, followOn, isLaid, isSaved}
+use Rattle.saved.proofs.Rows.{length-contents}
+use Rattle.saved.proofs.Forms.{saved-count}
+use Rattle.saved.proofs.Lending.{length-one, saved-length}
+use Rattle.saved.specs.Claims.RoundTrip.{SavedIs, SavedBack, FormBack}
 
 abbrev rows : List ℕ
 rows = 2 ∷ 2 ∷ 2 ∷ []
@@ -27,11 +30,6 @@ abbrev bodies : List ℕ
 bodies = 2 ∷ 2 ∷ 8 ∷ []
 
 -- ---- the contents
-
-length-contents : (n i : ℕ) (ks : List (List ℕ)) → length (contentsFrom plain n i ks) ≡ length ks
-unfolding contentsFrom
-length-contents n i [] = refl
-length-contents n i (k ∷ ks) = ap suc (length-contents n (suc i) ks)
 
 -- keys and offsets fit their widths
 contents-within : (n i : ℕ) (l : List Entry) → AllClean l → i + length l ≤ n → savedSize plain n < 2 ^ 16 → AllWithin rows (contentsFrom plain n i (map keyOf l))
@@ -53,16 +51,7 @@ unfolding entriesFrom contentsFrom
 entries-back n i [] = refl
 entries-back n i (e ∷ l) = ap (λ (m : List Entry). unreported e ∷ m) (entries-back n (suc i) l)
 
--- ---- what is said of entries goes by their keys and configurations
-
-pub find-same : (k : Key) (l : List Entry) → findL k (map unreported l) ≡ findL k l
-find-same k [] = refl
-find-same k (e ∷ l) = ap (λ (n : ℕ). cond (matches k e) 0 (suc n)) (find-same k l)
-
-distinct-same : (l : List Entry) → distinct (map unreported l) ≡ distinct l
-unfolding distinct
-distinct-same [] = refl
-distinct-same (e ∷ l) = λ i. eqb (find-same (e .key) l i) (length-map l unreported i) && distinct-same l i
+-- ---- what is said of entries goes by their configurations
 
 set-same : (l : List Entry) → allSet (map unreported l) ≡ allSet l
 unfolding allSet
@@ -81,14 +70,6 @@ module _ (limit : ℕ) (l : List Entry) (small : savedSize plain limit < 2 ^ 16)
   abbrev two : List (List ℕ)
   two = map bodyOf l
 
-  first-length : length (rowsLaid rows one) ≡ n * 6
-  unfolding total
-  first-length = length-rows rows one ∙ ap (λ (k : ℕ). k * 6) (length-contents n 0 (map keyOf l) ∙ length-map l keyOf)
-
-  second-length : length (rowsLaid bodies two) ≡ n * 12
-  unfolding total
-  second-length = length-rows bodies two ∙ ap (λ (k : ℕ). k * 12) (length-map l bodyOf)
-
   fits : savedSize plain n < 2 ^ 16
   unfolding total
   fits = omega arith
@@ -103,7 +84,7 @@ module _ (limit : ℕ) (l : List Entry) (small : savedSize plain limit < 2 ^ 16)
   unfolding savedBytes total
   behind =
       let e : offsetAt plain n 0 ≡ suc (n * 6) = omega arith in
-      ap (λ (k : ℕ). drop k (n ∷ (rowsLaid rows one ++ rowsLaid bodies two))) e ∙ drop-at (rowsLaid rows one) (rowsLaid bodies two) (n * 6) first-length
+      ap (λ (k : ℕ). drop k (n ∷ (rowsLaid rows one ++ rowsLaid bodies two))) e ∙ drop-at (rowsLaid rows one) (rowsLaid bodies two) (n * 6) (length-one l)
 
   bodies-back : bodiesOf plain (savedBytes plain l) ≡ two
   unfolding savedBytes
@@ -118,21 +99,21 @@ module _ (limit : ℕ) (l : List Entry) (small : savedSize plain limit < 2 ^ 16)
   written-back = (λ i. entriesFrom (rows-back i) (bodies-back i)) ∙ entries-back n 0 l
 
   size-so : length (savedBytes plain l) ≡ savedSize plain n
-  unfolding savedBytes total
-  size-so = omega (arith, length-append (rowsLaid rows one) (rowsLaid bodies two), first-length, second-length)
+  unfolding total
+  size-so = omega (arith, saved-length l)
 
   count-so : countIn (savedBytes plain l) ≡ n
   unfolding savedBytes
   count-so = refl
 
   is-form : isSavable l ≡ true → isSaved plain limit (savedBytes plain l) ≡ true
-  unfolding isSaved
+  unfolding isSaved isLaid
   is-form s =
       let good : isSavable (savedIn plain (savedBytes plain l)) ≡ true = ap isSavable written-back ∙ (λ i. distinct-same l i && set-same l i) ∙ s in
       let follow : followOn plain (countIn (savedBytes plain l)) 0 (rowsOf plain (savedBytes plain l)) ≡ true = (λ i. followOn plain (count-so i) 0 (rows-back i)) ∙ follows n 0 l in
       let size : eqb (length (savedBytes plain l)) (savedSize plain (countIn (savedBytes plain l))) ≡ true = eq-eqb _ _ (size-so ∙ ap (savedSize plain) (sym count-so)) in
       let count : leb (countIn (savedBytes plain l)) limit ≡ true = le-leb (countIn (savedBytes plain l)) limit (omega (arith, count-so, few)) in
-      λ i. count i && (size i && (follow i && good i))
+      λ i. (count i && (size i && follow i)) && good i
 
 pub saved-is : SavedIs
 saved-is limit l small few clean s = is-form limit l small few clean s
@@ -141,11 +122,6 @@ pub saved-back : SavedBack
 saved-back limit l small few clean = written-back limit l small few clean
 
 -- ---- read, then written
-
-length-entries : (m : ℕ) (x y : List ℕ) → length (entriesFrom (rowsIn rows m x) (rowsIn bodies m y)) ≡ m
-unfolding entriesFrom rowsIn
-length-entries zero x y = refl
-length-entries (suc m) x y = ap suc (length-entries m (drop (total rows) x) (drop (total bodies) y))
 
 contents-read : (n i m : ℕ) (x y : List ℕ) → followOn plain n i (rowsIn rows m x) ≡ true → contentsFrom plain n i (map keyOf (entriesFrom (rowsIn rows m x) (rowsIn bodies m y))) ≡ rowsIn rows m x
 unfolding entriesFrom rowsIn followOn contentsFrom numbersIn
@@ -167,13 +143,12 @@ module _ (limit : ℕ) (bs : List ℕ) (bytes : AllBytes bs) (is : isSaved plain
   m = countIn bs
 
   conditions : (length bs ≡ savedSize plain m) × (followOn plain m 0 (rowsOf plain bs) ≡ true)
-  unfolding isSaved
+  unfolding isSaved isLaid
   conditions =
       let size : Bool = eqb (length bs) (savedSize plain m) in
       let follow : Bool = followOn plain m 0 (rowsOf plain bs) in
-      let good : Bool = isSavable (savedIn plain bs) in
-      let b = both size (follow && good) (both (leb m limit) (size && (follow && good)) is .1) in
-      (eqb-true (length bs) (savedSize plain m) (b .0), both follow good (b .1) .0)
+      let b = both size follow (both (leb m limit) (size && follow) (both (isLaid plain limit bs) (isSavable (savedIn plain bs)) is .0) .1) in
+      (eqb-true (length bs) (savedSize plain m) (b .0), b .1)
 
   abbrev rest : List ℕ
   rest = drop 1 bs
@@ -206,7 +181,7 @@ module _ (limit : ℕ) (bs : List ℕ) (bytes : AllBytes bs) (is : isSaved plain
   form-back-in : savedBytes plain (savedIn plain bs) ≡ bs
   unfolding savedBytes savedIn
   form-back-in =
-      let l = length-entries m rest (drop (offsetAt plain m 0) bs) in
+      let l = saved-count bs in
       (λ i. l i ∷ (rowsLaid rows (contentsFrom plain (l i) 0 (map keyOf (savedIn plain bs))) ++ rowsLaid bodies (bodies-read m rest (drop (offsetAt plain m 0) bs) i)))
       ∙ ap (λ (r : List (List ℕ)). m ∷ (rowsLaid rows r ++ rowsLaid bodies (bodiesOf plain bs))) (contents-read m 0 m rest (drop (offsetAt plain m 0) bs) (conditions .1))
       ∙ (λ i. m ∷ (first-read i ++ second-read i))

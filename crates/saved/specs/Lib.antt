@@ -2,5 +2,6 @@
 
 -- definitions that decide an answer
 pub mod Saved  -- the saved form of a reporting table
+pub mod Lent  -- writing and reading it, on lent bytes
 -- what is claimed of them
 pub mod Claims

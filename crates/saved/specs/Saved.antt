@@ -6,8 +6,10 @@ use mathlib.Core.List.{List, [], _∷_, _++_, map}
 use lib.ListN.{length, getD, drop}
 use lib.Dec.{leb, eqb}
 use Rattle.reporting.specs.declared.entry.Entry.{Entry}
-use Rattle.reporting.specs.Entries.{findL, fresh}
-use Rattle.reporting.specs.Wish.{Wish, toClear, toRefuse, toSet, wish}
+use Rattle.reporting.specs.Entries.{distinct, fresh}
+use Rattle.reporting.specs.declared.entry.Wish.{Wish}
+use Rattle.reporting.specs.declared.entry.Wish.the-variants.{ToClear, ToRefuse, ToSet}
+use Rattle.reporting.specs.Wish.{wish}
 use Rattle.reporting.specs.Carried.{total, rowsLaid, rowsIn, countIn}
 
 -- ---- the form
@@ -49,22 +51,17 @@ contentsFrom f n i (k ∷ ks) = (k ++ (offsetAt f n i ∷ [])) ∷ contentsFrom 
 unfoldable pub savedBytes : Form → List Entry → List ℕ
 savedBytes f l = length l ∷ (rowsLaid (rowOf f) (contentsFrom f (length l) 0 (map keyOf l)) ++ rowsLaid (f .bodies) (map bodyOf l))
 
--- "Keys repeated"
-unfoldable pub distinct : List Entry → Bool
-distinct [] = true
-distinct (e ∷ es) = eqb (findL (e .key) es) (length es) && distinct es
-
 -- "a maximum of ffff, 0 with minimum ffff, or nonzero below its minimum": what no record sets (reporting, Wish.antt)
 abbrev pub isSet : Wish → Bool
-isSet toClear = false
-isSet toRefuse = false
-isSet toSet = true
+isSet ToClear = false
+isSet ToRefuse = false
+isSet ToSet = true
 
 unfoldable pub allSet : List Entry → Bool
 allSet [] = true
 allSet (e ∷ es) = isSet (wish (e .config)) && allSet es
 
--- a table that is written
+-- a table that is written: "Keys repeated .. are not a saved form"
 abbrev pub isSavable : List Entry → Bool
 isSavable l = distinct l && allSet l
 
@@ -96,10 +93,10 @@ unfoldable pub followOn : Form → ℕ → ℕ → List (List ℕ) → Bool
 followOn f n i [] = true
 followOn f n i (r ∷ rs) = eqb (getD r (length (f .keys)) 0) (offsetAt f n i) && followOn f n (suc i) rs
 
+-- laid out as a form of up to `limit` entries, whatever they are: nothing before, between or behind
+unfoldable pub isLaid : Form → ℕ → List ℕ → Bool
+isLaid f limit bs = leb (countIn bs) limit && (eqb (length bs) (savedSize f (countIn bs)) && followOn f (countIn bs) 0 (rowsOf f bs))
+
 -- WHETHER BYTES ARE A SAVED FORM of up to `limit` entries
 unfoldable pub isSaved : Form → ℕ → List ℕ → Bool
-isSaved f limit bs =
-    leb (countIn bs) limit
-    && (eqb (length bs) (savedSize f (countIn bs))
-    && (followOn f (countIn bs) 0 (rowsOf f bs)
-    && isSavable (savedIn f bs)))
+isSaved f limit bs = isLaid f limit bs && isSavable (savedIn f bs)

@@ -33,7 +33,9 @@ use Rattle.reporting.specs.declared.entry.ReportingConfig.{ReportingConfig}
 use Rattle.reporting.specs.declared.entry.Entry.{Entry}
 use Rattle.reporting.specs.Entries.{acceptsL}
 use Rattle.reporting.specs.Table.{holding}
-use Rattle.reporting.specs.Wish.{Wish, toClear, toRefuse, toSet, wish, statusW}
+use Rattle.reporting.specs.declared.entry.Wish.{Wish}
+use Rattle.reporting.specs.declared.entry.Wish.the-variants.{ToClear, ToRefuse, ToSet}
+use Rattle.reporting.specs.Wish.{wish, statusW}
 use Rattle.reporting.specs.Claims.Events.{Event, configured, eventsW, ifSuccess}
 use Rattle.configure.specs.Request.{keyFor, ConfigureRecord, reported, configures}
 use Rattle.configure.specs.Configure.{Failure, failing, encode, setting, tried, configuring, configureEntries, configureOf}
@@ -149,22 +151,22 @@ module _ (limit : ℕ) (s : List ℕ) (h : ZclHeader) where
     Named f = (f .direction ≡ 0) × (f .id ≡ id)
 
     -- the rule does not clear
-    not-clears : wish g ≡ toClear → ⊥
+    not-clears : wish g ≡ ToClear → ⊥
     not-clears e =
         let m : ℕ = g .«max_interval» in
         let a : eqb m 0xffff ≡ false = ne-eqb m 0xffff (λ q. omega (arith, q)) in
         let b : eqb m 0 ≡ false = ne-eqb m 0 (λ q. omega (arith, q)) in
         go (ltb m (g .«min_interval»)) (sym (two a b) ∙ e)
       where
-        two : eqb (g .«max_interval») 0xffff ≡ false → eqb (g .«max_interval») 0 ≡ false → wish g ≡ cond (ltb (g .«max_interval») (g .«min_interval»)) toRefuse toSet
+        two : eqb (g .«max_interval») 0xffff ≡ false → eqb (g .«max_interval») 0 ≡ false → wish g ≡ cond (ltb (g .«max_interval») (g .«min_interval»)) ToRefuse ToSet
         two a b = rw (a, b)
 
         Clears : Wish → Type 0
-        Clears toClear = Unit {0}
-        Clears toRefuse = ⊥
-        Clears toSet = ⊥
+        Clears ToClear = Unit {0}
+        Clears ToRefuse = ⊥
+        Clears ToSet = ⊥
 
-        go : (c : Bool) → cond c toRefuse toSet ≡ toClear → ⊥
+        go : (c : Bool) → cond c ToRefuse ToSet ≡ ToClear → ⊥
         go true q = subst Clears (sym q) tt
         go false q = subst Clears (sym q) tt
 
@@ -189,13 +191,13 @@ module _ (limit : ℕ) (s : List ℕ) (h : ZclHeader) where
       unfolding setting
       setting-either l = go (wish g) not-clears (acceptsL limit k l)
         where
-          go : (w : Wish) → (w ≡ toClear → ⊥) → (a : Bool)
+          go : (w : Wish) → (w ≡ ToClear → ⊥) → (a : Bool)
               → (Some Named (also fs (statusW w a) (failing (statusW w a) (reported id t g))) → Some Named (y .failures))
               → Some Told (ifSuccess (statusW w a) (eventsW w k g) ++ es) ⊎ Some Named (y .failures)
-          go toClear n a stays = absurd (n refl)
-          go toRefuse n a stays = inr (stays (named _ (refl, refl)))
-          go toSet n true stays = inl (inl refl)
-          go toSet n false stays = inr (stays (named _ (refl, refl)))
+          go ToClear n a stays = absurd (n refl)
+          go ToRefuse n a stays = inr (stays (named _ (refl, refl)))
+          go ToSet n true stays = inl (inl refl)
+          go ToSet n false stays = inr (stays (named _ (refl, refl)))
 
       tried-either : (l : List Entry) → Either (tried 8 limit s h l (reported id t g))
       unfolding tried

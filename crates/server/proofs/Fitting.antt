@@ -30,7 +30,9 @@ use Rattle.reporting.specs.declared.entry.ReportingConfig.{ReportingConfig}
 use Rattle.reporting.specs.declared.entry.Entry.{Entry}
 use Rattle.reporting.specs.Entries.{fresh}
 use Rattle.reporting.specs.Claims.RoundTrip.{Clean}
-use Rattle.reporting.specs.Wish.{Wish, toClear, toRefuse, toSet, wish}
+use Rattle.reporting.specs.declared.entry.Wish.{Wish}
+use Rattle.reporting.specs.declared.entry.Wish.the-variants.{ToClear, ToRefuse, ToSet}
+use Rattle.reporting.specs.Wish.{wish}
 use Rattle.reporting.specs.Claims.Events.{Event, configured, cleared, asked, marked, eventsW}
 use Rattle.configure.specs.Request.{keyFor, ConfigureRecord, received, reported, configAt, configureAt, configures, changeWidth}
 use Rattle.configure.specs.Claims.History.{doneEvents, configureEvents}
@@ -49,7 +51,7 @@ abbrev pub AllFit : List Event → Type 0
 AllFit [] = Unit {0}
 AllFit (e ∷ es) = Fits e × AllFit es
 
-fit-append : (es fs : List Event) → AllFit es → AllFit fs → AllFit (es ++ fs)
+pub fit-append : (es fs : List Event) → AllFit es → AllFit fs → AllFit (es ++ fs)
 fit-append [] fs h k = k
 fit-append (e ∷ es) fs h k = (h .0, fit-append es fs (h .1) k)
 
@@ -123,9 +125,9 @@ module _ (s : List ℕ) (store : AllBytes s) (h : ZclHeader) where
   records-fit body b = records-all (configureAt body) (length body) Fitting (λ p r q e. subst FittingItem e (item-fits body p b)) _ 0
 
   wish-fits : (k : Key) (g : ReportingConfig) (w : Wish) → Clean (fresh k g) → AllFit (eventsW w k g)
-  wish-fits k g toClear c = (tt, tt)
-  wish-fits k g toRefuse c = tt
-  wish-fits k g toSet c = (c, tt)
+  wish-fits k g ToClear c = (tt, tt)
+  wish-fits k g ToRefuse c = tt
+  wish-fits k g ToSet c = (c, tt)
 
   record-fits : (r : ConfigureRecord) → Fitting r → AllFit (doneEvents s h r)
   record-fits (received direction id) c = tt

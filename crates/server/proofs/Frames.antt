@@ -17,22 +17,26 @@ use Rattle.store.specs.Layout.{isStore}
 use Rattle.reporting.specs.declared.entry.Key.{Key}
 use Rattle.reporting.specs.declared.entry.ReportingConfig.{ReportingConfig}
 use Rattle.reporting.specs.declared.entry.Entry.{Entry}
-use Rattle.reporting.specs.Wish.{Wish, toClear, toRefuse, toSet, wish}
+use Rattle.reporting.specs.declared.entry.Wish.{Wish}
+use Rattle.reporting.specs.declared.entry.Wish.the-variants.{ToClear, ToRefuse, ToSet}
+use Rattle.reporting.specs.Wish.{wish}
 use Rattle.reporting.specs.Claims.Events.{Event, configured, cleared, asked, marked, Honest, eventsW}
 use Rattle.reporting.proofs.Histories.{leads-then}
 use Rattle.reporting.proofs.Promise.{demand-3}
+use Rattle.saved.specs.Saved.{plain, savedIn}
+use Rattle.saved.proofs.Demand3.{demand-3-restored}
 use Rattle.configure.specs.Request.{keyFor, ConfigureRecord, received, reported, configures}
 use Rattle.configure.specs.Claims.History.{doneEvents}
 use Rattle.configure.proofs.History.{configure-keeps}
 use Rattle.server.specs.Claims.History.{Request, requested, headedEvents, requestEvents, uses, usesEvents}
-use Rattle.server.specs.Claims.Demand3.{laterOf, Demand3OfFrames}
+use Rattle.server.specs.Claims.Demand3.{laterOf, Demand3OfFrames, Demand3OfFramesRestored}
 use Rattle.server.proofs.Histories.{request-is, uses-are-events}
 
 -- ---- every configuration among the events is one that the record's rule accepts
 
 abbrev Ruled : List Event → Type 0
 Ruled [] = Unit {0}
-Ruled (configured k g ∷ es) = (wish g ≡ toSet) × Ruled es
+Ruled (configured k g ∷ es) = (wish g ≡ ToSet) × Ruled es
 Ruled (cleared k ∷ es) = Ruled es
 Ruled (asked k now v a ∷ es) = Ruled es
 Ruled (marked k now v ∷ es) = Ruled es
@@ -44,7 +48,7 @@ ruled-append (cleared j ∷ es) fs h k = ruled-append es fs h k
 ruled-append (asked j now v a ∷ es) fs h k = ruled-append es fs h k
 ruled-append (marked j now v ∷ es) fs h k = ruled-append es fs h k
 
-ruled-at : (es : List Event) (k : Key) (g : ReportingConfig) (fs : List Event) → Ruled (es ++ (configured k g ∷ fs)) → wish g ≡ toSet
+ruled-at : (es : List Event) (k : Key) (g : ReportingConfig) (fs : List Event) → Ruled (es ++ (configured k g ∷ fs)) → wish g ≡ ToSet
 ruled-at [] k g fs h = h .0
 ruled-at (configured j f ∷ es) k g fs h = ruled-at es k g fs (h .1)
 ruled-at (cleared j ∷ es) k g fs h = ruled-at es k g fs h
@@ -54,9 +58,9 @@ ruled-at (marked j now v ∷ es) k g fs h = ruled-at es k g fs h
 -- ---- of a record, a frame and a request
 
 wish-ruled : (k : Key) (g : ReportingConfig) (w : Wish) → wish g ≡ w → Ruled (eventsW w k g)
-wish-ruled k g toClear e = tt
-wish-ruled k g toRefuse e = tt
-wish-ruled k g toSet e = (e, tt)
+wish-ruled k g ToClear e = tt
+wish-ruled k g ToRefuse e = tt
+wish-ruled k g ToSet e = (e, tt)
 
 record-ruled : (s : List ℕ) (h : ZclHeader) (r : ConfigureRecord) → Ruled (doneEvents s h r)
 record-ruled s h (received direction id) = tt
@@ -102,3 +106,8 @@ demand-3-of-frames limit before r k g earlier rest G after p low high s =
     demand-3 limit (A ++ earlier) k g G (laterOf limit rest after m)
     (subst (λ (es : List Event). Honest limit es []) (cut-open A B C earlier (configured k g) rest p) (whole .honest))
     (record { rule = ruled-at earlier k g rest (subst Ruled p (request-ruled limit r l)); one = low }) s
+
+-- from a table just read in
+pub demand-3-of-frames-restored : Demand3OfFramesRestored
+demand-3-of-frames-restored limit form k g G after stands s =
+    demand-3-restored limit form k g G (usesEvents limit after (savedIn plain form)) stands (uses-are-events limit after (savedIn plain form) .honest) s

@@ -16,6 +16,8 @@ pub enum Refusal {
     NoTable = 8,
     NothingToReport = 11,
     NotReportable = 12,
+    /// Of document 02: bytes that are not a saved form, or a table without one.
+    NoSavedForm = 13,
 }
 
 impl From<Cut> for Refusal {

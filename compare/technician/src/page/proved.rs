@@ -19,6 +19,8 @@ pub fn section() -> Vec<Block> {
             "An undivided write is done whole or not at all: every record is checked first, and none can fail once the first is written.",
             "A chain of replies ends: whatever boxes hand each other their replies, over any stores and tables, no more than two replies are sent, since a Default \
              Response gets nothing.",
+            "A reporting table that is saved has one saved form, and a form is of one table: restored, it is the same table without its last reports, and saved \
+             again, the same bytes. What is read in counts as configured, and demand 3, what document 01 promises of reports, starts from it.",
         ]),
         text("Shown by runs, not proved:"),
         list(&[

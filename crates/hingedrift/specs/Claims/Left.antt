@@ -3,7 +3,7 @@
 -- (specs/Claims/Left.antt); number, length and reply buffer are what the call gives back, what it puts through `reply_used`, and what it leaves in `reply`.
 use mathlib.Core.Path.{_≡_}
 use mathlib.Core.Bool.{true, false, cond}
-use mathlib.Core.List.{List}
+use mathlib.Core.List.{List, []}
 use Prim.Native.Nat.{ℕ}
 use lib.ListN.{length}
 use Rattle.types.specs.Number.{AllBytes}
@@ -11,16 +11,18 @@ use Rattle.frame.specs.declared.header.ZclHeader.{ZclHeader}
 use Rattle.frame.specs.declared.header.HeaderRead.the-variants.{Header}
 use Rattle.frame.specs.declared.command_identifier.CommandIdentifier.the-variants.{ReportAttributes, DefaultResponse}
 use Rattle.frame.specs.declared.answer.Refusal.{Refusal}
-use Rattle.frame.specs.declared.answer.Refusal.the-variants.{NotAStore, NotATable}
+use Rattle.frame.specs.declared.answer.Refusal.the-variants.{NotAStore, NotATable, NotASavedForm}
 use Rattle.frame.specs.Header.{frameTypeOf, headerOf}
 use Rattle.frame.specs.Answer.{refusalNumber, Outcome}
 use Rattle.store.specs.Layout.{isStore}
 use Rattle.store.specs.Claims.Stays.{StoreLike}
 use Rattle.reporting.specs.Table.{capacity}
-use Rattle.reporting.specs.Carried.{isTable}
+use Rattle.reporting.specs.Carried.{sizeOk, isTable, tableBytes}
 use Rattle.server.specs.Lent.{Lent, lent}
 use Rattle.server.specs.Claims.Left.{Clears, ThenZeros, AsLong, Early}
 use Rattle.server.specs.Claims.Starts.{Starts, answering}
+use Rattle.hingedrift.specs.Tables.{left, noResult}
+use Rattle.hingedrift.specs.Saving.{saveLeft, restoreLeft}
 use Rattle.hingedrift.specs.Serving.{unsupportedLeft, reportLeft, handleLeft}
 
 -- ---- hd_handle_request
@@ -109,3 +111,27 @@ HdReportLength = OfEveryReport (λ size o. AsLong size o)
 
 abbrev pub HdReportStarts : Type 0
 HdReportStarts = (s : List ℕ) (sequence : ℕ) (ids : List ℕ) (size : ℕ) → Starts sequence ReportAttributes (reportLeft s sequence ids size)
+
+-- ---- hd_save and hd_restore
+
+abbrev pub OfEverySave : (ℕ → Outcome (Unit {0}) → Type 0) → Type 0
+OfEverySave P = (bs : List ℕ) (size : ℕ) → P size (saveLeft bs size)
+
+abbrev pub HdSaveClears : Type 0
+HdSaveClears = OfEverySave (λ size o. Clears size o)
+
+abbrev pub HdSaveThenZeros : Type 0
+HdSaveThenZeros = OfEverySave (λ size o. ThenZeros size o)
+
+abbrev pub HdSaveLength : Type 0
+HdSaveLength = OfEverySave (λ size o. AsLong size o)
+
+-- bytes of another length than a table's get 8 and stay; others are a table afterwards, with 13 the empty one
+abbrev pub HdRestoreStays : Type 0
+HdRestoreStays = (was form : List ℕ) → sizeOk capacity was ≡ false → restoreLeft was form ≡ left (refusalNumber NotATable) was noResult
+
+abbrev pub HdRestoreLeavesTable : Type 0
+HdRestoreLeavesTable = (was form : List ℕ) → AllBytes form → sizeOk capacity was ≡ true → isTable capacity (restoreLeft was form .table) ≡ true
+
+abbrev pub HdRestoreEmpties : Type 0
+HdRestoreEmpties = (was form : List ℕ) → restoreLeft was form .number ≡ refusalNumber NotASavedForm → restoreLeft was form .table ≡ tableBytes capacity []

@@ -9,6 +9,7 @@ use Rattle.frame.specs.Answer.{noState}
 use Rattle.hingedrift.specs.Tables.{keyAs, configOf, left, noResult, configurationAs, newLeft, configureLeft, clearLeft, markLeft, askLeft, configurationLeft}
 use Rattle.server.specs.Lent.{lent}
 use Rattle.hingedrift.specs.Serving.{handed, numberHanded, numberLeft, unsupportedLeft, reportLeft, handleLeft}
+use Rattle.hingedrift.specs.Saving.{saveLeft, restoreLeft}
 use Rattle.readers.specs.Told.{told, valueAs, readAs, reportAs, writeAs, configureAs, settingAs, sizedAs, discoverAs, responseAs}
 use Rattle.hingedrift.specs.Reading.{readChecked, writeChecked, configureChecked, configurationChecked, reportChecked, discoverChecked}
 use Rattle.hingedrift.specs.Reading.{readRecorded, reportRecorded, writeRecorded, configureRecorded, configurationRecorded, discoverRecorded, responseTold}
@@ -79,6 +80,21 @@ HdMarkOnce =
     (table : List ℕ) (cluster attribute now : ℕ) (value : ℤ) (r q : ℕ) (bs cs : List ℕ)
     → left r bs noResult ≡ markLeft table (keyAs cluster attribute) now value
     → left q cs noResult ≡ markLeft table (keyAs cluster attribute) now value
+    → (r ≡ q) × (bs ≡ cs)
+
+-- src/saving.rt
+abbrev pub HdSaveOnce : Type 0
+HdSaveOnce =
+    (table saved : List ℕ) (r q m n : ℕ) (x y : List ℕ)
+    → handed r m x noState ≡ saveLeft table (length saved)
+    → handed q n y noState ≡ saveLeft table (length saved)
+    → (r ≡ q) × ((m ≡ n) × (x ≡ y))
+
+abbrev pub HdRestoreOnce : Type 0
+HdRestoreOnce =
+    (table saved : List ℕ) (r q : ℕ) (bs cs : List ℕ)
+    → left r bs noResult ≡ restoreLeft table saved
+    → left q cs noResult ≡ restoreLeft table saved
     → (r ≡ q) × (bs ≡ cs)
 
 -- src/reading.rt

@@ -1,19 +1,22 @@
 -- Claims. What happens to a reporting table, told as a list of events; the table that events leave; and which lists of events tell the truth. `limit`
 -- is how many entries the table may have.
 use mathlib.Core.Path.{_≡_}
-use mathlib.Core.Bool.{Bool, true, cond}
-use mathlib.Core.List.{List, [], _∷_, _++_}
+use mathlib.Core.Bool.{Bool, true, cond, _&&_}
+use mathlib.Core.List.{List, [], _∷_, _++_, map}
 use Prim.Native.Nat.{ℕ}
-use lib.Dec.{eqb}
+use lib.ListN.{length}
+use lib.Dec.{leb, eqb}
 use lib.IntN.{ℤ}
 use Rattle.frame.specs.declared.status.Status.{Status}
 use Rattle.frame.specs.Status.{statusCode}
 use Rattle.reporting.specs.declared.entry.Key.{Key}
 use Rattle.reporting.specs.declared.entry.ReportingConfig.{ReportingConfig}
 use Rattle.reporting.specs.declared.entry.Entry.{Entry}
-use Rattle.reporting.specs.Entries.{acceptsL, configureL, clearL, markL}
+use Rattle.reporting.specs.Entries.{distinct, unreported, acceptsL, configureL, clearL, markL}
 use Rattle.reporting.specs.Due.{dueL}
-use Rattle.reporting.specs.Wish.{Wish, toClear, toRefuse, toSet, wish, recordStatus, recordEntries}
+use Rattle.reporting.specs.declared.entry.Wish.{Wish}
+use Rattle.reporting.specs.declared.entry.Wish.the-variants.{ToClear, ToRefuse, ToSet}
+use Rattle.reporting.specs.Wish.{wish, recordStatus, recordEntries}
 
 -- ---- events
 
@@ -65,7 +68,8 @@ pub record Leads (limit : ℕ) (es : List Event) (l m : List Entry) : Type 0 whe
 
 -- ---- calls
 
--- what may be done with a table: a configuration record that passed the checks before the intervals, or a direct call
+-- what may be done with a table: a configuration record that passed the checks before the intervals, or a direct call. `restore`: these entries are read in
+-- from a saved form (crate `saved`), in the place of all that stood; a read that is refused has none.
 pub data Call : Type 0 where
   configRecord : Key → ReportingConfig → Call
   configure : Key → ReportingConfig → Call
@@ -74,6 +78,11 @@ pub data Call : Type 0 where
   mark : Key → ℕ → ℤ → Call
   configuration : Key → Call
   len : Call
+  restore : List Entry → Call
+
+-- the entries that stand after a read, none of them reported; a table has neither a key twice nor more than its limit
+abbrev pub readIn : ℕ → List Entry → List Entry
+readIn limit come = cond (distinct come && leb (length come) limit) (map unreported come) []
 
 -- the entries after a call
 abbrev pub call : ℕ → Call → List Entry → List Entry
@@ -84,16 +93,27 @@ call limit (ask k now v) l = l
 call limit (mark k now v) l = markL k now v l
 call limit (configuration k) l = l
 call limit len l = l
+call limit (restore come) l = readIn limit come
 
 -- what a configuration record is that succeeds: the one event that it asks for
 abbrev pub eventsW : Wish → Key → ReportingConfig → List Event
-eventsW toClear k g = cleared k ∷ []
-eventsW toRefuse k g = []
-eventsW toSet k g = configured k g ∷ []
+eventsW ToClear k g = cleared k ∷ []
+eventsW ToRefuse k g = []
+eventsW ToSet k g = configured k g ∷ []
 
 -- with a status other than 00 a record is no event
 abbrev pub ifSuccess : Status → List Event → List Event
 ifSuccess status es = cond (eqb (statusCode status) 0) es []
+
+-- "a read .. counts as clearing what stood before", the last entry first
+abbrev pub clearings : List Entry → List Event
+clearings [] = []
+clearings (e ∷ es) = clearings es ++ (cleared (e .key) ∷ [])
+
+-- "its entries counting as configured", in their order
+abbrev pub settings : List Entry → List Event
+settings [] = []
+settings (e ∷ es) = configured (e .key) (e .config) ∷ settings es
 
 -- the events that a call is, from the entries that it meets; a configuration that is refused is none
 abbrev pub events : ℕ → Call → List Entry → List Event
@@ -104,6 +124,7 @@ events limit (ask k now v) l = asked k now v (dueL k now v l) ∷ []
 events limit (mark k now v) l = marked k now v ∷ []
 events limit (configuration k) l = []
 events limit len l = []
+events limit (restore come) l = clearings l ++ settings (readIn limit come)
 
 -- the entries after calls, and all their events
 abbrev pub calls : ℕ → List Call → List Entry → List Entry

@@ -4,11 +4,14 @@ use mathlib.Core.Path.{_≡_}
 use mathlib.Core.Bool.{Bool, true}
 use mathlib.Core.List.{List, []}
 use Prim.Native.Nat.{ℕ}
+use lib.ListN.{drop}
+use lib.Seq.{sets}
 use lib.IntN.{ℤ}
-use Rattle.types.specs.Number.{AllBytes}
+use Rattle.types.specs.Number.{AllBytes, bytesOf, unsignedAt}
 use Rattle.reporting.specs.declared.carried.ReadTable.{ReadTable}
 use Rattle.reporting.specs.declared.entry.Key.{Key}
 use Rattle.reporting.specs.declared.entry.ReportingConfig.{ReportingConfig}
+use Rattle.reporting.specs.declared.entry.Wish.{Wish}
 use Rattle.reporting.specs.declared.entry.Entry.{Entry}
 use Rattle.reporting.specs.declared.table.ReportingTable.{ReportingTable}
 use Rattle.reporting.specs.declared.table.Change.{Change}
@@ -17,9 +20,10 @@ use Rattle.reporting.specs.declared.table.Report.{Report}
 use Rattle.reporting.specs.declared.table.Setting.{Setting}
 use Rattle.reporting.specs.declared.table.Length.{Length}
 use Rattle.reporting.specs.Table.{capacity, tableOf, Alike, reportTold, settingTold, lengthTold, handedBack, holding, configureT, clearT, markT, configurationT, askT, lengthT}
-use Rattle.reporting.specs.Entries.{same, matches, fresh, clearL, markE}
+use Rattle.reporting.specs.Entries.{same, matches, findL, fresh, clearL, markE}
 use Rattle.reporting.specs.Due.{dist, movedBy, ripe, dueE}
-use Rattle.reporting.specs.Carried.{tableIn, isTable, tableRead, reading, readT, written, writeT}
+use Rattle.reporting.specs.Wish.{wish}
+use Rattle.reporting.specs.Carried.{widths, laid, numbersIn, numbersOf, entryOf, tableIn, isTable, tableRead, reading, readT, written, writeT}
 use Rattle.reporting.specs.Lent.{askLent, configurationLent, markLent, clearLent, leftAs, configureLent}
 use Rattle.reporting.specs.Inside.{keptAs, configureIn}
 
@@ -41,6 +45,16 @@ WriteTableOnce =
     → written q y ≡ writeT 16 table bytes
     → (r ≡ q) × (x ≡ y)
 
+abbrev pub ReadSlotOnce : Type 0
+ReadSlotOnce = (bytes : List ℕ) (at : ℕ) (r q : Entry) → r ≡ entryOf (numbersIn widths (drop at bytes)) → q ≡ entryOf (numbersIn widths (drop at bytes)) → r ≡ q
+
+abbrev pub WriteSlotOnce : Type 0
+WriteSlotOnce =
+    (bytes : List ℕ) (at : ℕ) (e : Entry) (x y : List ℕ)
+    → x ≡ sets bytes at (laid widths (numbersOf e))
+    → y ≡ sets bytes at (laid widths (numbersOf e))
+    → x ≡ y
+
 -- src/distance.rt
 abbrev pub DistanceOnce : Type 0
 DistanceOnce = (a b : ℤ) (r q : ℕ) → r ≡ dist a b → q ≡ dist a b → r ≡ q
@@ -48,6 +62,9 @@ DistanceOnce = (a b : ℤ) (r q : ℕ) → r ≡ dist a b → q ≡ dist a b →
 -- src/entry.rt
 abbrev pub IsOnce : Type 0
 IsOnce = (self other : Key) (r q : Bool) → r ≡ same self other → q ≡ same self other → r ≡ q
+
+abbrev pub WishOnce : Type 0
+WishOnce = (self : ReportingConfig) (r q : Wish) → r ≡ wish self → q ≡ wish self → r ≡ q
 
 abbrev pub MovedByOnce : Type 0
 MovedByOnce = (self : ReportingConfig) (from to : ℤ) (r q : ℕ) → r ≡ movedBy self from to → q ≡ movedBy self from to → r ≡ q
@@ -68,6 +85,9 @@ abbrev pub DueOnce : Type 0
 DueOnce = (self : Entry) (now : ℕ) (value : ℤ) (r q : Bool) → r ≡ dueE self now value → q ≡ dueE self now value → r ≡ q
 
 -- src/lent.rt
+abbrev pub FindSlotOnce : Type 0
+FindSlotOnce = (bytes : List ℕ) (key : Key) (r q : ℕ) → r ≡ findL key (tableIn bytes) → q ≡ findL key (tableIn bytes) → r ≡ q
+
 abbrev pub AskLentOnce : Type 0
 AskLentOnce =
     (bytes : List ℕ) (key : Key) (now : ℕ) (value : ℤ) (r q : Report)
@@ -128,6 +148,19 @@ ClearInOnce =
     → readT capacity x ≡ tableRead true (clearL key (tableIn bytes))
     → readT capacity y ≡ tableRead true (clearL key (tableIn bytes))
     → x ≡ y
+
+-- src/numbers.rt
+abbrev pub U16InOnce : Type 0
+U16InOnce = (bytes : List ℕ) (at r q : ℕ) → r ≡ unsignedAt bytes at 2 → q ≡ unsignedAt bytes at 2 → r ≡ q
+
+abbrev pub U64InOnce : Type 0
+U64InOnce = (bytes : List ℕ) (at r q : ℕ) → r ≡ unsignedAt bytes at 8 → q ≡ unsignedAt bytes at 8 → r ≡ q
+
+abbrev pub PutU16InOnce : Type 0
+PutU16InOnce = (bytes : List ℕ) (at n : ℕ) (x y : List ℕ) → x ≡ sets bytes at (bytesOf 2 n) → y ≡ sets bytes at (bytesOf 2 n) → x ≡ y
+
+abbrev pub PutU64InOnce : Type 0
+PutU64InOnce = (bytes : List ℕ) (at n : ℕ) (x y : List ℕ) → x ≡ sets bytes at (bytesOf 8 n) → y ≡ sets bytes at (bytesOf 8 n) → x ≡ y
 
 -- src/table.rt
 abbrev pub NewOnce : Type 0

@@ -7,13 +7,9 @@ use Prim.Native.Nat.{ℕ, _<_, _≤_, _^_}
 use lib.ListN.{length}
 use Rattle.types.specs.Number.{AllBytes}
 use Rattle.reporting.specs.declared.entry.Entry.{Entry}
-use Rattle.reporting.specs.Entries.{fresh}
+use Rattle.reporting.specs.Entries.{unreported}
 use Rattle.reporting.specs.Claims.RoundTrip.{AllClean}
 use Rattle.saved.specs.Saved.{plain, savedSize, savedBytes, isSavable, savedIn, isSaved}
-
--- an entry without its last report
-abbrev pub unreported : Entry → Entry
-unreported e = fresh (e .key) (e .config)
 
 -- what writing makes is a saved form
 abbrev pub SavedIs : Type 0

@@ -10,6 +10,8 @@ use Rattle.reporting.specs.declared.entry.ReportingConfig.{ReportingConfig}
 use Rattle.reporting.specs.declared.entry.Entry.{Entry}
 use Rattle.reporting.specs.Claims.Events.{Event, configured}
 use Rattle.reporting.specs.Demand3.{Supposed, Promised, asksOf}
+use Rattle.saved.specs.Saved.{plain, savedIn}
+use Rattle.saved.specs.Claims.Demand3.{Stands}
 use Rattle.server.specs.Claims.History.{Request, requestEvents, requested, Use, uses, usesEvents}
 
 -- what comes after the accepted record: the rest of its frame, also of one that ends in 4 or 5, and then any uses
@@ -26,3 +28,11 @@ Demand3OfFrames =
     → g .«max_interval» ≤ 65534
     → Supposed k G (laterOf limit rest after (requested limit r (uses limit before [])))
     → Promised g G (asksOf k (laterOf limit rest after (requested limit r (uses limit before []))))
+
+-- The same from a table just read in (document 02, request 5; crate `saved`, specs/Claims/Demand3.antt).
+abbrev pub Demand3OfFramesRestored : Type 0
+Demand3OfFramesRestored =
+    (limit : ℕ) (form : List ℕ) (k : Key) (g : ReportingConfig) (G : ℕ) (after : List Use)
+    → Stands limit form k g
+    → Supposed k G (usesEvents limit after (savedIn plain form))
+    → Promised g G (asksOf k (usesEvents limit after (savedIn plain form)))

@@ -7,7 +7,7 @@ use Prim.Native.Nat.{ℕ, _≤_}
 use lib.ListN.{length, take}
 use Rattle.types.specs.Number.{zeros}
 use Rattle.frame.specs.declared.answer.Refusal.{Refusal}
-use Rattle.frame.specs.declared.answer.Refusal.the-variants.{OtherCluster, HeaderShort, ReservedFrameType, RecordCut, ReplyTooLong, NothingToSend, NotAStore, NotATable, NoNumber, NotSuchAReply, EmptyReport, NotReportable}
+use Rattle.frame.specs.declared.answer.Refusal.the-variants.{OtherCluster, HeaderShort, ReservedFrameType, RecordCut, ReplyTooLong, NothingToSend, NotAStore, NotATable, NoNumber, NotSuchAReply, EmptyReport, NotReportable, NotASavedForm}
 use Rattle.frame.specs.Reply.{padded}
 use Rattle.frame.specs.Answer.{refusalNumber, Outcome}
 use Rattle.store.specs.Layout.{isStore}
@@ -66,6 +66,7 @@ when NoNumber = never
 when NotSuchAReply = never
 when EmptyReport = never
 when NotReportable = never
+when NotASavedForm = never
 
 abbrev pub Early : Refusal → Type 0
 Early why = when why ≡ before

@@ -1,30 +1,45 @@
--- A saved form read in is its events (specs/Claims/Restored.antt). Assumes nothing.
+-- Entries that are read in are their events (specs/Claims/Events.antt, `restore`): what stood is cleared, what was read is configured. Assumes nothing.
 use Prim.Native.Nat.{ℕ, suc, _+_, _≤_}
 use mathlib.Core.Path.{_≡_, refl, sym, ap, _∙_, subst}
-use mathlib.Core.Bool.{Bool, true, false, cond}
-use mathlib.Core.List.{List, [], _∷_, _++_, map, append-assoc, append-nil}
+use mathlib.Core.Bool.{Bool, true, false, cond, _&&_}
+use mathlib.Core.List.{List, [], _∷_, _++_, map, map-append, append-assoc, append-nil}
 use native.Mathlib.Omega.{arith}
 use lib.ListN.{length, getD, length-append, length-map}
-use lib.Dec.{eqb, ltb}
-use borrow.Author.Tests.{eqb-true, eq-eqb, le-ltb, lt-ltb}
+use lib.Dec.{leb, eqb, ltb}
+use borrow.Author.Tests.{leb-true, eqb-true, eq-eqb, le-ltb, lt-ltb}
 use Rattle.reporting.specs.declared.entry.Key.{Key}
 use Rattle.reporting.specs.declared.entry.Entry.{Entry}
-use Rattle.reporting.specs.Entries.{same, matches, findL, acceptsL, configureL, lastFirst, clearL}
-use Rattle.reporting.specs.Claims.Events.{cleared, run, Honest}
-use Rattle.reporting.proofs.Places.{getD-any}
+use Rattle.reporting.specs.Entries.{same, matches, findL, Distinct, distinct, unreported, acceptsL, configureL, lastFirst, clearL}
+use Rattle.reporting.specs.Claims.Events.{cleared, run, Honest, Leads, readIn, clearings, settings}
+use Rattle.reporting.proofs.Places.{lookup-none, getD-any}
 use Rattle.reporting.proofs.Carriage.{both}
-use Rattle.reporting.proofs.Histories.{run-append, honest-append}
-use Rattle.saved.specs.Saved.{distinct}
-use Rattle.saved.specs.Claims.RoundTrip.{unreported}
-use Rattle.saved.proofs.RoundTrip.{find-same}
-use Rattle.saved.specs.Claims.Restored.{clearings, settings, RestoreLeads}
+use Rattle.reporting.proofs.Runs.{run-append, honest-append}
+
+-- ---- what is said of entries by their keys
+
+pub find-same : (k : Key) (l : List Entry) → findL k (map unreported l) ≡ findL k l
+find-same k [] = refl
+find-same k (e ∷ l) = ap (λ (n : ℕ). cond (matches k e) 0 (suc n)) (find-same k l)
+
+pub distinct-same : (l : List Entry) → distinct (map unreported l) ≡ distinct l
+unfolding distinct
+distinct-same [] = refl
+distinct-same (e ∷ l) = λ i. eqb (find-same (e .key) l i) (length-map l unreported i) && distinct-same l i
+
+-- where the test holds, no two entries have one key
+pub distinct-so : (l : List Entry) → distinct l ≡ true → Distinct l
+unfolding distinct
+distinct-so [] d = tt
+distinct-so (e ∷ l) d =
+    let b = both (eqb (findL (e .key) l) (length l)) (distinct l) d in
+    (lookup-none (e .key) l (omega (arith, eqb-true (findL (e .key) l) (length l) (b .0))), distinct-so l (b .1))
 
 -- ---- clearing what stood
 
 abbrev keys : List Entry → List Key
 keys l = map (λ (e : Entry). e .key) l
 
-same-own : (k : Key) → same k k ≡ true
+pub same-own : (k : Key) → same k k ≡ true
 same-own k = rw (eq-eqb (k .cluster .0) (k .cluster .0) refl, eq-eqb (k .attribute .0) (k .attribute .0) refl) refl
 
 same-is : (j k : Key) → same j k ≡ true → j ≡ k
@@ -106,7 +121,7 @@ none-there k (q ∷ qs) e es h = go (matches k q) h (none-there k qs e es)
     go true h rec = absurd (omega arith)
     go false h rec = rec (omega arith)
 
-same-other : (j k : Key) → same j k ≡ false → same k j ≡ false
+pub same-other : (j k : Key) → same j k ≡ false → same k j ≡ false
 same-other j k h = go (same k j) refl
   where
     go : (b : Bool) → same k j ≡ b → b ≡ false
@@ -114,17 +129,13 @@ same-other j k h = go (same k j) refl
     go true m = false-true (sym h ∙ ap (λ (i : Key). same j i) (same-is k j m) ∙ same-own j)
 
 -- the key of an entry stands nowhere before it
-absent : (p : List Entry) (e : Entry) (es : List Entry) → distinct (p ++ (e ∷ es)) ≡ true → findL (e .key) p ≡ length p
+pub absent : (p : List Entry) (e : Entry) (es : List Entry) → distinct (p ++ (e ∷ es)) ≡ true → findL (e .key) p ≡ length p
 unfolding distinct
 absent [] e es d = refl
 absent (q ∷ p) e es d =
     let b = both (eqb (findL (q .key) (p ++ (e ∷ es))) (length (p ++ (e ∷ es)))) (distinct (p ++ (e ∷ es))) d in
     let n : matches (e .key) q ≡ false = same-other (e .key) (q .key) (none-there (q .key) p e es (eqb-true _ _ (b .0))) in
     ap (λ (t : Bool). cond t 0 (suc (findL (e .key) p))) n ∙ ap suc (absent p e es (b .1))
-
-map-append : (a b : List Entry) → map unreported (a ++ b) ≡ map unreported a ++ map unreported b
-map-append [] b = refl
-map-append (x ∷ a) b = ap (λ (l : List Entry). unreported x ∷ l) (map-append a b)
 
 module _ (limit : ℕ) where
   -- one entry more
@@ -135,7 +146,7 @@ module _ (limit : ℕ) where
       let f : findL (e .key) (map unreported p) ≡ length (map unreported p) = find-same (e .key) p ∙ absent p e es d ∙ sym m in
       let none : ltb (findL (e .key) (map unreported p)) (length (map unreported p)) ≡ false = le-ltb (findL (e .key) (map unreported p)) (length (map unreported p)) (omega (arith, f)) in
       let room : ltb (length (map unreported p)) limit ≡ true = lt-ltb (length (map unreported p)) limit (omega (arith, m)) in
-      (rw (none, room) refl, rw (none, room) (sym (map-append p (e ∷ []))))
+      (rw (none, room) refl, rw (none, room) (sym (map-append unreported p (e ∷ []))))
 
   set-honest : (es p : List Entry) → distinct (p ++ es) ≡ true → length p + length es ≤ limit → Honest limit (settings es) (map unreported p)
   set-honest [] p d h = tt
@@ -156,9 +167,25 @@ module _ (limit : ℕ) where
 
 -- ---- both
 
-pub restore-leads : RestoreLeads
+restore-leads : (limit : ℕ) (stood come : List Entry) → length come ≤ limit → distinct come ≡ true → Leads limit (clearings stood ++ settings come) stood (map unreported come)
 restore-leads limit stood come h d =
-    let empty : run limit (clearings stood) stood ≡ [] = no-keys _ (all-cleared limit [] stood stood refl) in (
-      honest-append limit (clearings stood) (settings come) stood (clearings-honest limit stood stood) (subst (Honest limit (settings come)) (sym empty) (set-honest limit come [] d (omega arith))),
-      run-append limit (clearings stood) (settings come) stood ∙ ap (run limit (settings come)) empty ∙ set-run limit come [] d (omega arith),
-    )
+    let empty : run limit (clearings stood) stood ≡ [] = no-keys _ (all-cleared limit [] stood stood refl) in
+    record {
+      honest = honest-append limit (clearings stood) (settings come) stood (clearings-honest limit stood stood) (subst (Honest limit (settings come)) (sym empty) (set-honest limit come [] d (omega arith)));
+      table = run-append limit (clearings stood) (settings come) stood ∙ ap (run limit (settings come)) empty ∙ set-run limit come [] d (omega arith);
+    }
+
+unreported-twice : (l : List Entry) → map unreported (map unreported l) ≡ map unreported l
+unreported-twice [] = refl
+unreported-twice (e ∷ l) = ap (λ (m : List Entry). unreported e ∷ m) (unreported-twice l)
+
+pub restore-is : (limit : ℕ) (come l : List Entry) → Leads limit (clearings l ++ settings (readIn limit come)) l (readIn limit come)
+unfolding distinct
+restore-is limit come l = go (distinct come && leb (length come) limit) refl
+  where
+    go : (b : Bool) → (distinct come && leb (length come) limit) ≡ b → Leads limit (clearings l ++ settings (cond b (map unreported come) [])) l (cond b (map unreported come) [])
+    go true e =
+        let c = both (distinct come) (leb (length come) limit) e in
+        subst (Leads limit (clearings l ++ settings (map unreported come)) l) (unreported-twice come)
+        (restore-leads limit l (map unreported come) (omega (arith, length-map come unreported, leb-true (length come) limit (c .1))) (distinct-same come ∙ c .0))
+    go false e = restore-leads limit l [] (omega arith) refl

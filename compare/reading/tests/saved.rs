@@ -1,0 +1,266 @@
+//! The saved form of a table: its bytes, what is none, and the order of the
+//! refusals.
+
+mod common;
+
+use common::{bytes, hex};
+use reading::saved::Fault::{Count, Crossed, Length, Neither, NoReports, Offset, Repeated};
+use reading::saved::{length, read, restore, save, write};
+use reading::table::{Config, Entry, Key, SIZE, to_bytes};
+
+const ONE: &str = "01 0204 0000 0700 0a00 2c01 3200000000000000";
+
+const TWO: &str = "02 21fc 0500 0d00 0201 0403 1900
+                   0a00 3c00 3200000000000000 0605 0807 100f0e0d0c0b0a09";
+
+/// Of `ONE`, as it is read.
+const FIRST: Entry = Entry {
+    key: Key {
+        cluster: 0x0402,
+        attribute: 0,
+    },
+    config: Config {
+        minimum: 10,
+        maximum: 300,
+        change: 50,
+    },
+    last: None,
+};
+
+/// Last reported.
+const REPORTED: Entry = Entry {
+    last: Some((100_000, -5)),
+    ..FIRST
+};
+
+fn with(minimum: u16, maximum: u16) -> Entry {
+    let config = Config {
+        minimum,
+        maximum,
+        ..FIRST.config
+    };
+    Entry { config, ..REPORTED }
+}
+
+/// So many entries, all with other keys.
+fn many(count: u16) -> Vec<Entry> {
+    let key = |attribute| Key {
+        attribute,
+        ..FIRST.key
+    };
+    (0..count)
+        .map(|attribute| Entry {
+            key: key(attribute),
+            ..REPORTED
+        })
+        .collect()
+}
+
+/// The number, the length and the buffer.
+fn saves(table: &[u8], room: usize) -> (u8, usize, String) {
+    let answer = save(table, room);
+    (answer.number, answer.reply.len(), hex(&answer.buffer(room)))
+}
+
+/// The number and the table, which was full of reports before.
+fn restores(saved: &[u8]) -> (u8, Vec<u8>) {
+    let mut table = to_bytes(&many(16));
+    (restore(&mut table, saved), table)
+}
+
+/// `TWO` with the byte at `at` set.
+fn two_with(at: usize, byte: u8) -> Vec<u8> {
+    let mut two = bytes(TWO);
+    assert_ne!(two[at], byte, "a change");
+    two[at] = byte;
+    two
+}
+
+#[test]
+fn the_worked_example() {
+    let table = to_bytes(&[REPORTED]);
+    let form = hex(&bytes(ONE));
+    assert_eq!(saves(&table, 19), (0, 19, form.clone()));
+    assert_eq!(saves(&table, 21), (0, 19, form + "0000"));
+    assert_eq!(read(&bytes(ONE)), Ok(vec![FIRST]));
+    assert_eq!(restores(&bytes(ONE)), (0, to_bytes(&[FIRST])));
+}
+
+#[test]
+fn none() {
+    assert_eq!(saves(&[0; SIZE], 1), (0, 1, "00".to_owned()));
+    assert_eq!(read(&[0]), Ok(vec![]));
+    assert_eq!(restores(&[0]), (0, vec![0; SIZE]));
+}
+
+#[test]
+fn two_in_order() {
+    let entries = read(&bytes(TWO)).expect("a saved form");
+    let [first, second] = entries[..] else {
+        panic!("two entries");
+    };
+    assert_eq!((first.key.cluster, first.key.attribute), (0xfc21, 5));
+    assert_eq!((second.key.cluster, second.key.attribute), (0x0102, 0x0304));
+    assert_eq!((first.config.minimum, first.config.maximum), (10, 60));
+    assert_eq!(
+        (second.config.minimum, second.config.maximum),
+        (0x0506, 0x0708)
+    );
+    assert_eq!(first.config.change, 50);
+    assert_eq!(second.config.change, 0x090a_0b0c_0d0e_0f10);
+    assert_eq!((first.last, second.last), (None, None));
+    assert_eq!(write(&entries), Ok(bytes(TWO)));
+}
+
+#[test]
+fn there_and_back() {
+    for count in 0..=16 {
+        let entries = many(count);
+        let form = write(&entries).expect("it has one");
+        assert_eq!(form.len(), length(entries.len()));
+        let unreported = |entry: &Entry| Entry {
+            last: None,
+            ..*entry
+        };
+        let expected: Vec<Entry> = entries.iter().map(unreported).collect();
+        assert_eq!(read(&form), Ok(expected.clone()));
+        assert_eq!(write(&expected), Ok(form));
+    }
+    assert_eq!(length(16), 289);
+}
+
+#[test]
+fn other_lengths() {
+    assert_eq!(read(&[]), Err(Length));
+    let two = bytes(TWO);
+    for end in 0..two.len() {
+        assert_eq!(read(&two[..end]), Err(Length), "{end}");
+    }
+    for behind in [0, 1, 0xff] {
+        assert_eq!(read(&[&two[..], &[behind]].concat()), Err(Length));
+        assert_eq!(read(&[0, behind]), Err(Length));
+    }
+    // an entry more or less than the count says
+    assert!(read(&two_with(0, 1)).is_err());
+    assert!(read(&two_with(0, 3)).is_err());
+}
+
+#[test]
+fn counts() {
+    let seventeen = [vec![17], vec![0; 17 * 18]].concat();
+    assert_eq!(read(&seventeen), Err(Count));
+    assert_eq!(read(&[0xff]), Err(Count));
+}
+
+#[test]
+fn offsets() {
+    for at in [5, 6, 11, 12] {
+        for byte in [0x01, 0x0c, 0x0e, 0x1a, 0x31, 0xff] {
+            assert_eq!(read(&two_with(at, byte)), Err(Offset), "{at} {byte:x}");
+        }
+    }
+    // both to one body, or each to the other's
+    assert_eq!(read(&two_with(11, 0x0d)), Err(Offset));
+    let mut exchanged = two_with(11, 0x0d);
+    exchanged[5] = 0x19;
+    assert_eq!(read(&exchanged), Err(Offset));
+}
+
+#[test]
+fn keys() {
+    let mut twice = bytes(TWO);
+    twice.copy_within(1..5, 7);
+    assert_eq!(read(&twice), Err(Repeated));
+    // the same but for a byte is another
+    for at in 7..11 {
+        let mut beside = twice.clone();
+        beside[at] ^= 1;
+        assert!(read(&beside).is_ok(), "{at}");
+    }
+    let mut entries = many(16);
+    entries[15] = entries[0];
+    assert_eq!(write(&entries), Err(Repeated));
+}
+
+#[test]
+fn intervals() {
+    for (minimum, maximum, fault) in [
+        (0, 0xffff, NoReports),
+        (10, 0xffff, NoReports),
+        (0xffff, 0xffff, NoReports),
+        (0xffff, 0, Neither),
+        (11, 10, Crossed),
+        (0x0100, 0x00ff, Crossed),
+        (0xffff, 1, Crossed),
+        (0xffff, 0xfffe, Crossed),
+    ] {
+        assert_eq!(write(&[with(minimum, maximum)]), Err(fault));
+        let mut form = bytes(ONE);
+        form[7..9].copy_from_slice(&minimum.to_le_bytes());
+        form[9..11].copy_from_slice(&maximum.to_le_bytes());
+        assert_eq!(read(&form), Err(fault), "{minimum} {maximum}");
+    }
+    for (minimum, maximum) in [
+        (0, 0),
+        (1, 0),
+        (0xfffe, 0),
+        (0, 1),
+        (10, 10),
+        (0x00ff, 0x0100),
+        (0xfffe, 0xfffe),
+    ] {
+        let form = write(&[with(minimum, maximum)]).expect("it has one");
+        assert!(read(&form).is_ok(), "{minimum} {maximum}");
+    }
+}
+
+#[test]
+fn what_a_refused_save_leaves() {
+    let zeros = |number, room| (number, 0, "00".repeat(room));
+    let full = to_bytes(&many(16));
+    for room in [0, 1, 18, 288] {
+        assert_eq!(saves(&full, room), zeros(5, room));
+    }
+    assert_eq!(saves(&full, 289).0, 0);
+    let off = to_bytes(&[with(0, 0xffff)]);
+    let twice = to_bytes(&[FIRST, REPORTED]);
+    // 13 comes before 5
+    for room in [0, 1, 37, 289] {
+        assert_eq!(saves(&off, room), zeros(13, room));
+        assert_eq!(saves(&twice, room), zeros(13, room));
+    }
+    // and 8 before both
+    for at in [0, 1 + 16, 1 + 29 + 16, SIZE - 1] {
+        let mut broken = twice.clone();
+        broken[at] = 0xff;
+        assert_eq!(saves(&broken, 289), zeros(8, 289), "{at}");
+        assert_eq!(saves(&broken, 0), zeros(8, 0), "{at}");
+    }
+    assert_eq!(saves(&full[..SIZE - 1], 289), zeros(8, 289));
+    assert_eq!(saves(&[&full[..], &[0]].concat(), 289), zeros(8, 289));
+    assert_eq!(saves(&[], 289), zeros(8, 289));
+}
+
+#[test]
+fn what_a_refused_restore_leaves() {
+    for form in [&[][..], &[1], &bytes(ONE)[..18], &two_with(5, 0)] {
+        assert_eq!(restores(form), (13, vec![0; SIZE]), "{}", hex(form));
+    }
+    // 8 comes before 13, and leaves the bytes
+    for saved in [&bytes(ONE)[..], &[], &[0xff]] {
+        for length in [0, SIZE - 1, SIZE + 1] {
+            let mut table = vec![0xa5; length];
+            assert_eq!(restore(&mut table, saved), 8, "{length}");
+            assert_eq!(table, vec![0xa5; length]);
+        }
+    }
+}
+
+#[test]
+fn over_any_bytes() {
+    for before in [[0; SIZE], [0xa5; SIZE], [0xff; SIZE]] {
+        let mut table = before;
+        assert_eq!(restore(&mut table, &bytes(ONE)), 0);
+        assert_eq!(table, to_bytes(&[FIRST])[..]);
+    }
+}

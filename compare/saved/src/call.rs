@@ -1,0 +1,48 @@
+//! The two calls, and what the reading of the documents answers to them.
+
+use ours::Answer;
+use reading::saved;
+
+#[derive(Debug, Clone)]
+pub enum Call {
+    Save {
+        table: Vec<u8>,
+        room: usize,
+    },
+    /// The table's bytes before may be any.
+    Restore {
+        table: Vec<u8>,
+        saved: Vec<u8>,
+    },
+}
+
+impl Call {
+    pub fn on_ours(&self) -> ours::Call {
+        match self {
+            Self::Save { table, room } => ours::Call::save(table, *room),
+            Self::Restore { table, saved } => ours::Call::restore(table, saved),
+        }
+    }
+
+    pub fn document(&self) -> Answer {
+        match self {
+            Self::Save { table, room } => saves(table, &saved::save(table, *room), *room),
+            Self::Restore { table, saved } => {
+                let mut table = table.clone();
+                let number = saved::restore(&mut table, saved);
+                restores(number, &table, saved)
+            }
+        }
+    }
+}
+
+/// The answer to a save, which leaves the table as it was, with the whole buffer.
+pub fn saves(table: &[u8], answer: &reading::commands::Answer, room: usize) -> Answer {
+    let used = answer.reply.len() as u64;
+    Answer::new(answer.number, &[used], &[table, &answer.buffer(room)])
+}
+
+/// The answer to a restore, which leaves this table.
+pub fn restores(number: u8, table: &[u8], saved: &[u8]) -> Answer {
+    Answer::new(number, &[], &[table, saved])
+}

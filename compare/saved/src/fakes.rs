@@ -1,0 +1,180 @@
+//! Servers that are wrong, each in its way.
+
+use ours::Answer;
+use reading::saved::{Fault, length, read, save, write};
+use reading::table::{ENTRIES, Entry, SIZE, entries, place, to_bytes};
+
+use crate::call::{Call, restores, saves};
+use crate::made::{laid_out, offsets};
+use crate::server::Server;
+
+/// What it makes of a call.
+pub struct Fake(pub fn(&Call) -> Answer);
+
+impl Server for Fake {
+    fn serve(&mut self, calls: &[Call]) -> Result<Vec<Result<Answer, String>>, String> {
+        Ok(calls.iter().map(self.0).map(Ok).collect())
+    }
+}
+
+type Wrong = fn(&Call) -> Answer;
+
+/// With the function in which each is wrong.
+pub const ALL: [(&str, Wrong); 11] = [
+    ("restore", keeps_last_reports),
+    ("restore", any_offsets),
+    ("restore", leaves_the_old_table),
+    ("restore", passes_over_the_rest),
+    ("restore", over_a_table_alone),
+    ("restore", one_more),
+    ("save", saves_what_is_cleared),
+    ("save", saves_a_key_twice),
+    ("save", leaves_bytes),
+    ("save", room_first),
+    ("save", clears_reports),
+];
+
+/// A restore that leaves `entries`, where the bytes are a table's length.
+fn restored(table: &[u8], form: &[u8], entries: Option<Vec<Entry>>) -> Answer {
+    if table.len() != SIZE {
+        return restores(8, table, form);
+    }
+    let number = if entries.is_some() { 0 } else { 13 };
+    restores(number, &to_bytes(&entries.unwrap_or_default()), form)
+}
+
+/// A restore that writes over the slots and not their last reports.
+fn keeps_last_reports(call: &Call) -> Answer {
+    let Call::Restore { table, saved } = call else {
+        return call.document();
+    };
+    let old = entries(table).unwrap_or_default();
+    let kept = |entry: Entry| Entry {
+        last: place(&old, entry.key).and_then(|place| old[place].last),
+        ..entry
+    };
+    let entries = read(saved).ok();
+    let entries = entries.map(|entries| entries.into_iter().map(kept).collect());
+    restored(table, saved, entries)
+}
+
+/// A restore that reads the bodies one after the other, whatever the offsets are.
+fn any_offsets(call: &Call) -> Answer {
+    match call {
+        Call::Restore { table, saved } => restored(table, saved, read(&put_right(saved)).ok()),
+        Call::Save { .. } => call.document(),
+    }
+}
+
+/// With offsets that follow on, where there are any.
+fn put_right(saved: &[u8]) -> Vec<u8> {
+    let mut form = saved.to_vec();
+    let count = usize::from(form.first().copied().unwrap_or(0));
+    if form.len() == length(count) && count <= ENTRIES {
+        for (place, offset) in offsets(count).into_iter().enumerate() {
+            form[6 * place + 5..6 * place + 7].copy_from_slice(&offset.to_le_bytes());
+        }
+    }
+    form
+}
+
+/// A refused restore that is done before the table is emptied.
+fn leaves_the_old_table(call: &Call) -> Answer {
+    match call {
+        Call::Restore { table, saved } if read(saved).is_err() => {
+            let number = if table.len() == SIZE { 13 } else { 8 };
+            restores(number, table, saved)
+        }
+        _ => call.document(),
+    }
+}
+
+/// A save that writes a table with this fault.
+fn saves_with(call: &Call, fault: Fault) -> Answer {
+    if let Call::Save { table, room } = call
+        && let Ok(held) = entries(table)
+        && write(&held) == Err(fault)
+        && *room >= length(held.len())
+    {
+        let reply = laid_out(&held, &offsets(held.len()));
+        let number = 0;
+        return saves(table, &reading::commands::Answer { number, reply }, *room);
+    }
+    call.document()
+}
+
+/// It passes over a maximum of 0 with a minimum of ffff.
+fn saves_what_is_cleared(call: &Call) -> Answer {
+    saves_with(call, Fault::Neither)
+}
+
+fn saves_a_key_twice(call: &Call) -> Answer {
+    saves_with(call, Fault::Repeated)
+}
+
+/// A refused save that leaves the buffer's first byte.
+fn leaves_bytes(call: &Call) -> Answer {
+    match call {
+        Call::Save { table, room } if save(table, *room).number != 0 && *room > 0 => {
+            let mut buffer = vec![0; *room];
+            buffer[0] = 0xa5;
+            Answer::new(save(table, *room).number, &[0], &[table, &buffer])
+        }
+        _ => call.document(),
+    }
+}
+
+/// A save that says 5 before 13.
+fn room_first(call: &Call) -> Answer {
+    if let Call::Save { table, room } = call
+        && let Ok(held) = entries(table)
+        && *room < length(held.len())
+    {
+        let (number, reply) = (5, Vec::new());
+        return saves(table, &reading::commands::Answer { number, reply }, *room);
+    }
+    call.document()
+}
+
+/// A restore that passes over what is behind the last body.
+fn passes_over_the_rest(call: &Call) -> Answer {
+    let Call::Restore { table, saved } = call else {
+        return call.document();
+    };
+    let count = usize::from(saved.first().copied().unwrap_or(0));
+    let end = saved.len().min(length(count));
+    restored(table, saved, read(&saved[..end]).ok())
+}
+
+/// A restore that says 8 where the old bytes are no table.
+fn over_a_table_alone(call: &Call) -> Answer {
+    match call {
+        Call::Restore { table, saved } if entries(table).is_err() => restores(8, table, saved),
+        _ => call.document(),
+    }
+}
+
+/// A restore that reads the first sixteen of seventeen entries.
+fn one_more(call: &Call) -> Answer {
+    match call {
+        Call::Restore { table, saved } if saved.len() == length(17) && saved[0] == 17 => {
+            let (contents, bodies) = saved[1..].split_at(6 * 17);
+            let form = [&[16], &contents[..6 * 16], &bodies[..12 * 16]].concat();
+            restored(table, saved, read(&put_right(&form)).ok())
+        }
+        _ => call.document(),
+    }
+}
+
+/// A save that forgets the last reports of the table itself.
+fn clears_reports(call: &Call) -> Answer {
+    let Call::Save { table, room } = call else {
+        return call.document();
+    };
+    let mut left = table.clone();
+    if let Ok(mut held) = entries(table) {
+        held.iter_mut().for_each(|entry| entry.last = None);
+        left = to_bytes(&held);
+    }
+    saves(&left, &save(table, *room), *room)
+}

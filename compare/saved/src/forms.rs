@@ -1,0 +1,179 @@
+//! Bytes that are restored: forms with every damage of one byte, and any bytes
+//! that look like a form.
+
+use cases::Random;
+use reading::saved::{length, write};
+use reading::table::{ENTRIES, Entry, SIZE, to_bytes};
+
+use crate::compared::Compared;
+use crate::made::{self, Intervals, laid_out, offsets};
+use crate::round_trip::restore_and_save;
+use crate::server::Server;
+
+/// The entries of the forms of which every damage is tried.
+const DAMAGED: [usize; 4] = [0, 1, 2, 16];
+
+const ANY: usize = 150_000;
+
+/// Every damage is restored over a full table with last reports, so that what is
+/// left of it shows.
+pub fn compare_damaged(
+    compared: &mut Compared<'_, impl Server>,
+    random: &mut Random,
+) -> Result<(), String> {
+    let before = full(random);
+    for many in DAMAGED {
+        let form = write(&made::table(random, many, Intervals::Sound)).expect("it has one");
+        restore_and_save(compared, &before, &form)?;
+        for damaged in damaged(&form) {
+            restore_and_save(compared, &before, &damaged)?;
+        }
+    }
+    Ok(())
+}
+
+/// Sixteen entries, all of them reported.
+fn full(random: &mut Random) -> Vec<u8> {
+    let mut entries = made::table(random, ENTRIES, Intervals::Any);
+    for entry in &mut entries {
+        entry.last = Some((random.word(), -1));
+    }
+    to_bytes(&entries)
+}
+
+/// Cut at every place, with a byte behind, with some zeros or others behind, and
+/// with each byte changed to every other.
+fn damaged(form: &[u8]) -> Vec<Vec<u8>> {
+    let cut = (0..form.len()).map(|at| form[..at].to_vec());
+    let byte_behind = (0..=0xff).map(|byte| [form, &[byte]].concat());
+    // 18 bytes are those of an entry more; the last two are lost in a length of
+    // one byte or of two
+    let lengths = [2, 6, 12, 17, 18, 19, 36, length(ENTRIES), 1 << 8, 1 << 16];
+    let behind = lengths
+        .into_iter()
+        .flat_map(|length| [0, 0xff, 0xa5].map(|byte| [form, &vec![byte; length]].concat()));
+    let changed = (0..form.len()).flat_map(|at| {
+        let others = (0..=0xff).filter(move |&byte| byte != form[at]);
+        others.map(move |byte| {
+            let mut changed = form.to_vec();
+            changed[at] = byte;
+            changed
+        })
+    });
+    cut.chain(byte_behind)
+        .chain(behind)
+        .chain(changed)
+        .collect()
+}
+
+/// Any bytes, over any bytes.
+pub fn compare_any(
+    compared: &mut Compared<'_, impl Server>,
+    random: &mut Random,
+) -> Result<(), String> {
+    for _ in 0..ANY {
+        let form = any(random);
+        let before = before(random);
+        restore_and_save(compared, &before, &form)?;
+    }
+    Ok(())
+}
+
+/// What a form may be restored over.
+fn before(random: &mut Random) -> Vec<u8> {
+    match random.below(8) {
+        0 => random.bytes(SIZE),
+        1 => vec![0; SIZE],
+        2 => {
+            let length = random.of(&[0, SIZE - 1, SIZE + 1]);
+            random.bytes(length)
+        }
+        _ => {
+            let many = made::many(random);
+            to_bytes(&made::table(random, many, Intervals::Any))
+        }
+    }
+}
+
+/// Bytes that look like a form: some are one, most have one fault or more.
+fn any(random: &mut Random) -> Vec<u8> {
+    let most = if random.one_in(32) { 255 } else { ENTRIES + 2 };
+    let many = random.below(most + 1);
+    if random.one_in(8) {
+        return noise(random, many);
+    }
+    let mut entries: Vec<Entry> = (0..many).map(|_| entry(random)).collect();
+    if many >= 2 && random.one_in(4) {
+        entries[random.below(many)].key = entries[random.below(many)].key;
+    }
+    let mut offsets = offsets(many);
+    if many >= 1 && random.one_in(4) {
+        misplace(random, &mut offsets);
+    }
+    let mut form = laid_out(&entries, &offsets);
+    if random.one_in(8) {
+        let other = random.below(2 * form.len());
+        form.resize(other, random.of(&[0, 0xff]));
+    }
+    form
+}
+
+/// Keys are most often distinct.
+fn entry(random: &mut Random) -> Entry {
+    let mut key = made::key(random);
+    if !random.one_in(64) {
+        key.attribute = random.short();
+    }
+    Entry {
+        key,
+        config: made::config(random, Intervals::Any),
+        last: None,
+    }
+}
+
+/// Offsets that do not follow on, most of them: two exchanged or the same, one
+/// beside its body or anywhere, or all of them moved.
+fn misplace(random: &mut Random, offsets: &mut [u16]) {
+    let [one, other] = [0, 1].map(|_| random.below(offsets.len()));
+    match random.below(5) {
+        0 => offsets.swap(one, other),
+        1 => offsets[one] = offsets[other],
+        2 => offsets[one] = offsets[one].wrapping_add_signed(random.of(&[-1, 1, 12, -12, 256])),
+        3 => offsets[one] = random.short(),
+        _ => {
+            let by = random.of(&[-1, 1, 6, 12, -7]);
+            for offset in offsets {
+                *offset = offset.wrapping_add_signed(by);
+            }
+        }
+    }
+}
+
+/// Bytes without any order, but for their length and, mostly, the count.
+fn noise(random: &mut Random, many: usize) -> Vec<u8> {
+    let mut bytes = random.bytes(length(many));
+    if !random.one_in(4) {
+        bytes[0] = many as u8;
+    }
+    bytes
+}
+
+#[cfg(test)]
+mod tests {
+    use std::collections::HashSet;
+
+    use super::*;
+
+    #[test]
+    fn every_damage_is_another_form() {
+        let random = &mut Random::new(1);
+        for many in DAMAGED {
+            let form = write(&made::table(random, many, Intervals::Sound)).expect("it has one");
+            let all = damaged(&form);
+            assert_eq!(all.len(), 256 * form.len() + 256 + 30);
+            let once: HashSet<&Vec<u8>> = all.iter().collect();
+            assert_eq!(once.len(), all.len());
+            assert!(!once.contains(&form));
+        }
+    }
+}

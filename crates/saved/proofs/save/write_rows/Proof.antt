@@ -1,0 +1,112 @@
+-- After i turns the rows of the first i entries stand behind the count. Assumes nothing.
+use native.Mathlib.Omega.{arith}
+use Prim.Native.Nat.{_-_, _≤_}
+use mathlib.Core.Path.{_≡_, refl, ap, _∙_}
+use mathlib.Core.List.{List, map}
+use lib.ListN.{length}
+use lib.Seq.{sets}
+use denote.Ref.{now}
+use Rattle.reporting.specs.declared.entry.Entry.{Entry}
+use Rattle.reporting.specs.Carried.{rowsLaid, countIn}
+use Rattle.reporting.proofs.CarriageLoops.{known-size, known-count}
+use Rattle.saved.specs.Saved.{plain, keyOf, rowOf, contentsFrom}
+use Rattle.saved.proofs.Rows.{contentsTo, contents-none, contents-turn, all-taken}
+use Rattle.saved.proofs.save.write_rows.Statement.{statement}
+use Rattle.saved.proofs.save.write_rows.Tie as tie
+
+abbrev Inv-loop : tie.InvT-loop
+Inv-loop saved₀ table n i₀ saved i = (i ≤ n) × ((length saved ≡ length saved₀) × (saved ≡ sets saved₀ 1 (rowsLaid (rowOf plain) (contentsTo table i))))
+
+abbrev μ-loop : tie.MeasureT-loop
+μ-loop saved₀ table n i₀ saved i = n - i
+
+shared-slice-read-n : tie.Need-shared-slice-read-n Inv-loop μ-loop
+shared-slice-read-n c = omega (arith, known-size (now (c .before .before .before .args .table)) (c .before .before .before .pre .0))
+
+cast-n : tie.Need-cast-n Inv-loop μ-loop
+cast-n c = omega (arith, c .shared-slice-known2 .given 0)
+
+loop-holds : tie.Need-loop-holds Inv-loop μ-loop
+loop-holds c = (omega arith, (refl, contents-none (now (c .before .before .before .args .table)) (now (c .before .before .before .args .saved))))
+
+mul-read-slot : tie.Need-mul-read-slot Inv-loop μ-loop
+mul-read-slot c = omega (arith, known-count (now (c .before .before .before .before .before .args .table)) (c .before .before .before .before .before .pre .0))
+
+add-read-slot : tie.Need-add-read-slot Inv-loop μ-loop
+add-read-slot c = omega (arith, known-count (now (c .before .before .before .before .before .args .table)) (c .before .before .before .before .before .pre .0))
+
+read-slot-requires : tie.Need-read-slot-requires Inv-loop μ-loop
+read-slot-requires c κs = omega (arith, known-count (now (c .before .before .before .before .before .args .table)) (c .before .before .before .before .before .pre .0), known-size (now (c .before .before .before .before .before .args .table)) (c .before .before .before .before .before .pre .0))
+
+mul-offset : tie.Need-mul-offset Inv-loop μ-loop
+mul-offset c = omega (arith, known-count (now (c .before .before .before .before .before .before .args .table)) (c .before .before .before .before .before .before .pre .0))
+
+add-offset : tie.Need-add-offset Inv-loop μ-loop
+add-offset c = omega (arith, known-count (now (c .before .before .before .before .before .before .args .table)) (c .before .before .before .before .before .before .pre .0))
+
+mul-offset-2 : tie.Need-mul-offset-2 Inv-loop μ-loop
+mul-offset-2 c = omega (arith, known-count (now (c .before .before .before .before .before .before .args .table)) (c .before .before .before .before .before .before .pre .0))
+
+add-offset-2 : tie.Need-add-offset-2 Inv-loop μ-loop
+add-offset-2 c = omega (arith, known-count (now (c .before .before .before .before .before .before .args .table)) (c .before .before .before .before .before .before .pre .0))
+
+mul-write-row : tie.Need-mul-write-row Inv-loop μ-loop
+mul-write-row c = omega (arith, known-count (now (c .before .before .before .before .before .before .before .args .table)) (c .before .before .before .before .before .before .before .pre .0))
+
+add-write-row : tie.Need-add-write-row Inv-loop μ-loop
+add-write-row c = omega (arith, known-count (now (c .before .before .before .before .before .before .before .args .table)) (c .before .before .before .before .before .before .before .pre .0))
+
+cast-write-row : tie.Need-cast-write-row Inv-loop μ-loop
+cast-write-row c = omega (arith, known-count (now (c .before .before .before .before .before .before .before .args .table)) (c .before .before .before .before .before .before .before .pre .0))
+
+write-row-requires : tie.Need-write-row-requires Inv-loop μ-loop
+write-row-requires c κs = omega (arith, c .before .before .before .before .before .before .before .pre .1, c .before .before .loop-test .taken, c .before .before .before .loop .inv .1 .0)
+
+add-i : tie.Need-add-i Inv-loop μ-loop
+add-i c = omega (arith, known-count (now (c .before .before .before .before .before .before .before .before .before .before .args .table)) (c .before .before .before .before .before .before .before .before .before .before .pre .0))
+
+loop-less : tie.Need-loop-less Inv-loop μ-loop
+loop-less c = omega arith
+
+loop-again : tie.Need-loop-again Inv-loop μ-loop
+loop-again c =
+    let bs = now (c .before .before .before .before .before .before .before .before .before .before .args .table) in
+    let e = c .before .before .before .before .read-slot in
+    let w = c .before .before .write-row in (
+      omega arith,
+      (w .kept .0 ∙ c .before .before .before .before .before .before .loop .inv .1 .0, contents-turn bs (c .before .before .before .before .before .before .loop .i) (now (c .before .before .before .before .before .before .before .before .before .before .args .saved)) (c .before .before .before .before .before .before .loop .saved) (w .last .0) (c .before .before .before .before .before .loop-test .taken) (e .result) (e .ensures) (c .before .before .before .before .before .before .loop .inv .1 .1) (w .ensures)),
+    )
+
+same-length : tie.Need-same-length Inv-loop μ-loop
+same-length c = c .before .loop .inv .1 .0
+
+returns : tie.Need-returns Inv-loop μ-loop
+returns c =
+    let bs = now (c .before .before .before .before .before .args .table) in
+    c .before .loop .inv .1 .1 ∙ ap (λ (l : List Entry). sets (now (c .before .before .before .before .before .args .saved)) 1 (rowsLaid (rowOf plain) (contentsFrom plain (countIn bs) 0 (map keyOf l)))) (all-taken bs (c .before .loop .i) (c .loop-test .left))
+
+pub write-rows-spec : {M : Type 1} → statement M
+write-rows-spec =
+    tie.close
+    (tie.spec
+    Inv-loop
+    μ-loop
+    shared-slice-read-n
+    cast-n
+    loop-holds
+    mul-read-slot
+    add-read-slot
+    read-slot-requires
+    mul-offset
+    add-offset
+    mul-offset-2
+    add-offset-2
+    mul-write-row
+    add-write-row
+    cast-write-row
+    write-row-requires
+    add-i
+    loop-less
+    loop-again
+    same-length
+    returns)

@@ -1,0 +1,92 @@
+// A table's bytes, made from a saved form. What they were before does not matter: memory after a power cut is no table.
+ghost use mathlib.Core.Path.{_≡_};
+ghost use mathlib.Core.Bool.{true};
+ghost use mathlib.Core.List.{[]};
+ghost use Prim.Native.Nat.{_+_, _*_, _≤_};
+ghost use lib.ListN.{length, drop};
+ghost use Rattle.reporting.specs.Table.{capacity};
+ghost use Rattle.reporting.specs.Carried.{tableBytes, rowsIn};
+ghost use Rattle.reporting.specs.Lent.{leftAs};
+ghost use Rattle.reporting.specs.Claims.RoundTrip.{AllClean};
+ghost use Rattle.saved.specs.Saved.{plain, rowOf, savedIn, followOn, isLaid};
+ghost use Rattle.saved.specs.Lent.{restoreLent};
+use super::form::BODY;
+use super::form::ROW;
+use super::form::entry_in;
+use super::form::offset_in;
+use super::savable::is_savable;
+use frame::answer::Refusal;
+use frame::reply::clear;
+use reporting::carried::LIMIT;
+use reporting::carried::SLOT;
+use reporting::carried::TABLE_BYTES;
+use reporting::carried::write_slot;
+use reporting::table::Change;
+
+// Whether each of n offsets is where its body stands: the first behind the contents, each next one behind the body before it.
+fn offsets_follow(saved: &[u8], n: usize) -> bool
+    requires { ⌜ (n ≤ 16) × (1 + 18 * n ≤ length (now saved)) ⌝ }
+    ensures { λ r. ⌜ r ≡ followOn plain n 0 (rowsIn (rowOf plain) n (drop 1 (now (saved .entry)))) ⌝ }
+{
+    let mut i = 0;
+    while i < n {
+        let offset = offset_in(saved, 1 + ROW * i);
+        if offset as usize != 1 + ROW * n + BODY * i {
+            return false;
+        }
+        i += 1;
+    }
+    true
+}
+
+// Whether the bytes are laid out as a form of up to so many entries as a table has room for, whatever the entries are.
+fn is_laid(saved: &[u8]) -> bool
+    ensures { λ r. ⌜ r ≡ isLaid plain 16 (now (saved .entry)) ⌝ }
+{
+    if saved.len() == 0 {
+        return false;
+    }
+    let n = saved[0] as usize;
+    if LIMIT < n {
+        return false;
+    }
+    if saved.len() != 1 + (ROW + BODY) * n {
+        return false;
+    }
+    offsets_follow(saved, n)
+}
+
+// Puts the form's entries into an empty table. Not public: the bytes must be an empty table's, and those of a form laid out.
+fn fill(table: &mut [u8], saved: &[u8])
+    requires { ⌜ (now table ≡ tableBytes capacity []) × (isLaid plain 16 (now saved) ≡ true) ⌝ }
+    ensures { λ _. ⌜ now (table .exit) ≡ tableBytes capacity (savedIn plain (now (saved .entry))) ⌝ }
+    ensures { λ _. ⌜ AllClean (savedIn plain (now (saved .entry))) ⌝ }
+{
+    let n = saved[0] as usize;
+    let mut i = 0;
+    while i < n {
+        let e = entry_in(saved, 1 + ROW * i, 1 + ROW * n + BODY * i);
+        write_slot(table, 1 + SLOT * i, e);
+        i += 1;
+        table[0] = i as u8;
+    }
+}
+
+// The table of a saved form; of other bytes the empty one.
+pub fn restore(table: &mut [u8], saved: &[u8]) -> Change
+    ensures { λ r. ⌜ leftAs r (now (table .exit)) ≡ restoreLent (now (saved .entry)) (now (table .entry)) ⌝ }
+{
+    if table.len() != TABLE_BYTES {
+        return Change::Refused(Refusal::NotATable);
+    }
+    clear(table);
+    if !is_laid(saved) {
+        return Change::Refused(Refusal::NotASavedForm);
+    }
+    fill(table, saved);
+    if is_savable(table) {
+        return Change::Done;
+    }
+    clear(table);
+    Change::Refused(Refusal::NotASavedForm)
+}
