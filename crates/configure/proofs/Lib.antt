@@ -7,6 +7,7 @@ pub mod Turns  -- one record done, the loop, and the whole command
 pub mod History  -- a frame is its events
 pub mod Append  -- the records of one request and then another
 pub mod Coded  -- of a header only the manufacturer code counts
+pub mod Limits  -- a frame under two limits
 pub mod WorkedConfigure  -- frames that compute
 -- Read Reporting Configuration
 pub mod Asked  -- what a request asks for

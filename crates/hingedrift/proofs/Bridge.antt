@@ -18,25 +18,25 @@ use Rattle.reporting.specs.declared.table.Change.the-variants as ChangeV
 use Rattle.reporting.specs.declared.table.Report.{Report}
 use Rattle.reporting.specs.declared.table.Setting.{Setting}
 use Rattle.reporting.specs.Table.{changeTold, ReportTold, reportTold, SettingTold, settingTold}
-use Rattle.reporting.specs.Carried.{Written, written}
+use Rattle.reporting.specs.Carried.{Written, written, tableLength}
 use Rattle.reporting.specs.Lent.{askLent, configurationLent, markLent, clearLent, ChangeLeft, leftAs, configureLent, tableNumber}
 use Rattle.reporting.proofs.table.Change as change
-use Rattle.reporting.proofs.CarriageLoops.{table-size, empty-bytes}
+use Rattle.reporting.proofs.CarriageLoops.{empty-bytes}
 use Rattle.saved.specs.Lent.{restoreLent}
 use Rattle.hingedrift.specs.Tables.{bit, left, noResult, newLeft, configureLeft, clearLeft, markLeft, askLeft, configurationBy, configurationLeft}
 use Rattle.hingedrift.specs.Saving.{restoreLeft}
 
 -- hd_table_new
 module _ (bs : List ℕ) where
-  pub new-refused : (n : ℕ) → n ≡ refusalNumber NotATable → (length bs ≡ 465 → ⊥) → left n bs noResult ≡ newLeft bs
+  pub new-refused : (n : ℕ) → n ≡ refusalNumber NotATable → (length bs ≡ tableLength → ⊥) → left n bs noResult ≡ newLeft bs
   unfolding newLeft
-  new-refused n e h = ap (λ (m : ℕ). left m bs noResult) e ∙ sym (rw (table-size, ne-eqb (length bs) 465 h))
+  new-refused n e h = ap (λ (m : ℕ). left m bs noResult) e ∙ sym (rw (ne-eqb (length bs) tableLength h))
 
-  pub new-cleared : (after : List ℕ) → length bs ≡ 465 → after ≡ zeros (length bs) → left 0 after noResult ≡ newLeft bs
+  pub new-cleared : (after : List ℕ) → length bs ≡ tableLength → after ≡ zeros (length bs) → left 0 after noResult ≡ newLeft bs
   unfolding newLeft
   new-cleared after n e =
       ap (λ (l : List ℕ). left 0 l noResult) (e ∙ ap zeros n ∙ sym empty-bytes)
-      ∙ sym (rw (table-size, eq-eqb (length bs) 465 n))
+      ∙ sym (rw (eq-eqb (length bs) tableLength n))
 
 -- ---- the operations on the bytes: the answer r that is told is a, and the key and the value are those that C handed over
 

@@ -19,7 +19,7 @@ use Rattle.frame.specs.Failures.{doneWith, passFrom, encodeFailures, answered, 
 use Rattle.store.specs.Contents.{attributeAt, attributesFrom, attributesOf, findIn, findOf}
 use Rattle.store.specs.Layout.{each, ascending, roomOk, isText, lengthOk, followOn, endFrom, unusedOk, isStore}
 use Rattle.reporting.specs.Due.{movedBy}
-use Rattle.reporting.specs.Carried.{total, laid, numbersIn, rowsLaid, rowsIn, numbersOf, entryOf, isSlot, tableBytes, slotsIn, tableIn, areSlots, isTable}
+use Rattle.reporting.specs.Carried.{laid, numbersIn, rowsLaid, rowsIn, numbersOf, entryOf, isSlot, tableBytes, slotsIn, tableIn, areSlots, isTable}
 use Rattle.reporting.specs.Lent.{onLent, askLent, markLent}
 use Rattle.reporting.specs.Claims.Events.{Event}
 use Rattle.reporting.specs.Demand3.{asksOf, Supposed, Promised}
@@ -62,7 +62,7 @@ store-bytes = bytes-small (T 0x07) refl
 -- ---- the log
 
 pub log-stands : LogStands
-unfolding allZero le bytesOf unsignedAt signedOf signedAt residue sizeOf shapeOf isAnalog isSigned isFloat changeAt upto count frameTypeOf headerOf replyHead commandOf padded recordsIn recordsFrom walk encodeAll fits doneWith passFrom encodeFailures answered concluded performed headed attributeAt attributesFrom attributesOf findIn findOf each ascending roomOk isText lengthOk followOn endFrom unusedOk isStore movedBy total laid numbersIn rowsLaid rowsIn numbersOf entryOf isSlot tableBytes slotsIn tableIn areSlots isTable changeWidth configureAt setting tried configureEntries configureOf commanded typed byHeader tabled serve serveLent newLeft onLent markLent askLent
+unfolding allZero le bytesOf unsignedAt signedOf signedAt residue sizeOf shapeOf isAnalog isSigned isFloat changeAt upto count frameTypeOf headerOf replyHead commandOf padded recordsIn recordsFrom walk encodeAll fits doneWith passFrom encodeFailures answered concluded performed headed attributeAt attributesFrom attributesOf findIn findOf each ascending roomOk isText lengthOk followOn endFrom unusedOk isStore movedBy laid numbersIn rowsLaid rowsIn numbersOf entryOf isSlot tableBytes slotsIn tableIn areSlots isTable changeWidth configureAt setting tried configureEntries configureOf commanded typed byHeader tabled serve serveLent newLeft onLent markLent askLent
 log-stands = (
   refl,
   (
@@ -73,7 +73,7 @@ log-stands = (
 )
 
 pub log-events : LogEvents
-unfolding allZero le bytesOf unsignedAt signedOf signedAt residue sizeOf shapeOf isAnalog isSigned isFloat changeAt upto count frameTypeOf headerOf replyHead commandOf padded recordsIn recordsFrom taken encodeAll fits doneWith attributeAt attributesFrom attributesOf findIn findOf each ascending roomOk isText lengthOk followOn endFrom unusedOk isStore total laid numbersIn rowsLaid rowsIn numbersOf entryOf tableBytes slotsIn tableIn changeWidth configureAt setting tried recordEvents allEvents recordsDone configureEvents requestEvents
+unfolding allZero le bytesOf unsignedAt signedOf signedAt residue sizeOf shapeOf isAnalog isSigned isFloat changeAt upto count frameTypeOf headerOf replyHead commandOf padded recordsIn recordsFrom taken encodeAll fits doneWith attributeAt attributesFrom attributesOf findIn findOf each ascending roomOk isText lengthOk followOn endFrom unusedOk isStore laid numbersIn rowsLaid rowsIn numbersOf entryOf tableBytes slotsIn tableIn changeWidth configureAt setting tried recordEvents allEvents recordsDone configureEvents requestEvents
 log-events = (refl, refl)
 
 pub log-supposed : LogSupposed

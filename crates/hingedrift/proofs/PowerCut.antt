@@ -9,7 +9,7 @@ use Rattle.frame.specs.Reply.{padded}
 use Rattle.reporting.specs.Entries.{distinct}
 use Rattle.reporting.specs.Due.{movedBy}
 use Rattle.reporting.specs.Table.{capacity}
-use Rattle.reporting.specs.Carried.{total, laid, numbersIn, rowsLaid, rowsIn, numbersOf, entryOf, isSlot, tableBytes, slotsIn, tableIn, areSlots, isTable}
+use Rattle.reporting.specs.Carried.{laid, numbersIn, rowsLaid, rowsIn, numbersOf, entryOf, isSlot, tableBytes, slotsIn, tableIn, areSlots, isTable}
 use Rattle.reporting.specs.Lent.{onLent, askLent, markLent}
 use Rattle.reporting.specs.Claims.Events.{Event}
 use Rattle.reporting.specs.Demand3.{asksOf, Supposed, Promised}
@@ -26,7 +26,7 @@ use Rattle.hingedrift.proofs.LogExample.{bytes-small, log-stands}
 
 -- what hd_save gave of attribute 5's entry
 saved-so : handed 0 19 (padded 32 form) noState ≡ saveLeft (tableBytes capacity (reported ∷ [])) 32
-unfolding allZero le bytesOf padded distinct total laid numbersIn rowsLaid rowsIn numbersOf entryOf isSlot tableBytes slotsIn tableIn areSlots isTable onLent contentsFrom savedBytes allSet saveLent
+unfolding allZero le bytesOf padded distinct laid numbersIn rowsLaid rowsIn numbersOf entryOf isSlot tableBytes slotsIn tableIn areSlots isTable onLent contentsFrom savedBytes allSet saveLent
 saved-so = refl
 
 -- up to the mark they are the first calls of the other log
@@ -36,7 +36,7 @@ cut-stands =
     (log-stands .0, (l .0, l .1, (l .2 .0, l .2 .1, (l .2 .2 .0, l .2 .2 .1, (tt, saved-so, tt)))))
 
 pub restore-stands : RestoreStands
-unfolding allZero le bytesOf signedOf residue padded distinct movedBy total laid numbersIn rowsLaid rowsIn numbersOf entryOf isSlot tableBytes slotsIn tableIn areSlots isTable onLent askLent markLent allSet entriesFrom savedIn followOn isLaid isSaved restoreLent
+unfolding allZero le bytesOf signedOf residue padded distinct movedBy laid numbersIn rowsLaid rowsIn numbersOf entryOf isSlot tableBytes slotsIn tableIn areSlots isTable onLent askLent markLent allSet entriesFrom savedIn followOn isLaid isSaved restoreLent
 restore-stands = (
   refl,
   (
@@ -46,7 +46,7 @@ restore-stands = (
 )
 
 pub restore-supposed : RestoreSupposed
-unfolding le total numbersIn rowsIn entriesFrom savedIn
+unfolding le numbersIn rowsIn entriesFrom savedIn
 restore-supposed = (
   refl,
   (

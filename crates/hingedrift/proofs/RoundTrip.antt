@@ -15,7 +15,7 @@ use Rattle.frame.proofs.Buffer.{take-padded}
 use Rattle.reporting.specs.declared.entry.Entry.{Entry}
 use Rattle.reporting.specs.declared.table.Change.the-variants.{Done, Refused}
 use Rattle.reporting.specs.Table.{capacity}
-use Rattle.reporting.specs.Carried.{total, sizeOk, tableIn, tableBytes, isTable}
+use Rattle.reporting.specs.Carried.{sizeOk, tableIn, tableBytes, isTable}
 use Rattle.reporting.specs.Lent.{onLent, leftAs, ChangeLeft}
 use Rattle.reporting.specs.Claims.RoundTrip.{AllClean}
 use Rattle.reporting.proofs.Carriage.{both}
@@ -136,7 +136,6 @@ module _ (bs : List ℕ) (room : ℕ) where
 
 -- offsets have two bytes
 small : savedSize plain capacity < 2 ^ 16
-unfolding total
 small = omega arith
 
 pub hd-save-restore : HdSaveRestore

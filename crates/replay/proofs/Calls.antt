@@ -18,9 +18,8 @@ use Rattle.reporting.specs.declared.entry.Key.{Key}
 use Rattle.reporting.specs.declared.entry.ReportingConfig.{ReportingConfig}
 use Rattle.reporting.specs.declared.table.ReportingTable.{ReportingTable}
 use Rattle.reporting.specs.Table.{capacity, Table, live, tableOf, holding, HandedBack, ReportTold, SettingTold, LengthTold, configureT, clearT, markT, askT, configurationT, lengthT}
-use Rattle.reporting.specs.Carried.{widths, rowsLaid, numbersOf, tableSize, tableBytes, Written, written, writeT}
+use Rattle.reporting.specs.Carried.{widths, rowsLaid, numbersOf, tableSize, tableBytes, Written, written, writeT, slotBytes, tableLength}
 use Rattle.reporting.proofs.Carriage.{length-rows}
-use Rattle.reporting.proofs.CarriageLoops.{slot-size, table-size}
 use Rattle.reporting.proofs.Slots.{is-table}
 use Rattle.replay.specs.Bytes.{same}
 use Rattle.replay.specs.Ours.{agreement}
@@ -89,50 +88,50 @@ module _ (held : List ℕ) (at : ℕ) (c : List ℕ) (t : Table) (op : ℕ) (eo 
 
 -- ---- the table's bytes
 
-module _ (t : ReportingTable) (bs after : List ℕ) (w : Bool) (n : length bs ≡ 465) (p : written w after ≡ writeT 16 t bs) where
-  by-count : written w after ≡ cond (leb (t .count) 16) (written true (tableBytes 16 (live t))) (written false bs)
+module _ (t : ReportingTable) (bs after : List ℕ) (w : Bool) (n : length bs ≡ tableLength) (p : written w after ≡ writeT capacity t bs) where
+  by-count : written w after ≡ cond (leb (t .count) capacity) (written true (tableBytes capacity (live t))) (written false bs)
   unfolding writeT
-  by-count = p ∙ rw (table-size, eq-eqb (length bs) 465 n) refl
+  by-count = p ∙ rw (eq-eqb (length bs) tableLength n) refl
 
-  pub laid-small : w ≡ true → t .count ≤ 16
-  laid-small h = go (leb (t .count) 16) refl by-count
+  pub laid-small : w ≡ true → t .count ≤ capacity
+  laid-small h = go (leb (t .count) capacity) refl by-count
     where
-      go : (b : Bool) → leb (t .count) 16 ≡ b → written w after ≡ cond b (written true (tableBytes 16 (live t))) (written false bs) → t .count ≤ 16
-      go true e q = leb-true (t .count) 16 e
+      go : (b : Bool) → leb (t .count) capacity ≡ b → written w after ≡ cond b (written true (tableBytes capacity (live t))) (written false bs) → t .count ≤ capacity
+      go true e q = leb-true (t .count) capacity e
       go false e q = absurd (true≢false (sym h ∙ ap (λ (x : Written). x .done) q))
 
   pub laid-none : w ≡ false → [] ≡ tableSays (tableOf t)
   unfolding tableSays
-  laid-none h = go (leb (t .count) 16) refl by-count
+  laid-none h = go (leb (t .count) capacity) refl by-count
     where
-      go : (b : Bool) → leb (t .count) 16 ≡ b → written w after ≡ cond b (written true (tableBytes 16 (live t))) (written false bs) → [] ≡ tableSays (tableOf t)
+      go : (b : Bool) → leb (t .count) capacity ≡ b → written w after ≡ cond b (written true (tableBytes capacity (live t))) (written false bs) → [] ≡ tableSays (tableOf t)
       go true e q = absurd (false≢true (sym h ∙ ap (λ (x : Written). x .done) q))
-      go false e q = rw (lt-ltb 16 (t .count) (leb-false (t .count) 16 e)) refl
+      go false e q = rw (lt-ltb capacity (t .count) (leb-false (t .count) capacity e)) refl
 
-  module _ (h : w ≡ true) (l : length (t .entries) ≡ 16) where
+  module _ (h : w ≡ true) (l : length (t .entries) ≡ capacity) where
     as-many : length (live t) ≡ t .count
     as-many = length-take-le (t .count) (t .entries) (omega (arith, laid-small h))
 
     used : List ℕ
     used = length (live t) ∷ rowsLaid widths (map numbersOf (live t))
 
-    long : length used ≡ 1 + 29 * t .count
+    long : length used ≡ 1 + slotBytes * t .count
     unfolding used
     long =
-        let r : length (rowsLaid widths (map numbersOf (live t))) ≡ length (live t) * 29 = length-rows widths (map numbersOf (live t)) ∙ (λ i. length-map (live t) numbersOf i * slot-size i) in
+        let r : length (rowsLaid widths (map numbersOf (live t))) ≡ length (live t) * slotBytes = length-rows widths (map numbersOf (live t)) ∙ ap (λ (n : ℕ). n * slotBytes) (length-map (live t) numbersOf) in
         omega (arith, r, as-many)
 
-    after-is : after ≡ padded (tableSize 16) used
+    after-is : after ≡ padded (tableSize capacity) used
     unfolding tableBytes used
     after-is =
-        let q : written w after ≡ written true (tableBytes 16 (live t)) = by-count ∙ ap (λ (b : Bool). cond b (written true (tableBytes 16 (live t))) (written false bs)) (le-leb (t .count) 16 (laid-small h)) in
+        let q : written w after ≡ written true (tableBytes capacity (live t)) = by-count ∙ ap (λ (b : Bool). cond b (written true (tableBytes capacity (live t))) (written false bs)) (le-leb (t .count) capacity (laid-small h)) in
         ap (λ (x : Written). x .bytes) q
 
-    pub laid-says : take (1 + 29 * t .count) after ≡ tableSays (tableOf t)
+    pub laid-says : take (1 + slotBytes * t .count) after ≡ tableSays (tableOf t)
     unfolding tableSays used padded
     laid-says =
-        ap (take (1 + 29 * t .count)) after-is
-        ∙ take-at used (zeros (tableSize 16 - length used)) (1 + 29 * t .count) long
+        ap (take (1 + slotBytes * t .count)) after-is
+        ∙ take-at used (zeros (tableSize capacity - length used)) (1 + slotBytes * t .count) long
         ∙ sym (ap tableSays (is-table t (laid-small h)))
 
 -- ---- the calls of an input, from one on

@@ -3,6 +3,7 @@ ghost use mathlib.Core.Path.{_≡_};
 ghost use mathlib.Core.List.{[], _∷_};
 ghost use Prim.Native.Nat.{_/_};
 ghost use lib.ListN.{length, take};
+ghost use Rattle.reporting.specs.Carried.{tableLength};
 ghost use Rattle.reporting.specs.Table.{tableOf, holding, handedBack, zeroConfig, changeTold, reportTold, settingTold, lengthTold};
 ghost use Rattle.replay.specs.Bytes.{same as sameBytes};
 ghost use Rattle.replay.specs.Ours.{agreement};
@@ -15,6 +16,7 @@ use super::bytes::same;
 use super::cases::Agreement;
 use super::cases::low;
 use frame::reply::Put;
+use reporting::carried::SLOT;
 use reporting::carried::TABLE_BYTES;
 use reporting::carried::write_table;
 use reporting::entry::Key;
@@ -188,11 +190,11 @@ fn give(table: ReportingTable, call: &[u8], held: &[u8], at: usize) -> Given
 
 // Writes a table's bytes, and says how many of them are used.
 pub(crate) fn lay(bytes: &mut [u8], table: ReportingTable) -> usize
-    requires { ⌜ length (now bytes) ≡ 465 ⌝ }
+    requires { ⌜ length (now bytes) ≡ tableLength ⌝ }
     ensures { λ r. ⌜ take r (now (bytes .exit)) ≡ tableSays (tableOf table) ⌝ }
 {
     if write_table(bytes, table) {
-        return 1 + 29 * table.count;
+        return 1 + SLOT * table.count;
     }
     0
 }

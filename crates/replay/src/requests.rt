@@ -4,6 +4,7 @@ ghost use mathlib.Core.Bool.{cond};
 ghost use mathlib.Core.Option.{some, none};
 ghost use Prim.Native.Nat.{_≤_};
 ghost use lib.ListN.{length};
+ghost use Rattle.reporting.specs.Table.{capacity};
 ghost use Rattle.reporting.specs.Carried.{isTable, reading, readT};
 ghost use Rattle.replay.specs.Ours.{agreement};
 ghost use Rattle.replay.specs.Requests.{wholeTable, requestSays, ofRequest};
@@ -15,6 +16,7 @@ use super::methods::lay;
 use frame::reply::Put;
 use frame::reply::put_run;
 use reporting::carried::ReadTable;
+use reporting::carried::SLOT;
 use reporting::carried::TABLE_BYTES;
 use reporting::carried::read_table;
 use server::serve::handle_request;
@@ -25,7 +27,7 @@ use types::number::u16_at;
 
 // The table whose bytes start with these, zeros behind them.
 fn table_of(used: &[u8]) -> ReadTable
-    ensures { λ r. ⌜ reading r ≡ readT 16 (wholeTable (now (used .entry))) ⌝ }
+    ensures { λ r. ⌜ reading r ≡ readT capacity (wholeTable (now (used .entry))) ⌝ }
 {
     if TABLE_BYTES < used.len() {
         return read_table(used);
@@ -45,7 +47,7 @@ fn served(
     reply: &mut [u8],
 ) -> Agreement
     requires { ⌜ length (now copy) ≡ length (now store) ⌝ }
-    ensures { λ r. ⌜ r ≡ agreement (cond (isTable 16 (wholeTable (now (used .entry)))) (some (requestSays (now (used .entry)) (now (store .entry)) (now (frame .entry)) (length (now (reply .entry))))) none) (now (held .entry)) ⌝ }
+    ensures { λ r. ⌜ r ≡ agreement (cond (isTable capacity (wholeTable (now (used .entry)))) (some (requestSays (now (used .entry)) (now (store .entry)) (now (frame .entry)) (length (now (reply .entry))))) none) (now (held .entry)) ⌝ }
 {
     let known = table_of(used);
     if !known.known {
@@ -70,7 +72,7 @@ pub(crate) fn of_request(input: &[u8], held: &[u8]) -> Agreement
     ensures { λ r. ⌜ r ≡ agreement (ofRequest (now (input .entry))) (now (held .entry)) ⌝ }
 {
     let room = byte_at(input, 0) as usize;
-    let n = 1 + 29 * (byte_at(input, 1) as usize);
+    let n = 1 + SLOT * (byte_at(input, 1) as usize);
     let k = u16_at(input, 1 + n) as usize;
     if input.len() < 3 + n + k {
         return Agreement::NoInput;

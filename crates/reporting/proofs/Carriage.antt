@@ -75,7 +75,7 @@ Within (w ∷ ws) [] = ⊥
 Within (w ∷ ws) (n ∷ ns) = (n < 2 ^ (8 * w)) × Within ws ns
 
 pub length-laid : (ws ns : List ℕ) → length (laid ws ns) ≡ total ws
-unfolding laid total
+unfolding laid
 length-laid [] ns = refl
 length-laid (w ∷ ws) ns = length-append (bytesOf w (getD ns 0 0)) (laid ws (drop 1 ns)) ∙ omega (arith, length-bytes w (getD ns 0 0), length-laid ws (drop 1 ns))
 
@@ -102,7 +102,7 @@ cut-within (w ∷ ws) (n ∷ ns) h = ap (λ (k : ℕ). k ∷ cut ws ns) (mod-eq-
 
 -- BYTES TO NUMBERS AND BACK
 pub laid-numbers : (ws bs : List ℕ) → AllBytes bs → total ws ≤ length bs → laid ws (numbersIn ws bs) ≡ take (total ws) bs
-unfolding laid numbersIn total
+unfolding laid numbersIn
 laid-numbers [] bs h k = refl
 laid-numbers (w ∷ ws) bs h k =
     ap (λ (r : List ℕ). r ++ laid ws (numbersIn ws (drop w bs))) (bytes-le w bs h (omega arith))

@@ -15,33 +15,25 @@ use Rattle.frame.proofs.Buffer.{sets-padded}
 use Rattle.reporting.specs.declared.entry.Entry.{Entry}
 use Rattle.reporting.specs.declared.table.ReportingTable.{ReportingTable}
 use Rattle.reporting.specs.Table.{capacity, Table, holding, tableOf}
-use Rattle.reporting.specs.Carried.{widths, total, laid, numbersIn, rowsLaid, rowsIn, numbersOf, entryOf, isSlot, areSlots, countIn, slotsIn, tableIn, tableSize, tableBytes, isTable, quieted, Reading, tableRead, readT, written, writeT}
+use Rattle.reporting.specs.Carried.{widths, total, laid, numbersIn, rowsLaid, rowsIn, numbersOf, entryOf, isSlot, areSlots, countIn, slotsIn, tableIn, tableBytes, isTable, quieted, Reading, tableRead, readT, written, writeT, slotBytes, tableLength}
 use Rattle.reporting.specs.Claims.RoundTrip.{Clean, AllClean}
 use Rattle.reporting.proofs.Slots.{is-table}
 use Rattle.reporting.proofs.Carriage.{length-laid, length-rows}
 use Rattle.reporting.proofs.CarriageTable.{the-conditions, quieted-snoc}
 
-pub slot-size : total widths ≡ 29
-unfolding total
-slot-size = refl
-
-pub table-size : tableSize 16 ≡ 465
-unfolding total
-table-size = refl
-
 -- an empty table is all zeros
-pub empty-bytes : tableBytes 16 [] ≡ zeros 465
-unfolding tableBytes total padded rowsLaid
+pub empty-bytes : tableBytes capacity [] ≡ zeros tableLength
+unfolding tableBytes padded rowsLaid
 empty-bytes = refl
 
-pub empty-length : length (tableBytes 16 []) ≡ 465
-empty-length = ap length empty-bytes ∙ length-replicate {A = ℕ} 465 0
+pub empty-length : length (tableBytes capacity []) ≡ tableLength
+empty-length = ap length empty-bytes ∙ length-replicate {A = ℕ} tableLength 0
 
 -- ---- the slots, one after the other
 
 -- the slots from the i-th on
 abbrev pub slotsFrom : List ℕ → ℕ → ℕ → List (List ℕ)
-slotsFrom bs count i = rowsIn widths (count - i) (drop (1 + 29 * i) bs)
+slotsFrom bs count i = rowsIn widths (count - i) (drop (1 + slotBytes * i) bs)
 
 -- of the rows from number i on, the first of which stands at `at`, one and the others; and none of none
 module _ (ws bs : List ℕ) (count i at : ℕ) where
@@ -58,11 +50,11 @@ module _ (ws bs : List ℕ) (count i at : ℕ) where
       let n : count - i ≡ 0 = omega arith in
       ap (λ (k : ℕ). rowsIn ws k (drop at bs)) n
 
-pub slots-more : (bs : List ℕ) (count i : ℕ) → i < count → slotsFrom bs count i ≡ numbersIn widths (drop (1 + 29 * i) bs) ∷ slotsFrom bs count (i + 1)
-slots-more bs count i h = rows-more widths bs count i (1 + 29 * i) (1 + 29 * (i + 1)) h (omega (arith, slot-size))
+pub slots-more : (bs : List ℕ) (count i : ℕ) → i < count → slotsFrom bs count i ≡ numbersIn widths (drop (1 + slotBytes * i) bs) ∷ slotsFrom bs count (i + 1)
+slots-more bs count i h = rows-more widths bs count i (1 + slotBytes * i) (1 + slotBytes * (i + 1)) h (omega arith)
 
 pub slots-end : (bs : List ℕ) (count i : ℕ) → count ≤ i → slotsFrom bs count i ≡ []
-slots-end bs count i h = rows-end widths bs count i (1 + 29 * i) h
+slots-end bs count i h = rows-end widths bs count i (1 + slotBytes * i) h
 
 -- what is looked at after i slots: they are in form, so that the others decide
 abbrev pub FormSoFar : List ℕ → ℕ → ℕ → Type 0
@@ -75,15 +67,15 @@ pub form-start : (bs : List ℕ) (count : ℕ) → FormSoFar bs count 0
 form-start bs count = ap areSlots (slots-start bs count)
 
 module _ (bs : List ℕ) (count i : ℕ) (s : FormSoFar bs count i) where
-  form-next : (b : Bool) → i < count → isSlot (numbersIn widths (drop (1 + 29 * i) bs)) ≡ b → (b && areSlots (slotsFrom bs count (i + 1))) ≡ areSlots (rowsIn widths count (drop 1 bs))
+  form-next : (b : Bool) → i < count → isSlot (numbersIn widths (drop (1 + slotBytes * i) bs)) ≡ b → (b && areSlots (slotsFrom bs count (i + 1))) ≡ areSlots (rowsIn widths count (drop 1 bs))
   unfolding areSlots
   form-next b h f = sym (ap areSlots (slots-more bs count i h) ∙ ap (λ (t : Bool). t && areSlots (slotsFrom bs count (i + 1))) f) ∙ s
 
-  pub form-more : i < count → isSlot (numbersIn widths (drop (1 + 29 * i) bs)) ≡ true → FormSoFar bs count (i + 1)
+  pub form-more : i < count → isSlot (numbersIn widths (drop (1 + slotBytes * i) bs)) ≡ true → FormSoFar bs count (i + 1)
   form-more h f = form-next true h f
 
   -- a slot that is not in form
-  pub form-bad : i < count → isSlot (numbersIn widths (drop (1 + 29 * i) bs)) ≡ false → false ≡ areSlots (rowsIn widths count (drop 1 bs))
+  pub form-bad : i < count → isSlot (numbersIn widths (drop (1 + slotBytes * i) bs)) ≡ false → false ≡ areSlots (rowsIn widths count (drop 1 bs))
   form-bad h f = form-next false h f
 
   pub form-done : count ≤ i → true ≡ areSlots (rowsIn widths count (drop 1 bs))
@@ -99,7 +91,7 @@ pub read-start : (bs : List ℕ) (count : ℕ) (es : List Entry) → ReadSoFar b
 read-start bs count es = record { within = omega arith; entries = ap (map entryOf) (slots-start bs count) }
 
 module _ (bs : List ℕ) (count : ℕ) (es : List Entry) (i : ℕ) (s : ReadSoFar bs count es i) where
-  pub read-more : (e : Entry) → i < count → i < length es → e ≡ entryOf (numbersIn widths (drop (1 + 29 * i) bs)) → ReadSoFar bs count (set es i e) (i + 1)
+  pub read-more : (e : Entry) → i < count → i < length es → e ≡ entryOf (numbersIn widths (drop (1 + slotBytes * i) bs)) → ReadSoFar bs count (set es i e) (i + 1)
   read-more e h k p =
       let later : List Entry = map entryOf (slotsFrom bs count (i + 1)) in
       record {
@@ -124,44 +116,44 @@ module _ (bs : List ℕ) (count : ℕ) (es : List Entry) (i : ℕ) (s : ReadSoFa
 -- ---- the tests before
 
 module _ (bs : List ℕ) where
-  pub not-sized : (length bs ≡ 465 → ⊥) → false ≡ isTable 16 bs
+  pub not-sized : (length bs ≡ tableLength → ⊥) → false ≡ isTable capacity bs
   unfolding isTable
-  not-sized h = sym (rw (table-size, ne-eqb (length bs) 465 h))
+  not-sized h = sym (rw (ne-eqb (length bs) tableLength h))
 
-  module _ (n : length bs ≡ 465) where
-    pub not-counted : 16 < countIn bs → false ≡ isTable 16 bs
+  module _ (n : length bs ≡ tableLength) where
+    pub not-counted : capacity < countIn bs → false ≡ isTable capacity bs
     unfolding isTable
-    not-counted h = sym (rw (table-size, eq-eqb (length bs) 465 n, lt-leb (countIn bs) 16 h))
+    not-counted h = sym (rw (eq-eqb (length bs) tableLength n, lt-leb (countIn bs) capacity h))
 
-    module _ (k : countIn bs ≤ 16) (z : Bool) (ez : z ≡ allZero (drop (1 + 29 * countIn bs) bs)) where
+    module _ (k : countIn bs ≤ capacity) (z : Bool) (ez : z ≡ allZero (drop (1 + slotBytes * countIn bs) bs)) where
       -- the code's place of what lies behind the slots
       behind : allZero (drop (1 + countIn bs * total widths) bs) ≡ z
-      behind = ap (λ (p : ℕ). allZero (drop (1 + p) bs)) (ap (λ (w : ℕ). countIn bs * w) slot-size ∙ mul-comm (countIn bs) 29) ∙ sym ez
+      behind = ap (λ (p : ℕ). allZero (drop (1 + p) bs)) (mul-comm (countIn bs) slotBytes) ∙ sym ez
 
-      so-far : isTable 16 bs ≡ (areSlots (slotsIn bs) && z)
+      so-far : isTable capacity bs ≡ (areSlots (slotsIn bs) && z)
       unfolding isTable
-      so-far = rw (table-size, eq-eqb (length bs) 465 n, le-leb (countIn bs) 16 k, behind)
+      so-far = rw (eq-eqb (length bs) tableLength n, le-leb (countIn bs) capacity k, behind)
 
-      pub not-ended : z ≡ false → false ≡ isTable 16 bs
+      pub not-ended : z ≡ false → false ≡ isTable capacity bs
       not-ended f = sym (so-far ∙ ap (λ (b : Bool). areSlots (slotsIn bs) && b) f ∙ and-false (areSlots (slotsIn bs)))
 
-      pub by-slots : z ≡ true → areSlots (rowsIn widths (countIn bs) (drop 1 bs)) ≡ isTable 16 bs
+      pub by-slots : z ≡ true → areSlots (rowsIn widths (countIn bs) (drop 1 bs)) ≡ isTable capacity bs
       unfolding slotsIn
       by-slots f = sym (so-far ∙ ap (λ (b : Bool). areSlots (slotsIn bs) && b) f ∙ and-true (areSlots (slotsIn bs)))
 
   -- how long a table is, and how many slots it has
-  pub known-size : isTable 16 bs ≡ true → length bs ≡ 465
-  known-size f = the-conditions 16 bs f .size ∙ table-size
+  pub known-size : isTable capacity bs ≡ true → length bs ≡ tableLength
+  known-size f = the-conditions capacity bs f .size
 
-  pub known-count : isTable 16 bs ≡ true → countIn bs ≤ 16
-  known-count f = the-conditions 16 bs f .count
+  pub known-count : isTable capacity bs ≡ true → countIn bs ≤ capacity
+  known-count f = the-conditions capacity bs f .count
 
   -- the table, by the test
-  pub read-none : isTable 16 bs ≡ false → tableRead false [] ≡ readT 16 bs
+  pub read-none : isTable capacity bs ≡ false → tableRead false [] ≡ readT capacity bs
   unfolding readT
   read-none f = ap (λ (b : Bool). cond b (tableRead true (tableIn bs)) (tableRead false [])) (sym f)
 
-  pub read-all : isTable 16 bs ≡ true → tableRead true (map entryOf (rowsIn widths (countIn bs) (drop 1 bs))) ≡ readT 16 bs
+  pub read-all : isTable capacity bs ≡ true → tableRead true (map entryOf (rowsIn widths (countIn bs) (drop 1 bs))) ≡ readT capacity bs
   unfolding readT slotsIn tableIn
   read-all f = ap (λ (b : Bool). cond b (tableRead true (tableIn bs)) (tableRead false [])) (sym f)
 
@@ -176,17 +168,16 @@ pub map-snoc : (l : List Entry) (e : Entry) → map numbersOf (l ++ (e ∷ [])) 
 map-snoc [] e = refl
 map-snoc (x ∷ l) e = ap (λ (r : List (List ℕ)). numbersOf x ∷ r) (map-snoc l e)
 
-rows-length : (es : List Entry) (i : ℕ) → i ≤ length es → length (rowsLaid widths (map numbersOf (take i es))) ≡ i * 29
+rows-length : (es : List Entry) (i : ℕ) → i ≤ length es → length (rowsLaid widths (map numbersOf (take i es))) ≡ i * slotBytes
 rows-length es i h =
     length-rows widths (map numbersOf (take i es))
     ∙ ap (λ (n : ℕ). n * total widths) (length-map (take i es) numbersOf ∙ length-take-le i es h)
-    ∙ ap (λ (n : ℕ). i * n) slot-size
 
 -- the count and the first i slots, and zeros to the end
 unfoldable pub filled : ℕ → ℕ → List Entry → ℕ → List ℕ
 filled capacity count es i = padded capacity (count ∷ rowsLaid widths (map numbersOf (take i es)))
 
-pub cleared-length : (bs l : List ℕ) → length bs ≡ 465 → l ≡ zeros (length bs) → length l ≡ 465
+pub cleared-length : (bs l : List ℕ) → length bs ≡ tableLength → l ≡ zeros (length bs) → length l ≡ tableLength
 cleared-length bs l n z = ap length z ∙ length-replicate (length bs) 0 ∙ n
 
 -- a count alone, in a buffer of zeros
@@ -201,16 +192,16 @@ filled-none : (capacity count : ℕ) (es : List Entry) → 0 < capacity → set 
 unfolding filled rowsLaid
 filled-none capacity count es h = count-first capacity count h
 
-filled-more : (capacity count : ℕ) (es : List Entry) (i : ℕ) (d : Entry) → i < length es → 1 + 29 * (i + 1) ≤ capacity
-    → sets (filled capacity count es i) (1 + 29 * i) (laid widths (numbersOf (getD es i d))) ≡ filled capacity count es (i + 1)
+filled-more : (capacity count : ℕ) (es : List Entry) (i : ℕ) (d : Entry) → i < length es → 1 + slotBytes * (i + 1) ≤ capacity
+    → sets (filled capacity count es i) (1 + slotBytes * i) (laid widths (numbersOf (getD es i d))) ≡ filled capacity count es (i + 1)
 unfolding filled
 filled-more capacity count es i d h k =
     let rows : List (List ℕ) = map numbersOf (take i es) in
     let out : List ℕ = count ∷ rowsLaid widths rows in
     let bytes : List ℕ = laid widths (numbersOf (getD es i d)) in
-    let b : length bytes ≡ 29 = length-laid widths (numbersOf (getD es i d)) ∙ slot-size in
-    let r : length (rowsLaid widths rows) ≡ i * 29 = rows-length es i (omega arith) in
-    let p : 1 + 29 * i ≡ length out = omega arith in
+    let b : length bytes ≡ slotBytes = length-laid widths (numbersOf (getD es i d)) in
+    let r : length (rowsLaid widths rows) ≡ i * slotBytes = rows-length es i (omega arith) in
+    let p : 1 + slotBytes * i ≡ length out = omega arith in
     ap (λ (q : ℕ). sets (padded capacity out) q bytes) p
     ∙ sets-padded capacity out bytes (omega arith)
     ∙ ap (λ (l : List ℕ). padded capacity (count ∷ l)) (sym (rows-snoc widths rows (numbersOf (getD es i d))))
@@ -218,20 +209,20 @@ filled-more capacity count es i d h k =
     ∙ ap (λ (l : List Entry). padded capacity (count ∷ rowsLaid widths (map numbersOf l))) (sym (take-suc es i d h) ∙ ap (λ (j : ℕ). take j es) (sym (add-one i)))
 
 -- a buffer that was cleared, with the count in it
-pub filled-start : (count : ℕ) (es : List Entry) (bs l : List ℕ) → length bs ≡ 465 → l ≡ zeros (length bs) → (length (set l 0 count) ≡ 465) × (set l 0 count ≡ filled 465 count es 0)
+pub filled-start : (count : ℕ) (es : List Entry) (bs l : List ℕ) → length bs ≡ tableLength → l ≡ zeros (length bs) → (length (set l 0 count) ≡ tableLength) × (set l 0 count ≡ filled tableLength count es 0)
 filled-start count es bs l n z = (
   length-set l 0 count ∙ cleared-length bs l n z,
-  ap (λ (b : List ℕ). set b 0 count) (z ∙ ap zeros n) ∙ filled-none 465 count es (omega arith),
+  ap (λ (b : List ℕ). set b 0 count) (z ∙ ap zeros n) ∙ filled-none tableLength count es (omega arith),
 )
 
 -- a turn
-pub filled-turn : (count : ℕ) (es : List Entry) (i : ℕ) (d : Entry) (bs l : List ℕ) → length es ≡ 16 → i < 16 → length bs ≡ 465 → bs ≡ filled 465 count es i
-    → l ≡ sets bs (1 + 29 * i) (laid widths (numbersOf (getD es i d))) → (length l ≡ 465) × (l ≡ filled 465 count es (i + 1))
+pub filled-turn : (count : ℕ) (es : List Entry) (i : ℕ) (d : Entry) (bs l : List ℕ) → length es ≡ capacity → i < capacity → length bs ≡ tableLength → bs ≡ filled tableLength count es i
+    → l ≡ sets bs (1 + slotBytes * i) (laid widths (numbersOf (getD es i d))) → (length l ≡ tableLength) × (l ≡ filled tableLength count es (i + 1))
 filled-turn count es i d bs l m h n e w = (
-  ap length w ∙ length-sets bs (1 + 29 * i) (laid widths (numbersOf (getD es i d))) ∙ n,
+  ap length w ∙ length-sets bs (1 + slotBytes * i) (laid widths (numbersOf (getD es i d))) ∙ n,
   w
-      ∙ ap (λ (b : List ℕ). sets b (1 + 29 * i) (laid widths (numbersOf (getD es i d)))) e
-      ∙ filled-more 465 count es i d (omega arith) (omega arith),
+      ∙ ap (λ (b : List ℕ). sets b (1 + slotBytes * i) (laid widths (numbersOf (getD es i d)))) e
+      ∙ filled-more tableLength count es i d (omega arith) (omega arith),
 )
 
 -- the entries so far are within the widths
@@ -241,28 +232,27 @@ clean-turn es i d h a c =
     (quieted-snoc (take i es) (getD es i d) a c)
 
 -- all slots are filled: the table's bytes
-pub filled-all : (t : ReportingTable) (i : ℕ) → length (t .entries) ≡ 16 → t .count ≤ 16 → i ≤ t .count → t .count ≤ i → filled 465 (t .count) (t .entries) i ≡ tableBytes 16 (take (t .count) (t .entries))
+pub filled-all : (t : ReportingTable) (i : ℕ) → length (t .entries) ≡ capacity → t .count ≤ capacity → i ≤ t .count → t .count ≤ i → filled tableLength (t .count) (t .entries) i ≡ tableBytes capacity (take (t .count) (t .entries))
 unfolding filled tableBytes
 filled-all t i n k a b =
     let e : i ≡ t .count = omega arith in
     let m : t .count ≡ length (take (t .count) (t .entries)) = sym (length-take-le (t .count) (t .entries) (omega arith)) in
-    ap (λ (j : ℕ). padded 465 (t .count ∷ rowsLaid widths (map numbersOf (take j (t .entries))))) e
-    ∙ ap (λ (j : ℕ). padded 465 (j ∷ rowsLaid widths (map numbersOf (take (t .count) (t .entries))))) m
-    ∙ ap (λ (r : ℕ). padded r (length (take (t .count) (t .entries)) ∷ rowsLaid widths (map numbersOf (take (t .count) (t .entries))))) (sym table-size)
+    ap (λ (j : ℕ). padded tableLength (t .count ∷ rowsLaid widths (map numbersOf (take j (t .entries))))) e
+    ∙ ap (λ (j : ℕ). padded tableLength (j ∷ rowsLaid widths (map numbersOf (take (t .count) (t .entries))))) m
 
 -- a table that is not written, and one that is
 module _ (t : ReportingTable) (bs : List ℕ) where
-  pub write-sized : (length bs ≡ 465 → ⊥) → written false bs ≡ writeT 16 t bs
+  pub write-sized : (length bs ≡ tableLength → ⊥) → written false bs ≡ writeT capacity t bs
   unfolding writeT
-  write-sized h = sym (rw (table-size, ne-eqb (length bs) 465 h))
+  write-sized h = sym (rw (ne-eqb (length bs) tableLength h))
 
-  module _ (n : length bs ≡ 465) where
-    pub write-counted : 16 < t .count → written false bs ≡ writeT 16 t bs
+  module _ (n : length bs ≡ tableLength) where
+    pub write-counted : capacity < t .count → written false bs ≡ writeT capacity t bs
     unfolding writeT
-    write-counted h = sym (rw (table-size, eq-eqb (length bs) 465 n, lt-leb (t .count) 16 h))
+    write-counted h = sym (rw (eq-eqb (length bs) tableLength n, lt-leb (t .count) capacity h))
 
-    pub write-done : (after : List ℕ) → t .count ≤ 16 → after ≡ tableBytes 16 (take (t .count) (t .entries)) → written true after ≡ writeT 16 t bs
+    pub write-done : (after : List ℕ) → t .count ≤ capacity → after ≡ tableBytes capacity (take (t .count) (t .entries)) → written true after ≡ writeT capacity t bs
     unfolding writeT
     write-done after h e =
         ap (λ (l : List ℕ). written true l) e
-        ∙ sym (rw (table-size, eq-eqb (length bs) 465 n, le-leb (t .count) 16 h))
+        ∙ sym (rw (eq-eqb (length bs) tableLength n, le-leb (t .count) capacity h))

@@ -1,5 +1,5 @@
 -- One table of one entry, and what is no table, computed. docs/TABLE.md shows these bytes. Assumes nothing.
-use Prim.Native.Nat.{ℕ}
+use Prim.Native.Nat.{ℕ, _-_}
 use mathlib.Core.Path.{_≡_, refl}
 use mathlib.Core.Bool.{Bool, true, false}
 use mathlib.Core.List.{List, [], _∷_}
@@ -8,7 +8,8 @@ use lib.ListN.{take, set}
 use Rattle.types.specs.Number.{allZero, le, bytesOf, signedOf, residue}
 use Rattle.frame.specs.Reply.{padded}
 use Rattle.reporting.specs.declared.entry.Entry.{Entry}
-use Rattle.reporting.specs.Carried.{total, laid, numbersIn, rowsLaid, rowsIn, numbersOf, entryOf, isSlot, areSlots, slotsIn, tableIn, tableBytes, isTable}
+use Rattle.reporting.specs.Table.{capacity}
+use Rattle.reporting.specs.Carried.{laid, numbersIn, rowsLaid, rowsIn, numbersOf, entryOf, isSlot, areSlots, slotsIn, tableIn, tableBytes, isTable, tableLength}
 
 -- cluster 0402, attribute 0000, from 10 to 300 seconds, change 50; last reported at 100000 with the value -5
 entry : Entry
@@ -24,45 +25,45 @@ head : List ℕ
 head = 1 ∷ 2 ∷ 4 ∷ 0 ∷ 0 ∷ 10 ∷ 0 ∷ 44 ∷ 1 ∷ 50 ∷ 0 ∷ 0 ∷ 0 ∷ 0 ∷ 0 ∷ 0 ∷ 0 ∷ 1 ∷ 160 ∷ 134 ∷ 1 ∷ 0 ∷ 251 ∷ 255 ∷ 255 ∷ 255 ∷ 255 ∷ 255 ∷ 255 ∷ 255 ∷ []
 
 bytes : List ℕ
-bytes = padded 465 head
+bytes = padded tableLength head
 
-its-bytes : tableBytes 16 (entry ∷ []) ≡ bytes
-unfolding tableBytes rowsLaid laid numbersOf bytesOf residue total entry bytes head padded
+its-bytes : tableBytes capacity (entry ∷ []) ≡ bytes
+unfolding tableBytes rowsLaid laid numbersOf bytesOf residue entry bytes head padded
 its-bytes = refl
 
 its-table : tableIn bytes ≡ entry ∷ []
-unfolding tableIn slotsIn rowsIn numbersIn entryOf le signedOf total entry bytes head padded
+unfolding tableIn slotsIn rowsIn numbersIn entryOf le signedOf entry bytes head padded
 its-table = refl
 
 -- whether these bytes are a table after one of them was changed
 with : ℕ → ℕ → Bool
-with at b = isTable 16 (set bytes at b)
+with at b = isTable capacity (set bytes at b)
 
 is-one : with 0 1 ≡ true
-unfolding with isTable slotsIn areSlots isSlot allZero rowsIn numbersIn le total bytes head padded
+unfolding with isTable slotsIn areSlots isSlot allZero rowsIn numbersIn le bytes head padded
 is-one = refl
 
 -- a count of 17; a count of 2, an empty slot being one; flag 2; a time under flag 0; a stray byte behind
 count-17 : with 0 17 ≡ false
-unfolding with isTable slotsIn areSlots isSlot allZero rowsIn numbersIn le total bytes head padded
+unfolding with isTable slotsIn areSlots isSlot allZero rowsIn numbersIn le bytes head padded
 count-17 = refl
 
 count-2 : with 0 2 ≡ true
-unfolding with isTable slotsIn areSlots isSlot allZero rowsIn numbersIn le total bytes head padded
+unfolding with isTable slotsIn areSlots isSlot allZero rowsIn numbersIn le bytes head padded
 count-2 = refl
 
 flag-2 : with 17 2 ≡ false
-unfolding with isTable slotsIn areSlots isSlot allZero rowsIn numbersIn le total bytes head padded
+unfolding with isTable slotsIn areSlots isSlot allZero rowsIn numbersIn le bytes head padded
 flag-2 = refl
 
 flag-0 : with 17 0 ≡ false
-unfolding with isTable slotsIn areSlots isSlot allZero rowsIn numbersIn le total bytes head padded
+unfolding with isTable slotsIn areSlots isSlot allZero rowsIn numbersIn le bytes head padded
 flag-0 = refl
 
-stray : with 464 1 ≡ false
-unfolding with isTable slotsIn areSlots isSlot allZero rowsIn numbersIn le total bytes head padded
+stray : with (tableLength - 1) 1 ≡ false
+unfolding with isTable slotsIn areSlots isSlot allZero rowsIn numbersIn le bytes head padded
 stray = refl
 
-one-short : isTable 16 (take 464 bytes) ≡ false
-unfolding isTable slotsIn areSlots isSlot allZero rowsIn numbersIn le total bytes head padded
+one-short : isTable capacity (take (tableLength - 1) bytes) ≡ false
+unfolding isTable slotsIn areSlots isSlot allZero rowsIn numbersIn le bytes head padded
 one-short = refl

@@ -23,14 +23,14 @@ use Rattle.reporting.specs.declared.table.Setting.the-variants as Settin
 use Rattle.reporting.specs.Entries.{matches, findL, lookupL, updateL, fresh, replaced, acceptsL, configureL, clearL, markE}
 use Rattle.reporting.specs.Due.{dueE, dueO, dueL}
 use Rattle.reporting.specs.Table.{capacity, holding, ReportTold, reportTold, settingTold, settingO, configurationT}
-use Rattle.reporting.specs.Carried.{widths, total, laid, numbersIn, rowsIn, numbersOf, entryOf, countIn, slotsIn, tableIn, tableBytes, isTable, tableRead, readT, written}
+use Rattle.reporting.specs.Carried.{widths, total, laid, numbersIn, rowsIn, numbersOf, entryOf, countIn, slotsIn, tableIn, tableBytes, isTable, tableRead, readT, written, slotBytes}
 use Rattle.reporting.specs.Claims.RoundTrip.{Clean}
 use Rattle.reporting.specs.Lent.{onLent, askLent, configurationLent, markLent, clearLent, ChangeLeft, leftAs, configureLent}
 use Rattle.reporting.specs.Inside.{ChangeKept, keptAs, configureIn}
 use Rattle.reporting.proofs.Places.{find-le, lookup-at, lookup-none, update-at, update-none, clear-none, clear-place}
 use Rattle.reporting.proofs.CarriageCode.{entry-at}
 use Rattle.reporting.proofs.CarriageTable.{the-conditions, table-count, table-clean, bytes-back, read-written, read-is}
-use Rattle.reporting.proofs.CarriageLoops.{slot-size, known-count, slotsFrom, slots-start, slots-more, slots-end}
+use Rattle.reporting.proofs.CarriageLoops.{known-count, slotsFrom, slots-start, slots-more, slots-end}
 use Rattle.reporting.proofs.Kept.{Kept, configure-keeps, clear-keeps}
 use Rattle.reporting.proofs.Patches.{slot-over, slot-added, slot-gone}
 
@@ -38,7 +38,7 @@ use Rattle.reporting.proofs.Patches.{slot-over, slot-added, slot-gone}
 
 -- the entry of the i-th slot
 abbrev pub slotEntry : List ℕ → ℕ → Entry
-slotEntry bs i = entryOf (numbersIn widths (drop (1 + 29 * i) bs))
+slotEntry bs i = entryOf (numbersIn widths (drop (1 + slotBytes * i) bs))
 
 -- a slot is the key's by its first two numbers, c and a
 module _ (bs : List ℕ) (at : ℕ) (k : Key) (c a : ℕ) (ec : c ≡ unsignedAt bs at 2) (ea : a ≡ unsignedAt bs (at + 2) 2) where
@@ -51,19 +51,19 @@ module _ (bs : List ℕ) (at : ℕ) (k : Key) (c a : ℕ) (ec : c ≡ unsignedAt
   pub key-not : (a ≡ k .attribute .0 → ⊥) → eqb a (k .attribute .0) ≡ matches k (entryOf (numbersIn widths (drop at bs)))
   key-not h = ne-eqb a (k .attribute .0) h ∙ sym (key-at ∙ ap (λ (b : Bool). eqb c (k .cluster .0) && b) (ne-eqb a (k .attribute .0) h) ∙ and-false (eqb c (k .cluster .0)))
 
-nth-row : (n : ℕ) (bs : List ℕ) (i : ℕ) (d : Entry) → i < n → getD (map entryOf (rowsIn widths n bs)) i d ≡ entryOf (numbersIn widths (drop (29 * i) bs))
+nth-row : (n : ℕ) (bs : List ℕ) (i : ℕ) (d : Entry) → i < n → getD (map entryOf (rowsIn widths n bs)) i d ≡ entryOf (numbersIn widths (drop (slotBytes * i) bs))
 unfolding rowsIn
 nth-row zero bs i d h = absurd (omega arith)
 nth-row (suc n) bs zero d h = refl
 nth-row (suc n) bs (suc i) d h =
-    let e : total widths + 29 * i ≡ 29 * suc i = omega (arith, slot-size) in
+    let e : total widths + slotBytes * i ≡ slotBytes * suc i = omega arith in
     nth-row n (drop (total widths) bs) i d (omega arith)
-    ∙ ap (λ (l : List ℕ). entryOf (numbersIn widths l)) (drop-drop (29 * i) (total widths) bs ∙ ap (λ (p : ℕ). drop p bs) e)
+    ∙ ap (λ (l : List ℕ). entryOf (numbersIn widths l)) (drop-drop (slotBytes * i) (total widths) bs ∙ ap (λ (p : ℕ). drop p bs) e)
 
 -- the i-th entry of a table is that of the i-th slot
 pub nth-entry : (bs : List ℕ) (i : ℕ) (d : Entry) → i < countIn bs → getD (tableIn bs) i d ≡ slotEntry bs i
 unfolding tableIn slotsIn
-nth-entry bs i d h = nth-row (countIn bs) (drop 1 bs) i d h ∙ ap (λ (l : List ℕ). entryOf (numbersIn widths l)) (drop-drop (29 * i) 1 bs)
+nth-entry bs i d h = nth-row (countIn bs) (drop 1 bs) i d h ∙ ap (λ (l : List ℕ). entryOf (numbersIn widths l)) (drop-drop (slotBytes * i) 1 bs)
 
 -- ---- the scan
 
@@ -176,13 +176,13 @@ module _ {bs : List ℕ} {k : Key} {at : ℕ} (found : FoundSlot bs k at) where
     kept : bs ≡ tableBytes capacity (tableIn bs)
     kept = sym (bytes-back capacity bs h (found .known))
 
-    patched : (after : List ℕ) (f : Entry → Entry) (e : Entry) → e ≡ f (slotEntry bs at) → at < countIn bs → after ≡ sets bs (1 + 29 * at) (laid widths (numbersOf e))
+    patched : (after : List ℕ) (f : Entry → Entry) (e : Entry) → e ≡ f (slotEntry bs at) → at < countIn bs → after ≡ sets bs (1 + slotBytes * at) (laid widths (numbersOf e))
         → after ≡ tableBytes capacity (updateL k f (tableIn bs))
     patched after f e ee p w =
         let d : Entry = slotEntry bs at in
         let u : set (tableIn bs) at e ≡ updateL k f (tableIn bs) = (λ i. set (tableIn bs) (found .place i) ((ee ∙ ap f (sym (found-entry d p))) i)) ∙ sym (update-at k f (tableIn bs) d) in
         w
-        ∙ ap (λ (l : List ℕ). sets l (1 + 29 * at) (laid widths (numbersOf e))) kept
+        ∙ ap (λ (l : List ℕ). sets l (1 + slotBytes * at) (laid widths (numbersOf e))) kept
         ∙ slot-over capacity (tableIn bs) at e (omega (arith, table-count bs))
         ∙ ap (tableBytes capacity) u
 
@@ -191,7 +191,7 @@ module _ {bs : List ℕ} {k : Key} {at : ℕ} (found : FoundSlot bs k at) where
     mark-absent now v p =
         ap (λ (l : List ℕ). written true l) (kept ∙ ap (tableBytes capacity) (sym (update-none k (markE now v) (tableIn bs) (absent p)))) ∙ said-so _ _
 
-    pub mark-is : (after : List ℕ) (e : Entry) (now : ℕ) (v v′ : ℤ) → v′ ≡ v → e ≡ markE now v′ (slotEntry bs at) → at < countIn bs → after ≡ sets bs (1 + 29 * at) (laid widths (numbersOf e))
+    pub mark-is : (after : List ℕ) (e : Entry) (now : ℕ) (v v′ : ℤ) → v′ ≡ v → e ≡ markE now v′ (slotEntry bs at) → at < countIn bs → after ≡ sets bs (1 + slotBytes * at) (laid widths (numbersOf e))
         → written true after ≡ markLent k now v bs
     unfolding markLent
     mark-is after e now v v′ ev ee p w =
@@ -214,13 +214,13 @@ module _ {bs : List ℕ} {k : Key} {at : ℕ} (found : FoundSlot bs k at) where
         ap (leftAs ChangeV.Full) kept
         ∙ as-configured g false false (le-ltb (findL k (tableIn bs)) (length (tableIn bs)) (omega (arith, n, c, f, found .place))) (le-ltb (length (tableIn bs)) capacity (omega (arith, n, c, f, found .place)))
 
-    pub configure-old : (g : ReportingConfig) (after : List ℕ) (e : Entry) → e ≡ fresh k g → at < countIn bs → after ≡ sets bs (1 + 29 * at) (laid widths (numbersOf e))
+    pub configure-old : (g : ReportingConfig) (after : List ℕ) (e : Entry) → e ≡ fresh k g → at < countIn bs → after ≡ sets bs (1 + slotBytes * at) (laid widths (numbersOf e))
         → leftAs ChangeV.Done after ≡ changed k g (tableIn bs)
     configure-old g after e ee p w =
         ap (leftAs ChangeV.Done) (patched after (replaced k g) e ee p w)
         ∙ as-configured g true (ltb (length (tableIn bs)) capacity) (lt-ltb _ _ (present p)) refl
 
-    pub configure-new : (g : ReportingConfig) (after : List ℕ) (e : Entry) → e ≡ fresh k g → countIn bs ≤ at → at < capacity → after ≡ sets bs (1 + 29 * at) (laid widths (numbersOf e))
+    pub configure-new : (g : ReportingConfig) (after : List ℕ) (e : Entry) → e ≡ fresh k g → countIn bs ≤ at → at < capacity → after ≡ sets bs (1 + slotBytes * at) (laid widths (numbersOf e))
         → leftAs ChangeV.Done (set after 0 (countIn bs + 1)) ≡ changed k g (tableIn bs)
     configure-new g after e ee p r w =
         let n = table-count bs in
@@ -228,8 +228,8 @@ module _ {bs : List ℕ} {k : Key} {at : ℕ} (found : FoundSlot bs k at) where
         let i : at ≡ length (tableIn bs) = omega (arith, n, f, found .place) in
         let c : countIn bs + 1 ≡ suc (length (tableIn bs)) = omega (arith, n) in
         let b : List ℕ = laid widths (numbersOf (fresh k g)) in
-        ap (λ (x : List ℕ). leftAs ChangeV.Done (set x 0 (countIn bs + 1))) (w ∙ (λ j. sets (kept j) (1 + 29 * i j) (laid widths (numbersOf (ee j)))))
-        ∙ ap (λ (m : ℕ). leftAs ChangeV.Done (set (sets (tableBytes capacity (tableIn bs)) (1 + 29 * length (tableIn bs)) b) 0 m)) c
+        ap (λ (x : List ℕ). leftAs ChangeV.Done (set x 0 (countIn bs + 1))) (w ∙ (λ j. sets (kept j) (1 + slotBytes * i j) (laid widths (numbersOf (ee j)))))
+        ∙ ap (λ (m : ℕ). leftAs ChangeV.Done (set (sets (tableBytes capacity (tableIn bs)) (1 + slotBytes * length (tableIn bs)) b) 0 m)) c
         ∙ ap (leftAs ChangeV.Done) (slot-added capacity (tableIn bs) (fresh k g) (omega arith))
         ∙ as-configured g false true (le-ltb _ _ (absent p)) (lt-ltb (length (tableIn bs)) capacity (omega arith))
 
@@ -238,7 +238,7 @@ module _ {bs : List ℕ} {k : Key} {at : ℕ} (found : FoundSlot bs k at) where
 
     -- the last entry stands in the hole, and zeros where it stood
     pub clear-moved : (last : ℕ) (e : Entry) (filled after : List ℕ) → at < countIn bs → last + 1 ≡ countIn bs → e ≡ slotEntry bs last
-        → filled ≡ sets bs (1 + 29 * at) (laid widths (numbersOf e)) → after ≡ sets filled (1 + 29 * last) (zeros 29) → set after 0 last ≡ tableBytes capacity (clearL k (tableIn bs))
+        → filled ≡ sets bs (1 + slotBytes * at) (laid widths (numbersOf e)) → after ≡ sets filled (1 + slotBytes * last) (zeros slotBytes) → set after 0 last ≡ tableBytes capacity (clearL k (tableIn bs))
     clear-moved last e filled after p q ee ef ea =
         let l : List Entry = tableIn bs in
         let m : List Entry = set l at e in
@@ -250,9 +250,9 @@ module _ {bs : List ℕ} {k : Key} {at : ℕ} (found : FoundSlot bs k at) where
         let cut : m ≡ take last m ++ (getD m last d ∷ []) = sym (take-all (suc last) m (omega arith)) ∙ take-suc m last d (omega arith) in
         let gone : take last m ≡ clearL k l = (λ i. take last (set l (found .place i) ((ee ∙ sym (nth-entry bs last d (omega arith))) i))) ∙ sym (clear-place k l last d (present p) (omega (arith, n))) in
         ap (λ (x : List ℕ). set x 0 last) ea
-        ∙ ap (λ (x : List ℕ). set (sets x (1 + 29 * last) (zeros 29)) 0 last)
-        (ef ∙ ap (λ (x : List ℕ). sets x (1 + 29 * at) (laid widths (numbersOf e))) kept ∙ slot-over capacity l at e (omega (arith, n)) ∙ ap (tableBytes capacity) cut)
-        ∙ ap (λ (j : ℕ). set (sets (tableBytes capacity (take last m ++ (getD m last d ∷ []))) (1 + 29 * j) (zeros 29)) 0 j) (sym short)
+        ∙ ap (λ (x : List ℕ). set (sets x (1 + slotBytes * last) (zeros slotBytes)) 0 last)
+        (ef ∙ ap (λ (x : List ℕ). sets x (1 + slotBytes * at) (laid widths (numbersOf e))) kept ∙ slot-over capacity l at e (omega (arith, n)) ∙ ap (tableBytes capacity) cut)
+        ∙ ap (λ (j : ℕ). set (sets (tableBytes capacity (take last m ++ (getD m last d ∷ []))) (1 + slotBytes * j) (zeros slotBytes)) 0 j) (sym short)
         ∙ slot-gone capacity (take last m) (getD m last d) (omega arith)
         ∙ ap (tableBytes capacity) gone
 

@@ -1,6 +1,8 @@
 -- Laws, a file for an idea. The proofs of the functions stand in the directories, under the functions' names.
 pub mod Signed
 pub mod Due
+-- which numbers compare otherwise without their sign
+pub mod Unsigned
 pub mod Places
 pub mod Slots
 pub mod Others
@@ -8,6 +10,8 @@ pub mod Runs
 -- entries read in from a saved form, as events
 pub mod Restored
 pub mod Histories
+-- the same answers under two limits
+pub mod Limits
 pub mod Accepted
 pub mod Follows
 pub mod Promise

@@ -10,9 +10,9 @@ use lib.Seq.{sets, sets-eq, drop-at}
 use Rattle.types.specs.Number.{zeros}
 use Rattle.frame.specs.Reply.{padded}
 use Rattle.reporting.specs.declared.entry.Entry.{Entry}
-use Rattle.reporting.specs.Carried.{widths, total, laid, rowsLaid, numbersOf, tableSize, tableBytes}
+use Rattle.reporting.specs.Carried.{widths, total, laid, rowsLaid, numbersOf, tableSize, tableBytes, slotBytes}
 use Rattle.reporting.proofs.Carriage.{length-laid, length-rows}
-use Rattle.reporting.proofs.CarriageLoops.{slot-size, rows-snoc, map-snoc}
+use Rattle.reporting.proofs.CarriageLoops.{rows-snoc, map-snoc}
 
 -- ---- a run written into a list
 
@@ -60,11 +60,11 @@ map-set (x ∷ l) (suc i) e = ap (λ (r : List (List ℕ)). numbersOf x ∷ r) (
 -- ---- a slot of a table
 
 -- the place of the i-th slot, as the code counts it
-slot-place : (i : ℕ) → 1 + 29 * i ≡ suc (i * total widths)
-slot-place i = omega (arith, ap (λ (w : ℕ). i * w) slot-size)
+slot-place : (i : ℕ) → 1 + slotBytes * i ≡ suc (i * total widths)
+slot-place i = omega arith
 
 -- AN ENTRY CHANGED
-pub slot-over : (limit : ℕ) (l : List Entry) (i : ℕ) (e : Entry) → i < length l → sets (tableBytes limit l) (1 + 29 * i) (laid widths (numbersOf e)) ≡ tableBytes limit (set l i e)
+pub slot-over : (limit : ℕ) (l : List Entry) (i : ℕ) (e : Entry) → i < length l → sets (tableBytes limit l) (1 + slotBytes * i) (laid widths (numbersOf e)) ≡ tableBytes limit (set l i e)
 unfolding tableBytes padded
 slot-over limit l i e h =
     let rows : List (List ℕ) = map numbersOf l in
@@ -81,58 +81,58 @@ slot-over limit l i e h =
     ∙ ap (λ (q : ℕ). length l ∷ (rowsLaid widths (set rows i ns) ++ zeros (tableSize limit - suc q))) n)
 
 -- the length of all slots
-rows-length : (l : List Entry) → length (rowsLaid widths (map numbersOf l)) ≡ length l * 29
-rows-length l = length-rows widths (map numbersOf l) ∙ (λ j. length-map l numbersOf j * slot-size j)
+rows-length : (l : List Entry) → length (rowsLaid widths (map numbersOf l)) ≡ length l * slotBytes
+rows-length l = length-rows widths (map numbersOf l) ∙ ap (λ (n : ℕ). n * slotBytes) (length-map l numbersOf)
 
-size-is : (limit : ℕ) → tableSize limit ≡ 1 + limit * 29
-size-is limit = ap (λ (w : ℕ). 1 + limit * w) slot-size
+size-is : (limit : ℕ) → tableSize limit ≡ 1 + limit * slotBytes
+size-is limit = refl
 
 -- the bytes with one entry more: its slot behind the others, and zeros behind it
 more-is : (limit : ℕ) (l : List Entry) (e : Entry) → length l < limit
-    → tableBytes limit (l ++ (e ∷ [])) ≡ suc (length l) ∷ (rowsLaid widths (map numbersOf l) ++ (laid widths (numbersOf e) ++ zeros (tableSize limit - suc (length l * 29 + 29))))
+    → tableBytes limit (l ++ (e ∷ [])) ≡ suc (length l) ∷ (rowsLaid widths (map numbersOf l) ++ (laid widths (numbersOf e) ++ zeros (tableSize limit - suc (length l * slotBytes + slotBytes))))
 unfolding tableBytes padded
 more-is limit l e h =
     let r : List ℕ = rowsLaid widths (map numbersOf l) in
     let b : List ℕ = laid widths (numbersOf e) in
     let k : length (l ++ (e ∷ [])) ≡ suc (length l) = omega (arith, length-append l (e ∷ [])) in
     let m : rowsLaid widths (map numbersOf (l ++ (e ∷ []))) ≡ r ++ b = ap (rowsLaid widths) (map-snoc l e) ∙ rows-snoc widths (map numbersOf l) (numbersOf e) in
-    let n : length (r ++ b) ≡ length l * 29 + 29 = omega (arith, length-append r b, rows-length l, length-laid widths (numbersOf e), slot-size) in
+    let n : length (r ++ b) ≡ length l * slotBytes + slotBytes = omega (arith, length-append r b, rows-length l, length-laid widths (numbersOf e)) in
     (λ j. k j ∷ (m j ++ zeros (tableSize limit - suc (length (m j)))))
     ∙ ap (λ (q : ℕ). suc (length l) ∷ ((r ++ b) ++ zeros (tableSize limit - suc q))) n
-    ∙ ap (λ (x : List ℕ). suc (length l) ∷ x) (append-assoc r b (zeros (tableSize limit - suc (length l * 29 + 29))))
+    ∙ ap (λ (x : List ℕ). suc (length l) ∷ x) (append-assoc r b (zeros (tableSize limit - suc (length l * slotBytes + slotBytes))))
 
 -- and without it: zeros in its place
 less-is : (limit : ℕ) (l : List Entry) → length l < limit
-    → tableBytes limit l ≡ length l ∷ (rowsLaid widths (map numbersOf l) ++ (zeros 29 ++ zeros (tableSize limit - suc (length l * 29 + 29))))
+    → tableBytes limit l ≡ length l ∷ (rowsLaid widths (map numbersOf l) ++ (zeros slotBytes ++ zeros (tableSize limit - suc (length l * slotBytes + slotBytes))))
 unfolding tableBytes padded
 less-is limit l h =
     let r : List ℕ = rowsLaid widths (map numbersOf l) in
-    let f : (length l + 1) * 29 ≤ limit * 29 = mul-le-mul-right 29 (omega arith) in
-    let n : tableSize limit - suc (length r) ≡ 29 + (tableSize limit - suc (length l * 29 + 29)) = omega (arith, rows-length l, size-is limit, f) in
+    let f : (length l + 1) * slotBytes ≤ limit * slotBytes = mul-le-mul-right slotBytes (omega arith) in
+    let n : tableSize limit - suc (length r) ≡ slotBytes + (tableSize limit - suc (length l * slotBytes + slotBytes)) = omega (arith, rows-length l, size-is limit, f) in
     ap (λ (q : ℕ). length l ∷ (r ++ zeros q)) n
-    ∙ ap (λ (x : List ℕ). length l ∷ (r ++ x)) (sym (replicate-append-replicate 29 (tableSize limit - suc (length l * 29 + 29)) 0))
+    ∙ ap (λ (x : List ℕ). length l ∷ (r ++ x)) (sym (replicate-append-replicate slotBytes (tableSize limit - suc (length l * slotBytes + slotBytes)) 0))
 
 -- the slot behind the rows r of l, written over, and the count
 behind-set : (l : List Entry) (c d : ℕ) (b vs z : List ℕ) → length vs ≡ length b
-    → set (sets (c ∷ (rowsLaid widths (map numbersOf l) ++ (b ++ z))) (1 + 29 * length l) vs) 0 d ≡ d ∷ (rowsLaid widths (map numbersOf l) ++ (vs ++ z))
+    → set (sets (c ∷ (rowsLaid widths (map numbersOf l) ++ (b ++ z))) (1 + slotBytes * length l) vs) 0 d ≡ d ∷ (rowsLaid widths (map numbersOf l) ++ (vs ++ z))
 behind-set l c d b vs z e =
     let r : List ℕ = rowsLaid widths (map numbersOf l) in
-    let p : 1 + 29 * length l ≡ suc (length r + 0) = omega (arith, rows-length l) in
+    let p : 1 + slotBytes * length l ≡ suc (length r + 0) = omega (arith, rows-length l) in
     ap (λ (q : ℕ). set (sets (c ∷ (r ++ (b ++ z))) q vs) 0 d) p
     ∙ ap (λ (x : List ℕ). set x 0 d) (sets-cons vs (r ++ (b ++ z)) c (length r + 0) ∙ ap (λ (x : List ℕ). c ∷ x) (sets-past r (b ++ z) vs 0 ∙ ap (λ (x : List ℕ). r ++ x) (sets-first b z vs e)))
 
 -- AN ENTRY ADDED
 pub slot-added : (limit : ℕ) (l : List Entry) (e : Entry) → length l < limit
-    → set (sets (tableBytes limit l) (1 + 29 * length l) (laid widths (numbersOf e))) 0 (suc (length l)) ≡ tableBytes limit (l ++ (e ∷ []))
+    → set (sets (tableBytes limit l) (1 + slotBytes * length l) (laid widths (numbersOf e))) 0 (suc (length l)) ≡ tableBytes limit (l ++ (e ∷ []))
 slot-added limit l e h =
-    ap (λ (x : List ℕ). set (sets x (1 + 29 * length l) (laid widths (numbersOf e))) 0 (suc (length l))) (less-is limit l h)
-    ∙ behind-set l (length l) (suc (length l)) (zeros 29) (laid widths (numbersOf e)) _ (length-laid widths (numbersOf e) ∙ slot-size ∙ sym (length-replicate {A = ℕ} 29 0))
+    ap (λ (x : List ℕ). set (sets x (1 + slotBytes * length l) (laid widths (numbersOf e))) 0 (suc (length l))) (less-is limit l h)
+    ∙ behind-set l (length l) (suc (length l)) (zeros slotBytes) (laid widths (numbersOf e)) _ (length-laid widths (numbersOf e) ∙ sym (length-replicate {A = ℕ} slotBytes 0))
     ∙ sym (more-is limit l e h)
 
 -- THE LAST ENTRY TAKEN AWAY
 pub slot-gone : (limit : ℕ) (l : List Entry) (e : Entry) → length l < limit
-    → set (sets (tableBytes limit (l ++ (e ∷ []))) (1 + 29 * length l) (zeros 29)) 0 (length l) ≡ tableBytes limit l
+    → set (sets (tableBytes limit (l ++ (e ∷ []))) (1 + slotBytes * length l) (zeros slotBytes)) 0 (length l) ≡ tableBytes limit l
 slot-gone limit l e h =
-    ap (λ (x : List ℕ). set (sets x (1 + 29 * length l) (zeros 29)) 0 (length l)) (more-is limit l e h)
-    ∙ behind-set l (suc (length l)) (length l) (laid widths (numbersOf e)) (zeros 29) _ (length-replicate {A = ℕ} 29 0 ∙ sym (length-laid widths (numbersOf e) ∙ slot-size))
+    ap (λ (x : List ℕ). set (sets x (1 + slotBytes * length l) (zeros slotBytes)) 0 (length l)) (more-is limit l e h)
+    ∙ behind-set l (suc (length l)) (length l) (laid widths (numbersOf e)) (zeros slotBytes) _ (length-replicate {A = ℕ} slotBytes 0 ∙ sym (length-laid widths (numbersOf e)))
     ∙ sym (less-is limit l h)

@@ -28,4 +28,4 @@ clear-lent-tells bytes key r x e = ap toldOf e ∙ told-either (isTable capacity
 
 pub write-table-tells : WriteTableTells
 unfolding writeT
-write-table-tells bytes table r x e = ap toldOf e ∙ told-either (sizeOk 16 bytes && leb (table .count) 16) (tableBytes 16 (take (table .count) (table .entries))) bytes
+write-table-tells bytes table r x e = ap toldOf e ∙ told-either (sizeOk capacity bytes && leb (table .count) capacity) (tableBytes capacity (take (table .count) (table .entries))) bytes

@@ -26,7 +26,7 @@ use Rattle.reporting.specs.Entries.{configureL, clearL}
 use Rattle.reporting.specs.Carried.{tableIn, tableBytes, isTable, tableRead, Reading, readT, Written, written, writeT}
 use Rattle.reporting.specs.Lent.{askLent, configurationLent, markLent, clearLent, ChangeLeft}
 use Rattle.reporting.specs.Inside.{ChangeKept, configureIn}
-use Rattle.reporting.specs.Claims.Unique.{IsTableOnce, ReadTableOnce, WriteTableOnce, ReadSlotOnce, WriteSlotOnce, DistanceOnce, IsOnce, WishOnce, MovedByOnce, RipeOnce, FreshOnce, IsOfOnce, EntryMarkOnce, ConfigurationInOnce, ConfigureInOnce, ClearInOnce, DueOnce, FindSlotOnce, AskLentOnce, ConfigurationLentOnce, MarkLentOnce, ClearLentOnce, ConfigureLentOnce, U16InOnce, U64InOnce, PutU16InOnce, PutU64InOnce, NewOnce, ConfigureOnce, ClearOnce, ReportingTableMarkOnce, ConfigurationOnce, AskOnce, LenOnce}
+use Rattle.reporting.specs.Claims.Unique.{IsTableOnce, ReadTableOnce, WriteTableOnce, ReadSlotOnce, WriteSlotOnce, DistanceOnce, DistanceByOnce, IsOnce, WishOnce, MovedByOnce, RipeOnce, FreshOnce, IsOfOnce, EntryMarkOnce, ConfigurationInOnce, ConfigureInOnce, ClearInOnce, DueOnce, FindSlotOnce, AskLentOnce, ConfigurationLentOnce, MarkLentOnce, ClearLentOnce, ConfigureLentOnce, U16InOnce, U64InOnce, PutU16InOnce, PutU64InOnce, NewOnce, ConfigureOnce, ClearOnce, ReportingTableMarkOnce, ConfigurationOnce, AskOnce, LenOnce}
 use Rattle.reporting.proofs.CarriageTable.{bytes-back}
 use Rattle.reporting.proofs.Lending.{seen-bytes}
 
@@ -144,7 +144,7 @@ read-table-once bytes r q e f =
     (ap (λ (x : Reading). x .known) p, alike (r .table) (q .table) (ap (λ (x : Reading). x .table) p))
 
 pub write-table-once : WriteTableOnce
-write-table-once bytes table r q x y e f = one-written (writeT 16 table bytes) r q x y e f
+write-table-once bytes table r q x y e f = one-written (writeT capacity table bytes) r q x y e f
 
 -- src/distance.rt
 
@@ -158,6 +158,9 @@ pub distance-once : DistanceOnce
 distance-once a b r q e f = e ∙ sym f
 
 -- src/entry.rt
+
+pub distance-by-once : DistanceByOnce
+distance-by-once unsigned a b r q e f = e ∙ sym f
 
 pub is-once : IsOnce
 is-once self other r q e f = e ∙ sym f

@@ -11,12 +11,12 @@ use Rattle.reporting.specs.declared.entry.Entry.{Entry}
 use Rattle.reporting.specs.declared.table.ReportingTable.{ReportingTable}
 use Rattle.reporting.specs.declared.carried.ReadTable.{ReadTable}
 use Rattle.reporting.specs.Entries.{fresh}
-use Rattle.reporting.specs.Table.{Table, holding, live, tableOf}
+use Rattle.reporting.specs.Table.{capacity, Table, holding, live, tableOf}
 
 -- ---- numbers in their widths
 
 -- the bytes that numbers of these widths take
-unfoldable pub total : List ℕ → ℕ
+abbrev pub total : List ℕ → ℕ
 total [] = 0
 total (w ∷ ws) = w + total ws
 
@@ -77,9 +77,16 @@ isSlot ns = leb (getD ns 5 0) 1 && (eqb (getD ns 5 0) 1 || (eqb (getD ns 6 0) 0 
 
 -- ---- the table
 
--- how many bytes a table has that holds up to `limit` entries
+-- how many bytes a slot has, and a table that holds up to `limit` entries
+abbrev pub slotBytes : ℕ
+slotBytes = total widths
+
 abbrev pub tableSize : ℕ → ℕ
-tableSize limit = 1 + limit * total widths
+tableSize limit = 1 + limit * slotBytes
+
+-- the table's length, as the code has it
+abbrev pub tableLength : ℕ
+tableLength = tableSize capacity
 
 unfoldable pub tableBytes : ℕ → List Entry → List ℕ
 tableBytes limit l = padded (tableSize limit) (length l ∷ rowsLaid widths (map numbersOf l))
@@ -106,7 +113,7 @@ areSlots [] = true
 areSlots (ns ∷ rows) = isSlot ns && areSlots rows
 
 abbrev pub endsInZeros : List ℕ → Bool
-endsInZeros bs = allZero (drop (1 + countIn bs * total widths) bs)
+endsInZeros bs = allZero (drop (1 + countIn bs * slotBytes) bs)
 
 unfoldable pub isTable : ℕ → List ℕ → Bool
 isTable limit bs = sizeOk limit bs && (countOk limit bs && (areSlots (slotsIn bs) && endsInZeros bs))

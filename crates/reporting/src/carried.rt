@@ -2,12 +2,14 @@
 ghost use mathlib.Core.Path.{_≡_};
 ghost use mathlib.Core.List.{[], map};
 ghost use mathlib.Core.Bool.{true, false};
-ghost use Prim.Native.Nat.{_+_, _^_, _≤_};
+ghost use Prim.Native.Nat.{_+_, _≤_};
 ghost use lib.ListN.{length, take, drop};
 ghost use lib.Seq.{sets};
-ghost use Rattle.types.specs.Number.{allZero, residue};
-ghost use Rattle.reporting.specs.Carried.{widths, laid, numbersIn, rowsIn, ifMarked, numbersOf, entryOf, quieted, isSlot, areSlots, isTable, reading, tableRead, readT, written, writeT};
+ghost use Rattle.types.specs.Number.{allZero};
+ghost use Rattle.reporting.specs.Table.{capacity};
+ghost use Rattle.reporting.specs.Carried.{widths, laid, numbersIn, rowsIn, ifMarked, numbersOf, entryOf, quieted, isSlot, areSlots, isTable, reading, tableRead, readT, written, writeT, slotBytes, tableLength};
 ghost use Rattle.reporting.specs.Claims.RoundTrip.{Clean};
+use super::distance::bits_u64;
 use super::entry::Entry;
 use super::entry::Key;
 use super::entry::ReportingConfig;
@@ -17,6 +19,7 @@ use super::numbers::put_u64_in;
 use super::numbers::u16_in;
 use super::numbers::u32_in;
 use super::numbers::u64_in;
+use super::table::LIMIT;
 use super::table::ReportingTable;
 use frame::reply::clear;
 use types::ids::AttributeId;
@@ -24,29 +27,16 @@ use types::ids::ClusterId;
 use types::number::all_zero;
 use types::number::bits_i64;
 
-// How many entries a table has room for.
-pub const LIMIT: usize = 16;
-
 // The bytes of one entry.
 pub const SLOT: usize = 29;
 
 // The count's byte, and the slots.
-pub const TABLE_BYTES: usize = 465;
+pub const TABLE_BYTES: usize = 1 + LIMIT * SLOT;
 
 // Whether the bytes were a table; where they were none, the table is the empty one.
 pub struct ReadTable {
     pub table: ReportingTable,
     pub known: bool,
-}
-
-// The same 64 bits, read without their sign.
-fn bits_u64(x: i64) -> u64
-    ensures { λ r. ⌜ r ≡ residue (2 ^ 64) x ⌝ }
-{
-    if x >= 0 {
-        return x as u64;
-    }
-    !((!x) as u64)
 }
 
 // What is written of an entry's last report: 0 where there was none.
@@ -71,7 +61,7 @@ fn zero_from(bytes: &[u8], from: usize) -> bool
 
 // Whether the slot at `at` is in its one form. The window of time and value has a fixed length, so that no loop is left of it.
 fn slot_in_form(bytes: &[u8], at: usize) -> bool
-    requires { ⌜ at + 29 ≤ length (now bytes) ⌝ }
+    requires { ⌜ at + slotBytes ≤ length (now bytes) ⌝ }
     ensures { λ r. ⌜ r ≡ isSlot (numbersIn widths (drop at (now (bytes .entry)))) ⌝ }
 {
     let flag = bytes[at + 16];
@@ -86,7 +76,7 @@ fn slot_in_form(bytes: &[u8], at: usize) -> bool
 
 // Whether the first `count` slots are in their one form.
 fn slots_in_form(bytes: &[u8], count: usize) -> bool
-    requires { ⌜ (count ≤ 16) × (465 ≤ length (now bytes)) ⌝ }
+    requires { ⌜ (count ≤ capacity) × (tableLength ≤ length (now bytes)) ⌝ }
     ensures { λ r. ⌜ r ≡ areSlots (rowsIn widths count (drop 1 (now (bytes .entry)))) ⌝ }
 {
     let mut i = 0;
@@ -101,7 +91,7 @@ fn slots_in_form(bytes: &[u8], count: usize) -> bool
 
 // Whether the bytes are a table.
 pub fn is_table(bytes: &[u8]) -> bool
-    ensures { λ r. ⌜ r ≡ isTable 16 (now (bytes .entry)) ⌝ }
+    ensures { λ r. ⌜ r ≡ isTable capacity (now (bytes .entry)) ⌝ }
 {
     if bytes.len() != TABLE_BYTES {
         return false;
@@ -118,7 +108,7 @@ pub fn is_table(bytes: &[u8]) -> bool
 
 // The entry of the slot at `at`. Public for crate `saved` alone, no entry point: the slot must be there.
 pub fn read_slot(bytes: &[u8], at: usize) -> Entry
-    requires { ⌜ at + 29 ≤ length (now bytes) ⌝ }
+    requires { ⌜ at + slotBytes ≤ length (now bytes) ⌝ }
     ensures { λ r. ⌜ r ≡ entryOf (numbersIn widths (drop at (now (bytes .entry)))) ⌝ }
 {
     let cluster = u16_in(bytes, at);
@@ -148,7 +138,7 @@ pub fn read_slot(bytes: &[u8], at: usize) -> Entry
 // Writes the slot of an entry at `at`. Any entry that code holds is within the widths, as its fields are of these types.
 // Public for crate `saved` alone, no entry point: the slot must be there.
 pub fn write_slot(bytes: &mut [u8], at: usize, e: Entry)
-    requires { ⌜ at + 29 ≤ length (now bytes) ⌝ }
+    requires { ⌜ at + slotBytes ≤ length (now bytes) ⌝ }
     ensures { λ _. ⌜ now (bytes .exit) ≡ sets (now (bytes .entry)) at (laid widths (numbersOf e)) ⌝ }
     ensures { λ _. ⌜ Clean (quieted e) ⌝ }
 {
@@ -179,7 +169,7 @@ fn unknown() -> ReadTable
 
 // The table of the first `count` slots.
 fn read_slots(bytes: &[u8], count: usize) -> ReadTable
-    requires { ⌜ (count ≤ 16) × (465 ≤ length (now bytes)) ⌝ }
+    requires { ⌜ (count ≤ capacity) × (tableLength ≤ length (now bytes)) ⌝ }
     ensures { λ r. ⌜ reading r ≡ tableRead true (map entryOf (rowsIn widths count (drop 1 (now (bytes .entry))))) ⌝ }
 {
     let mut table = ReportingTable::new();
@@ -194,7 +184,7 @@ fn read_slots(bytes: &[u8], count: usize) -> ReadTable
 
 // The table that the bytes are.
 pub fn read_table(bytes: &[u8]) -> ReadTable
-    ensures { λ r. ⌜ reading r ≡ readT 16 (now (bytes .entry)) ⌝ }
+    ensures { λ r. ⌜ reading r ≡ readT capacity (now (bytes .entry)) ⌝ }
 {
     if !is_table(bytes) {
         return unknown();
@@ -206,8 +196,8 @@ pub fn read_table(bytes: &[u8]) -> ReadTable
 // Writes the table, if it is one and the bytes have its size, and says whether; otherwise the bytes are as they were. What was written reads as
 // that table; but an entry that was never marked carries no time and no value there.
 pub fn write_table(bytes: &mut [u8], table: ReportingTable) -> bool
-    ensures { λ r. ⌜ written r (now (bytes .exit)) ≡ writeT 16 table (now (bytes .entry)) ⌝ }
-    ensures { λ r. ⌜ (r ≡ true → readT 16 (now (bytes .exit)) ≡ tableRead true (map quieted (take (table .count) (table .entries)))) ⌝ }
+    ensures { λ r. ⌜ written r (now (bytes .exit)) ≡ writeT capacity table (now (bytes .entry)) ⌝ }
+    ensures { λ r. ⌜ (r ≡ true → readT capacity (now (bytes .exit)) ≡ tableRead true (map quieted (take (table .count) (table .entries)))) ⌝ }
 {
     if bytes.len() != TABLE_BYTES {
         return false;

@@ -2,7 +2,7 @@
 ghost use mathlib.Core.Path.{_≡_};
 ghost use Prim.Native.Nat.{_+_, _-_};
 ghost use lib.Signed.{mag};
-ghost use Rattle.reporting.specs.Due.{dist};
+ghost use Rattle.reporting.specs.Due.{dist, bitsOf, distBy};
 
 // n for n and for -(n + 1).
 fn unsigned_part(x: i64) -> u64
@@ -39,4 +39,24 @@ pub fn distance(a: i64, b: i64) -> u64
         return far;
     }
     near
+}
+
+// The same 64 bits, read without their sign.
+pub(crate) fn bits_u64(x: i64) -> u64
+    ensures { λ r. ⌜ r ≡ bitsOf x ⌝ }
+{
+    if x >= 0 {
+        return x as u64;
+    }
+    !((!x) as u64)
+}
+
+// How far apart two numbers are, compared with their sign or, by their 64 bits, without one: up to 2^64-1 either way.
+pub fn distance_by(unsigned: bool, a: i64, b: i64) -> u64
+    ensures { λ r. ⌜ r ≡ distBy unsigned a b ⌝ }
+{
+    if unsigned {
+        return apart(bits_u64(a), bits_u64(b));
+    }
+    distance(a, b)
 }

@@ -9,10 +9,9 @@ ghost use lib.Seq.{sets};
 ghost use Rattle.types.specs.Number.{zeros};
 ghost use Rattle.reporting.specs.Entries.{matches, findL, clearL};
 ghost use Rattle.reporting.specs.Table.{capacity, holding, reportTold, settingTold, configurationT};
-ghost use Rattle.reporting.specs.Carried.{widths, numbersIn, entryOf, tableIn, isTable, tableRead, readT, written};
+ghost use Rattle.reporting.specs.Carried.{widths, numbersIn, entryOf, tableIn, isTable, tableRead, readT, written, slotBytes};
 ghost use Rattle.reporting.specs.Lent.{askLent, configurationLent, markLent, leftAs, configureLent, clearLent};
 ghost use Rattle.reporting.specs.Inside.{keptAs, configureIn};
-use super::carried::LIMIT;
 use super::carried::SLOT;
 use super::carried::is_table;
 use super::carried::read_slot;
@@ -22,6 +21,7 @@ use super::entry::Key;
 use super::entry::ReportingConfig;
 use super::numbers::u16_in;
 use super::table::Change;
+use super::table::LIMIT;
 use super::table::Report;
 use super::table::Setting;
 use frame::answer::Refusal;
@@ -29,7 +29,7 @@ use frame::reply::clear;
 
 // Whether the slot at `at` is the key's. The attribute first: the slots of one store have one cluster.
 fn slot_is_of(bytes: &[u8], at: usize, key: Key) -> bool
-    requires { ⌜ at + 29 ≤ length (now bytes) ⌝ }
+    requires { ⌜ at + slotBytes ≤ length (now bytes) ⌝ }
     ensures { λ r. ⌜ r ≡ matches key (entryOf (numbersIn widths (drop at (now (bytes .entry))))) ⌝ }
 {
     let cluster = u16_in(bytes, at);
@@ -149,8 +149,8 @@ pub fn configure_lent(bytes: &mut [u8], key: Key, config: ReportingConfig) -> Ch
 
 // Zeros in the slot at `at`.
 fn blank_slot(bytes: &mut [u8], at: usize)
-    requires { ⌜ at + 29 ≤ length (now bytes) ⌝ }
-    ensures { λ _. ⌜ now (bytes .exit) ≡ sets (now (bytes .entry)) at (zeros 29) ⌝ }
+    requires { ⌜ at + slotBytes ≤ length (now bytes) ⌝ }
+    ensures { λ _. ⌜ now (bytes .exit) ≡ sets (now (bytes .entry)) at (zeros slotBytes) ⌝ }
 {
     clear(&mut bytes[at..at + SLOT]);
 }

@@ -11,10 +11,11 @@ use frame::answer::Refusal;
 use types::ids::AttributeId;
 use types::ids::ClusterId;
 
-const ROOM: usize = 16;
+// How many entries a table has room for.
+pub const LIMIT: usize = 16;
 
 pub struct ReportingTable {
-    pub entries: [Entry; ROOM],
+    pub entries: [Entry; LIMIT],
     pub count: usize,
 }
 
@@ -69,7 +70,7 @@ impl ReportingTable {
             },
         );
         ReportingTable {
-            entries: [blank; ROOM],
+            entries: [blank; LIMIT],
             count: 0,
         }
     }
@@ -98,14 +99,14 @@ impl ReportingTable {
         ensures { λ r. ⌜ handedBack r ≡ configureT capacity key config (tableOf self) ⌝ }
     {
         let n = self.count;
-        if ROOM < n {
+        if LIMIT < n {
             return Changed {
                 answer: Change::Refused(Refusal::NotATable),
                 table: self,
             };
         }
         let at = self.find(key);
-        if ROOM <= at {
+        if LIMIT <= at {
             return Changed {
                 answer: Change::Full,
                 table: self,
@@ -127,7 +128,7 @@ impl ReportingTable {
         ensures { λ r. ⌜ handedBack r ≡ clearT key (tableOf self) ⌝ }
     {
         let n = self.count;
-        if ROOM < n {
+        if LIMIT < n {
             return Changed {
                 answer: Change::Refused(Refusal::NotATable),
                 table: self,
@@ -155,7 +156,7 @@ impl ReportingTable {
         ensures { λ r. ⌜ handedBack r ≡ markT key now value (tableOf self) ⌝ }
     {
         let n = self.count;
-        if ROOM < n {
+        if LIMIT < n {
             return Changed {
                 answer: Change::Refused(Refusal::NotATable),
                 table: self,
@@ -181,7 +182,7 @@ impl ReportingTable {
         ensures { λ r. ⌜ settingTold r ≡ configurationT key (tableOf self) ⌝ }
     {
         let n = self.count;
-        if ROOM < n {
+        if LIMIT < n {
             return Setting::Refused(Refusal::NotATable);
         }
         let at = self.find(key);
@@ -198,7 +199,7 @@ impl ReportingTable {
         ensures { λ r. ⌜ reportTold r ≡ askT key now value (tableOf self) ⌝ }
     {
         let n = self.count;
-        if ROOM < n {
+        if LIMIT < n {
             return Report::Refused(Refusal::NotATable);
         }
         let at = self.find(key);
@@ -217,7 +218,7 @@ impl ReportingTable {
         ensures { λ r. ⌜ lengthTold r ≡ lengthT (tableOf self) ⌝ }
     {
         let n = self.count;
-        if ROOM < n {
+        if LIMIT < n {
             return Length::Refused(Refusal::NotATable);
         }
         Length::Entries(n)

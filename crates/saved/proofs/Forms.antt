@@ -10,8 +10,9 @@ use lib.ListN.{length, getD, take, drop, set}
 use lib.Seq.{sets, drop-drop, take-all, length-take-le}
 use lib.Dec.{leb, eqb}
 use borrow.Author.Tests.{le-leb, lt-leb, leb-true, eqb-true, eq-eqb, ne-eqb}
+use Rattle.reporting.specs.Table.{capacity}
 use Rattle.reporting.specs.declared.entry.Entry.{Entry}
-use Rattle.reporting.specs.Carried.{widths, total, laid, numbersIn, rowsIn, numbersOf, countIn, tableBytes, quieted}
+use Rattle.reporting.specs.Carried.{widths, total, laid, numbersIn, rowsIn, numbersOf, countIn, tableBytes, quieted, slotBytes}
 use Rattle.reporting.specs.Claims.RoundTrip.{Clean, AllClean}
 use Rattle.reporting.proofs.Carriage.{both}
 use Rattle.reporting.proofs.CarriageLoops.{rows-more, rows-end}
@@ -40,14 +41,13 @@ module _ (bs : List ℕ) (n i : ℕ) (s : FollowSoFar bs n i) where
 
   module _ (h : i < n) (o : ℕ) (is : o ≡ getD (numbersIn (rowOf plain) (drop (1 + 6 * i) bs)) 2 0) where
     next : (b : Bool) → eqb o (offsetAt plain n i) ≡ b → (b && followOn plain n (i + 1) (rowsFrom bs n (i + 1))) ≡ followOn plain n 0 (rowsIn (rowOf plain) n (drop 1 bs))
-    unfolding followOn total
+    unfolding followOn
     next b e =
         (λ j. sym (ap (λ (k : ℕ). eqb k (offsetAt plain n i)) (sym is) ∙ e) j && followOn plain n (add-one i j) (rowsFrom bs n (i + 1)))
         ∙ sym (ap (followOn plain n i) (rows-more (rowOf plain) bs n i (1 + 6 * i) (1 + 6 * (i + 1)) h (omega arith)))
         ∙ s
 
     place : 1 + 6 * n + 12 * i ≡ offsetAt plain n i
-    unfolding total
     place = omega arith
 
     pub follow-more : o ≡ 1 + 6 * n + 12 * i → FollowSoFar bs n (i + 1)
@@ -59,36 +59,35 @@ module _ (bs : List ℕ) (n i : ℕ) (s : FollowSoFar bs n i) where
 -- ---- the form
 
 -- no byte is no form
-pub laid-empty : (bs : List ℕ) → length bs ≡ 0 → false ≡ isLaid plain 16 bs
-unfolding isLaid total
+pub laid-empty : (bs : List ℕ) → length bs ≡ 0 → false ≡ isLaid plain capacity bs
+unfolding isLaid
 laid-empty [] h = refl
 laid-empty (b ∷ bs) h = absurd (omega arith)
 
 module _ (bs : List ℕ) where
   size-is : savedSize plain (countIn bs) ≡ 1 + 18 * countIn bs
-  unfolding total
   size-is = omega arith
 
-  pub laid-counted : 16 < countIn bs → false ≡ isLaid plain 16 bs
+  pub laid-counted : capacity < countIn bs → false ≡ isLaid plain capacity bs
   unfolding isLaid
-  laid-counted h = sym (rw (lt-leb (countIn bs) 16 h))
+  laid-counted h = sym (rw (lt-leb (countIn bs) capacity h))
 
-  module _ (k : countIn bs ≤ 16) where
-    pub laid-sized : (length bs ≡ 1 + 18 * countIn bs → ⊥) → false ≡ isLaid plain 16 bs
+  module _ (k : countIn bs ≤ capacity) where
+    pub laid-sized : (length bs ≡ 1 + 18 * countIn bs → ⊥) → false ≡ isLaid plain capacity bs
     unfolding isLaid
-    laid-sized h = sym (rw (le-leb (countIn bs) 16 k, ne-eqb (length bs) (savedSize plain (countIn bs)) (λ q. h (q ∙ size-is))))
+    laid-sized h = sym (rw (le-leb (countIn bs) capacity k, ne-eqb (length bs) (savedSize plain (countIn bs)) (λ q. h (q ∙ size-is))))
 
-    pub laid-by-offsets : length bs ≡ 1 + 18 * countIn bs → followOn plain (countIn bs) 0 (rowsIn (rowOf plain) (countIn bs) (drop 1 bs)) ≡ isLaid plain 16 bs
+    pub laid-by-offsets : length bs ≡ 1 + 18 * countIn bs → followOn plain (countIn bs) 0 (rowsIn (rowOf plain) (countIn bs) (drop 1 bs)) ≡ isLaid plain capacity bs
     unfolding isLaid
-    laid-by-offsets h = sym (rw (le-leb (countIn bs) 16 k, eq-eqb (length bs) (savedSize plain (countIn bs)) (h ∙ sym size-is)))
+    laid-by-offsets h = sym (rw (le-leb (countIn bs) capacity k, eq-eqb (length bs) (savedSize plain (countIn bs)) (h ∙ sym size-is)))
 
-  module _ (is : isLaid plain 16 bs ≡ true) where
-    conditions : (leb (countIn bs) 16 ≡ true) × ((eqb (length bs) (savedSize plain (countIn bs)) && followOn plain (countIn bs) 0 (rowsOf plain bs)) ≡ true)
+  module _ (is : isLaid plain capacity bs ≡ true) where
+    conditions : (leb (countIn bs) capacity ≡ true) × ((eqb (length bs) (savedSize plain (countIn bs)) && followOn plain (countIn bs) 0 (rowsOf plain bs)) ≡ true)
     unfolding isLaid
-    conditions = both (leb (countIn bs) 16) (eqb (length bs) (savedSize plain (countIn bs)) && followOn plain (countIn bs) 0 (rowsOf plain bs)) is
+    conditions = both (leb (countIn bs) capacity) (eqb (length bs) (savedSize plain (countIn bs)) && followOn plain (countIn bs) 0 (rowsOf plain bs)) is
 
-    pub laid-count : countIn bs ≤ 16
-    laid-count = leb-true (countIn bs) 16 (conditions .0)
+    pub laid-count : countIn bs ≤ capacity
+    laid-count = leb-true (countIn bs) capacity (conditions .0)
 
     pub laid-size : length bs ≡ 1 + 18 * countIn bs
     laid-size = eqb-true _ _ (both (eqb (length bs) (savedSize plain (countIn bs))) (followOn plain (countIn bs) 0 (rowsOf plain bs)) (conditions .1) .0) ∙ size-is
@@ -106,7 +105,7 @@ saved-count bs = length-from (countIn bs) (drop 1 bs) (drop (offsetAt plain (cou
 
 nth-from : (m : ℕ) (x y : List ℕ) (i : ℕ) (d : Entry) → i < m
     → getD (entriesFrom (rowsIn (rowOf plain) m x) (rowsIn (plain .bodies) m y)) i d ≡ entryFrom (numbersIn (rowOf plain) (drop (6 * i) x)) (numbersIn (plain .bodies) (drop (12 * i) y))
-unfolding entriesFrom rowsIn total
+unfolding entriesFrom rowsIn
 nth-from zero x y i d h = absurd (omega arith)
 nth-from (suc m) x y zero d h = refl
 nth-from (suc m) x y (suc i) d h =
@@ -121,7 +120,7 @@ module _ (bs : List ℕ) (i : ℕ) where
   entryAt = entryFrom (numbersIn (rowOf plain) (drop (1 + 6 * i) bs)) (numbersIn (plain .bodies) (drop (1 + 6 * countIn bs + 12 * i) bs))
 
   nth-saved : (d : Entry) → i < countIn bs → getD (savedIn plain bs) i d ≡ entryAt
-  unfolding savedIn total
+  unfolding savedIn
   nth-saved d h =
       let p : offsetAt plain (countIn bs) 0 + 12 * i ≡ 1 + 6 * countIn bs + 12 * i = omega arith in
       nth-from (countIn bs) (drop 1 bs) (drop (offsetAt plain (countIn bs) 0) bs) i d h
@@ -135,13 +134,13 @@ module _ (bs : List ℕ) (i : ℕ) where
     many : length (take i (savedIn plain bs)) ≡ i
     many = length-take-le i (savedIn plain bs) (omega (arith, saved-count bs))
 
-    pub fill-turn : countIn bs ≤ 16 → (t t′ : List ℕ) → t ≡ tableBytes 16 (take i (savedIn plain bs)) → t′ ≡ sets t (1 + 29 * i) (laid widths (numbersOf e)) → set t′ 0 (i + 1) ≡ tableBytes 16 (take (i + 1) (savedIn plain bs))
+    pub fill-turn : countIn bs ≤ capacity → (t t′ : List ℕ) → t ≡ tableBytes capacity (take i (savedIn plain bs)) → t′ ≡ sets t (1 + slotBytes * i) (laid widths (numbersOf e)) → set t′ 0 (i + 1) ≡ tableBytes capacity (take (i + 1) (savedIn plain bs))
     fill-turn k t t′ p q =
         let l : List Entry = take i (savedIn plain bs) in
-        (λ j. set ((q ∙ ap (λ (x : List ℕ). sets x (1 + 29 * i) (laid widths (numbersOf e))) p) j) 0 (add-one i j))
-        ∙ (λ j. set (sets (tableBytes 16 l) (1 + 29 * sym many j) (laid widths (numbersOf e))) 0 (suc (sym many j)))
-        ∙ slot-added 16 l e (omega (arith, many))
-        ∙ ap (tableBytes 16) (sym more)
+        (λ j. set ((q ∙ ap (λ (x : List ℕ). sets x (1 + slotBytes * i) (laid widths (numbersOf e))) p) j) 0 (add-one i j))
+        ∙ (λ j. set (sets (tableBytes capacity l) (1 + slotBytes * sym many j) (laid widths (numbersOf e))) 0 (suc (sym many j)))
+        ∙ slot-added capacity l e (omega (arith, many))
+        ∙ ap (tableBytes capacity) (sym more)
 
     pub clean-turn : AllClean (take i (savedIn plain bs)) → Clean (quieted e) → AllClean (take (i + 1) (savedIn plain bs))
     clean-turn a c =

@@ -17,12 +17,12 @@ use Rattle.frame.proofs.Buffer.{sets-padded}
 use Rattle.reporting.specs.declared.entry.Entry.{Entry}
 use Rattle.reporting.specs.declared.table.Change.the-variants.{Done, Refused}
 use Rattle.reporting.specs.Table.{capacity}
-use Rattle.reporting.specs.Carried.{total, rowsLaid, countIn, tableIn, tableBytes, isTable}
+use Rattle.reporting.specs.Carried.{rowsLaid, countIn, tableIn, tableBytes, isTable, tableLength}
 use Rattle.reporting.specs.Lent.{onLent, leftAs}
 use Rattle.reporting.specs.Claims.RoundTrip.{AllClean}
 use Rattle.reporting.proofs.Carriage.{length-rows}
 use Rattle.reporting.proofs.CarriageTable.{table-is, table-back, table-count}
-use Rattle.reporting.proofs.CarriageLoops.{table-size, empty-bytes, count-first}
+use Rattle.reporting.proofs.CarriageLoops.{empty-bytes, count-first}
 use Rattle.saved.specs.Saved.{plain, keyOf, bodyOf, rowOf, contentsFrom, savedBytes, isSavable, savedIn, isLaid, isSaved}
 use Rattle.saved.specs.Lent.{saveL, saveLent, restoreLent}
 use Rattle.saved.proofs.Rows.{length-contents}
@@ -38,11 +38,9 @@ module _ (l : List Entry) where
   two = rowsLaid (plain .bodies) (map bodyOf l)
 
   pub length-one : length one ≡ length l * 6
-  unfolding total
   length-one = length-rows (rowOf plain) (contentsFrom plain (length l) 0 (map keyOf l)) ∙ ap (λ (k : ℕ). k * 6) (length-contents (length l) 0 (map keyOf l) ∙ length-map l keyOf)
 
   pub length-two : length two ≡ length l * 12
-  unfolding total
   length-two = length-rows (plain .bodies) (map bodyOf l) ∙ ap (λ (k : ℕ). k * 12) (length-map l bodyOf)
 
   pub saved-length : length (savedBytes plain l) ≡ 1 + 18 * length l
@@ -109,14 +107,14 @@ module _ (bs : List ℕ) (room : ℕ) where
 -- ---- reading
 
 module _ (form bs : List ℕ) where
-  pub restore-no-table : (length bs ≡ 465 → ⊥) → leftAs (Refused NotATable) bs ≡ restoreLent form bs
+  pub restore-no-table : (length bs ≡ tableLength → ⊥) → leftAs (Refused NotATable) bs ≡ restoreLent form bs
   unfolding restoreLent
-  restore-no-table h = sym (rw (table-size, ne-eqb (length bs) 465 h))
+  restore-no-table h = sym (rw (ne-eqb (length bs) tableLength h))
 
-  module _ (n : length bs ≡ 465) where
+  module _ (n : length bs ≡ tableLength) where
     by-form : (b : Bool) → isSaved plain capacity form ≡ b → cond b (leftAs Done (tableBytes capacity (savedIn plain form))) (leftAs (Refused NotASavedForm) (tableBytes capacity [])) ≡ restoreLent form bs
     unfolding restoreLent
-    by-form b e = sym (rw (table-size, eq-eqb (length bs) 465 n, e))
+    by-form b e = sym (rw (eq-eqb (length bs) tableLength n, e))
 
     -- the buffer that was cleared is an empty table
     emptied : (t : List ℕ) → t ≡ zeros (length bs) → t ≡ tableBytes capacity []
@@ -125,25 +123,25 @@ module _ (form bs : List ℕ) where
     refused-so : (t : List ℕ) → t ≡ zeros (length bs) → isSaved plain capacity form ≡ false → leftAs (Refused NotASavedForm) t ≡ restoreLent form bs
     refused-so t z e = ap (leftAs (Refused NotASavedForm)) (emptied t z) ∙ by-form false e
 
-    pub restore-not-laid : (t : List ℕ) → t ≡ zeros (length bs) → isLaid plain 16 form ≡ false → leftAs (Refused NotASavedForm) t ≡ restoreLent form bs
+    pub restore-not-laid : (t : List ℕ) → t ≡ zeros (length bs) → isLaid plain capacity form ≡ false → leftAs (Refused NotASavedForm) t ≡ restoreLent form bs
     unfolding isSaved
     restore-not-laid t z h = refused-so t z (rw h refl)
 
-    module _ (h : isLaid plain 16 form ≡ true) where
-      pub fill-empty : (t : List ℕ) → t ≡ zeros (length bs) → (t ≡ tableBytes capacity []) × (isLaid plain 16 form ≡ true)
+    module _ (h : isLaid plain capacity form ≡ true) where
+      pub fill-empty : (t : List ℕ) → t ≡ zeros (length bs) → (t ≡ tableBytes capacity []) × (isLaid plain capacity form ≡ true)
       fill-empty t z = (emptied t z, h)
 
       module _ (clean : AllClean (savedIn plain form)) where
-        few : length (savedIn plain form) ≤ 16
+        few : length (savedIn plain form) ≤ capacity
         few = omega (arith, saved-count form, laid-count form h)
 
         pub filled-table : (t : List ℕ) → t ≡ tableBytes capacity (savedIn plain form) → isTable capacity t ≡ true
-        filled-table t e = ap (isTable capacity) e ∙ table-is 16 (savedIn plain form) few clean
+        filled-table t e = ap (isTable capacity) e ∙ table-is capacity (savedIn plain form) few clean
 
         -- whether it is a saved form is whether the table that was filled is written
         judged : (t : List ℕ) → t ≡ tableBytes capacity (savedIn plain form) → isSaved plain capacity form ≡ isSavable (tableIn t)
         unfolding isSaved
-        judged t e = rw h (sym (ap (λ (x : List ℕ). isSavable (tableIn x)) e ∙ ap isSavable (table-back 16 (savedIn plain form) few clean)))
+        judged t e = rw h (sym (ap (λ (x : List ℕ). isSavable (tableIn x)) e ∙ ap isSavable (table-back capacity (savedIn plain form) few clean)))
 
         pub restore-done : (t : List ℕ) → t ≡ tableBytes capacity (savedIn plain form) → isSavable (tableIn t) ≡ true → leftAs Done t ≡ restoreLent form bs
         restore-done t e s = ap (leftAs Done) e ∙ by-form true (judged t e ∙ s)

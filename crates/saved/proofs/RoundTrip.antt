@@ -33,7 +33,7 @@ bodies = 2 ∷ 2 ∷ 8 ∷ []
 
 -- keys and offsets fit their widths
 contents-within : (n i : ℕ) (l : List Entry) → AllClean l → i + length l ≤ n → savedSize plain n < 2 ^ 16 → AllWithin rows (contentsFrom plain n i (map keyOf l))
-unfolding contentsFrom total
+unfolding contentsFrom
 contents-within n i [] h k b = tt
 contents-within n i (e ∷ l) h k b = ((h .0 .cluster, (h .0 .attribute, (omega arith, refl))), contents-within n (suc i) l (h .1) (omega arith) b)
 
@@ -71,7 +71,6 @@ module _ (limit : ℕ) (l : List Entry) (small : savedSize plain limit < 2 ^ 16)
   two = map bodyOf l
 
   fits : savedSize plain n < 2 ^ 16
-  unfolding total
   fits = omega arith
 
   rows-back : rowsOf plain (savedBytes plain l) ≡ one
@@ -81,7 +80,7 @@ module _ (limit : ℕ) (l : List Entry) (small : savedSize plain limit < 2 ^ 16)
       ∙ rows-laid rows one (rowsLaid bodies two) (contents-within n 0 l clean (omega arith) fits)
 
   behind : drop (offsetAt plain n 0) (savedBytes plain l) ≡ rowsLaid bodies two
-  unfolding savedBytes total
+  unfolding savedBytes
   behind =
       let e : offsetAt plain n 0 ≡ suc (n * 6) = omega arith in
       ap (λ (k : ℕ). drop k (n ∷ (rowsLaid rows one ++ rowsLaid bodies two))) e ∙ drop-at (rowsLaid rows one) (rowsLaid bodies two) (n * 6) (length-one l)
@@ -99,7 +98,6 @@ module _ (limit : ℕ) (l : List Entry) (small : savedSize plain limit < 2 ^ 16)
   written-back = (λ i. entriesFrom (rows-back i) (bodies-back i)) ∙ entries-back n 0 l
 
   size-so : length (savedBytes plain l) ≡ savedSize plain n
-  unfolding total
   size-so = omega (arith, saved-length l)
 
   count-so : countIn (savedBytes plain l) ≡ n
@@ -154,19 +152,15 @@ module _ (limit : ℕ) (bs : List ℕ) (bytes : AllBytes bs) (is : isSaved plain
   rest = drop 1 bs
 
   rest-length : length rest ≡ m * 6 + m * 12
-  unfolding total
   rest-length = omega (arith, length-drop 1 bs, conditions .0)
 
   behind-contents : drop (offsetAt plain m 0) bs ≡ drop (m * 6) rest
-  unfolding total
   behind-contents = let e : offsetAt plain m 0 ≡ 1 + m * 6 = omega arith in ap (λ (k : ℕ). drop k bs) e ∙ sym (drop-drop (m * 6) 1 bs)
 
   first-read : rowsLaid rows (rowsOf plain bs) ≡ take (m * 6) rest
-  unfolding total
   first-read = laid-rows rows m rest (bytes-drop bs 1 bytes) (omega (arith, rest-length))
 
   second-read : rowsLaid bodies (bodiesOf plain bs) ≡ drop (m * 6) rest
-  unfolding total
   second-read =
       let l : length (drop (m * 6) rest) ≡ m * 12 = omega (arith, length-drop (m * 6) rest, rest-length) in
       ap (λ (x : List ℕ). rowsLaid bodies (rowsIn bodies m x)) behind-contents

@@ -7,7 +7,7 @@ use native.Mathlib.Nat.{add-zero}
 use lib.ListN.{length, take, length-map}
 use lib.Seq.{sets, take-all, length-take-le}
 use Rattle.reporting.specs.declared.entry.Entry.{Entry}
-use Rattle.reporting.specs.Carried.{total, laid, rowsLaid, countIn, tableIn}
+use Rattle.reporting.specs.Carried.{laid, rowsLaid, countIn, tableIn}
 use Rattle.reporting.proofs.CarriageTable.{table-count}
 use Rattle.reporting.proofs.Lending.{slotEntry, nth-entry}
 use Rattle.saved.specs.Saved.{plain, keyOf, bodyOf, rowOf, offsetAt, contentsFrom}
@@ -64,7 +64,6 @@ module _ (bs : List ℕ) (i : ℕ) (s₀ s s′ : List ℕ) (h : i < countIn bs)
     pub contents-turn : s ≡ sets s₀ 1 (rowsLaid (rowOf plain) (contentsTo bs i))
         → s′ ≡ sets s (1 + 6 * i) (laid (rowOf plain) (keyOf e ++ ((1 + 6 * countIn bs + 12 * i) ∷ [])))
         → s′ ≡ sets s₀ 1 (rowsLaid (rowOf plain) (contentsTo bs (i + 1)))
-    unfolding total
     contents-turn p q =
         let o : 1 + 6 * countIn bs + 12 * i ≡ offsetAt plain (countIn bs) i = omega arith in
         let k : length (map keyOf (take i (tableIn bs))) ≡ i = length-map (take i (tableIn bs)) keyOf ∙ many in
@@ -79,7 +78,6 @@ module _ (bs : List ℕ) (i : ℕ) (s₀ s s′ : List ℕ) (h : i < countIn bs)
     pub bodies-turn : s ≡ sets s₀ (1 + 6 * countIn bs) (rowsLaid (plain .bodies) (bodiesTo bs i))
         → s′ ≡ sets s (1 + 6 * countIn bs + 12 * i) (laid (plain .bodies) (bodyOf e))
         → s′ ≡ sets s₀ (1 + 6 * countIn bs) (rowsLaid (plain .bodies) (bodiesTo bs (i + 1)))
-    unfolding total
     bodies-turn p q =
         put-row (plain .bodies) (1 + 6 * countIn bs) (1 + 6 * countIn bs + 12 * i) i (bodiesTo bs i) (bodyOf (slotEntry bs i)) s₀ s s′
         (length-map (take i (tableIn bs)) bodyOf ∙ many) (omega arith) p (q ∙ ap (λ (x : Entry). sets s (1 + 6 * countIn bs + 12 * i) (laid (plain .bodies) (bodyOf x))) is)

@@ -8,7 +8,7 @@ use Rattle.types.specs.Number.{le, bytesOf}
 use Rattle.reporting.specs.declared.entry.Key.{Key}
 use Rattle.reporting.specs.declared.entry.Entry.{Entry}
 use Rattle.reporting.specs.Entries.{distinct, fresh}
-use Rattle.reporting.specs.Carried.{total, laid, numbersIn, rowsLaid, rowsIn}
+use Rattle.reporting.specs.Carried.{laid, numbersIn, rowsLaid, rowsIn}
 use Rattle.saved.specs.Saved.{plain, contentsFrom, savedBytes, allSet, entriesFrom, savedIn, followOn, isLaid, isSaved}
 
 -- cluster 0402, attribute 0000, 10 to 300 seconds, change 50
@@ -48,7 +48,7 @@ pub record Computed : Type 0 where
   pub twice : distinct (entry ∷ reported ∷ []) ≡ false
 
 pub computed : Computed
-unfolding le bytesOf total laid numbersIn rowsLaid rowsIn contentsFrom savedBytes distinct allSet entriesFrom savedIn followOn isLaid isSaved
+unfolding le bytesOf laid numbersIn rowsLaid rowsIn contentsFrom savedBytes distinct allSet entriesFrom savedIn followOn isLaid isSaved
 computed =
     record {
       written = refl;

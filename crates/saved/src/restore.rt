@@ -17,15 +17,15 @@ use super::form::offset_in;
 use super::savable::is_savable;
 use frame::answer::Refusal;
 use frame::reply::clear;
-use reporting::carried::LIMIT;
 use reporting::carried::SLOT;
 use reporting::carried::TABLE_BYTES;
 use reporting::carried::write_slot;
 use reporting::table::Change;
+use reporting::table::LIMIT;
 
 // Whether each of n offsets is where its body stands: the first behind the contents, each next one behind the body before it.
 fn offsets_follow(saved: &[u8], n: usize) -> bool
-    requires { ⌜ (n ≤ 16) × (1 + 18 * n ≤ length (now saved)) ⌝ }
+    requires { ⌜ (n ≤ capacity) × (1 + 18 * n ≤ length (now saved)) ⌝ }
     ensures { λ r. ⌜ r ≡ followOn plain n 0 (rowsIn (rowOf plain) n (drop 1 (now (saved .entry)))) ⌝ }
 {
     let mut i = 0;
@@ -41,7 +41,7 @@ fn offsets_follow(saved: &[u8], n: usize) -> bool
 
 // Whether the bytes are laid out as a form of up to so many entries as a table has room for, whatever the entries are.
 fn is_laid(saved: &[u8]) -> bool
-    ensures { λ r. ⌜ r ≡ isLaid plain 16 (now (saved .entry)) ⌝ }
+    ensures { λ r. ⌜ r ≡ isLaid plain capacity (now (saved .entry)) ⌝ }
 {
     if saved.len() == 0 {
         return false;
@@ -58,7 +58,7 @@ fn is_laid(saved: &[u8]) -> bool
 
 // Puts the form's entries into an empty table. Not public: the bytes must be an empty table's, and those of a form laid out.
 fn fill(table: &mut [u8], saved: &[u8])
-    requires { ⌜ (now table ≡ tableBytes capacity []) × (isLaid plain 16 (now saved) ≡ true) ⌝ }
+    requires { ⌜ (now table ≡ tableBytes capacity []) × (isLaid plain capacity (now saved) ≡ true) ⌝ }
     ensures { λ _. ⌜ now (table .exit) ≡ tableBytes capacity (savedIn plain (now (saved .entry))) ⌝ }
     ensures { λ _. ⌜ AllClean (savedIn plain (now (saved .entry))) ⌝ }
 {

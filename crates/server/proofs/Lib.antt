@@ -37,3 +37,5 @@ pub mod Logged  -- demand 3 of what the code answered
 pub mod LogExample  -- a log that meets its suppositions
 pub mod Fitting  -- what a request configures is within the widths of a table's bytes
 pub mod Starred  -- the starred bench frames
+-- requests and direct calls under two limits
+pub mod Limits

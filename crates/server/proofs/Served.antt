@@ -19,11 +19,10 @@ use Rattle.reporting.specs.declared.entry.Entry.{Entry}
 use Rattle.reporting.specs.declared.table.ReportingTable.{ReportingTable}
 use Rattle.reporting.specs.declared.carried.ReadTable.{ReadTable}
 use Rattle.reporting.specs.Table.{capacity, Table, bad, live, tableOf, holding}
-use Rattle.reporting.specs.Carried.{quieted, isTable, tableIn, tableBytes, Reading, reading, readT, Written, written, writeT}
+use Rattle.reporting.specs.Carried.{quieted, isTable, tableIn, tableBytes, Reading, reading, readT, Written, written, writeT, tableLength}
 use Rattle.reporting.specs.Carried as Carried
 use Rattle.reporting.specs.Lent.{quietedT}
 use Rattle.reporting.proofs.CarriageTable.{bytes-back, read-own, read-is}
-use Rattle.reporting.proofs.CarriageLoops.{table-size}
 use Rattle.reporting.proofs.Slots.{is-table}
 use Rattle.server.specs.Serve.{state, byHeader, tabled, serve}
 use Rattle.server.specs.Lent.{Lent, lent, carried, serveLent}
@@ -92,24 +91,24 @@ module _ (s bs : List ℕ) (cluster : ℕ) (unicast : Bool) (frame : List ℕ) (
 -- ---- over a value
 
 -- what `write_table` says to bytes of its size
-module _ (t : ReportingTable) (bs : List ℕ) (size : length bs ≡ 465) (w : Bool) (bs′ : List ℕ) (e : written w bs′ ≡ writeT 16 t bs) where
-  by-count : written w bs′ ≡ cond (leb (t .count) 16) (written true (tableBytes 16 (take (t .count) (t .entries)))) (written false bs)
+module _ (t : ReportingTable) (bs : List ℕ) (size : length bs ≡ tableLength) (w : Bool) (bs′ : List ℕ) (e : written w bs′ ≡ writeT capacity t bs) where
+  by-count : written w bs′ ≡ cond (leb (t .count) capacity) (written true (tableBytes capacity (take (t .count) (t .entries)))) (written false bs)
   unfolding writeT
-  by-count = e ∙ rw (table-size, eq-eqb (length bs) 465 size)
+  by-count = e ∙ rw (eq-eqb (length bs) tableLength size)
 
-  is-written : w ≡ leb (t .count) 16
-  is-written = go (leb (t .count) 16) (ap (λ (x : Written). x .done) by-count)
+  is-written : w ≡ leb (t .count) capacity
+  is-written = go (leb (t .count) capacity) (ap (λ (x : Written). x .done) by-count)
     where
-      go : (b : Bool) → w ≡ (cond b (written true (tableBytes 16 (take (t .count) (t .entries)))) (written false bs)) .done → w ≡ b
+      go : (b : Bool) → w ≡ (cond b (written true (tableBytes capacity (take (t .count) (t .entries)))) (written false bs)) .done → w ≡ b
       go true p = p
       go false p = p
 
   -- a count above the limit
   pub not-written : w ≡ false → tableOf t ≡ bad t
-  not-written q = rw (lt-ltb capacity (t .count) (leb-false (t .count) 16 (sym is-written ∙ q)))
+  not-written q = rw (lt-ltb capacity (t .count) (leb-false (t .count) capacity (sym is-written ∙ q)))
 
   pub was-written : w ≡ true → t .count ≤ capacity
-  was-written q = leb-true (t .count) 16 (sym is-written ∙ q)
+  was-written q = leb-true (t .count) capacity (sym is-written ∙ q)
 
 module _ (s : List ℕ) (t : ReportingTable) (cluster : ℕ) (unicast : Bool) (frame : List ℕ) (n : ℕ) (a : Answer) (d : List ℕ) where
   refused-bad : (u : ReportingTable) → refused n (cond (isStore 8 s) NotATable NotAStore) (state s (bad u)) ≡ serve 8 capacity s (bad u) cluster unicast frame n
@@ -130,9 +129,9 @@ module _ (s : List ℕ) (t : ReportingTable) (cluster : ℕ) (unicast : Bool) (f
       ∙ sym (ap (λ (x : Table). serve 8 capacity s (quietedT x) cluster unicast frame n) h)
 
   -- that is one: as its bytes, and the table read from them afterwards
-  pub value-served : t .count ≤ capacity → (bs : List ℕ) → readT 16 bs ≡ Carried.tableRead true (map quieted (live t))
+  pub value-served : t .count ≤ capacity → (bs : List ℕ) → readT capacity bs ≡ Carried.tableRead true (map quieted (live t))
       → (s′ bs′ : List ℕ) → isTable capacity bs′ ≡ true → seen a d (state s′ (holding (tableIn bs′))) ≡ serve 8 capacity s (holding (tableIn bs)) cluster unicast frame n
-      → (r : ReadTable) → reading r ≡ readT 16 bs′ → seen a d (state s′ (tableOf (r .table))) ≡ serve 8 capacity s (quietedT (tableOf t)) cluster unicast frame n
+      → (r : ReadTable) → reading r ≡ readT capacity bs′ → seen a d (state s′ (tableOf (r .table))) ≡ serve 8 capacity s (quietedT (tableOf t)) cluster unicast frame n
   value-served small bs c s′ bs′ is′ e r g =
       ap (λ (x : Reading). seen a d (state s′ (x .table))) (g ∙ read-own capacity bs′ is′)
       ∙ e

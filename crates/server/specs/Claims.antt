@@ -18,4 +18,5 @@ pub mod Accepted  -- what a reply tells of a configuration
 pub mod Log  -- what the code answered, and demand 3 of it
 pub mod ServedHistory  -- a history that meets what demand 3 supposes
 pub mod LogExample  -- a log that meets what demand 3 of the code supposes
+pub mod Limits  -- the same under two limits
 pub mod Unique  -- no second answer fits a contract

@@ -37,6 +37,6 @@ ClearLentTells =
 
 abbrev pub WriteTableTells : Type 0
 WriteTableTells =
-    (bytes : List ℕ) (table : ReportingTable) (r : Bool) (x : List ℕ) → written r x ≡ writeT 16 table bytes
+    (bytes : List ℕ) (table : ReportingTable) (r : Bool) (x : List ℕ) → written r x ≡ writeT capacity table bytes
     → writtenTold r x
-    ≡ cond (sizeOk 16 bytes && leb (table .count) 16) (writtenAs 0 (tableBytes 16 (take (table .count) (table .entries)))) (writtenAs 8 bytes)
+    ≡ cond (sizeOk capacity bytes && leb (table .count) capacity) (writtenAs 0 (tableBytes capacity (take (table .count) (table .entries)))) (writtenAs 8 bytes)

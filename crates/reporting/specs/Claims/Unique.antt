@@ -21,7 +21,7 @@ use Rattle.reporting.specs.declared.table.Setting.{Setting}
 use Rattle.reporting.specs.declared.table.Length.{Length}
 use Rattle.reporting.specs.Table.{capacity, tableOf, Alike, reportTold, settingTold, lengthTold, handedBack, holding, configureT, clearT, markT, configurationT, askT, lengthT}
 use Rattle.reporting.specs.Entries.{same, matches, findL, fresh, clearL, markE}
-use Rattle.reporting.specs.Due.{dist, movedBy, ripe, dueE}
+use Rattle.reporting.specs.Due.{dist, distBy, movedBy, ripe, dueE}
 use Rattle.reporting.specs.Wish.{wish}
 use Rattle.reporting.specs.Carried.{widths, laid, numbersIn, numbersOf, entryOf, tableIn, isTable, tableRead, reading, readT, written, writeT}
 use Rattle.reporting.specs.Lent.{askLent, configurationLent, markLent, clearLent, leftAs, configureLent}
@@ -29,20 +29,20 @@ use Rattle.reporting.specs.Inside.{keptAs, configureIn}
 
 -- src/carried.rt
 abbrev pub IsTableOnce : Type 0
-IsTableOnce = (bytes : List ℕ) (r q : Bool) → r ≡ isTable 16 bytes → q ≡ isTable 16 bytes → r ≡ q
+IsTableOnce = (bytes : List ℕ) (r q : Bool) → r ≡ isTable capacity bytes → q ≡ isTable capacity bytes → r ≡ q
 
 abbrev pub ReadTableOnce : Type 0
 ReadTableOnce =
     (bytes : List ℕ) (r q : ReadTable)
-    → reading r ≡ readT 16 bytes
-    → reading q ≡ readT 16 bytes
+    → reading r ≡ readT capacity bytes
+    → reading q ≡ readT capacity bytes
     → (r .known ≡ q .known) × Alike (r .table) (q .table)
 
 abbrev pub WriteTableOnce : Type 0
 WriteTableOnce =
     (bytes : List ℕ) (table : ReportingTable) (r q : Bool) (x y : List ℕ)
-    → written r x ≡ writeT 16 table bytes
-    → written q y ≡ writeT 16 table bytes
+    → written r x ≡ writeT capacity table bytes
+    → written q y ≡ writeT capacity table bytes
     → (r ≡ q) × (x ≡ y)
 
 abbrev pub ReadSlotOnce : Type 0
@@ -58,6 +58,9 @@ WriteSlotOnce =
 -- src/distance.rt
 abbrev pub DistanceOnce : Type 0
 DistanceOnce = (a b : ℤ) (r q : ℕ) → r ≡ dist a b → q ≡ dist a b → r ≡ q
+
+abbrev pub DistanceByOnce : Type 0
+DistanceByOnce = (unsigned : Bool) (a b : ℤ) (r q : ℕ) → r ≡ distBy unsigned a b → q ≡ distBy unsigned a b → r ≡ q
 
 -- src/entry.rt
 abbrev pub IsOnce : Type 0

@@ -4,13 +4,14 @@ use native.Mathlib.Omega.{arith}
 use Prim.Native.Nat.{_≤_}
 use lib.ListN.{length}
 use denote.Ref.{now}
+use Rattle.reporting.specs.Table.{capacity}
 use Rattle.reporting.proofs.Slots.{length-mapped}
 use Rattle.replay.proofs.Calls.{laid-small, laid-says, laid-none}
 use borrow.Author.Needs.{needs}
 use Rattle.replay.proofs.methods.lay.Statement.{statement}
 use Rattle.replay.proofs.methods.lay.Tie as tie
 
-small : (c : tie.After-struct-known) → c .before .before .before .before .before .before .before .args .table .count ≤ 16
+small : (c : tie.After-struct-known) → c .before .before .before .before .before .before .before .args .table .count ≤ capacity
 small c = laid-small (c .before .before .before .before .before .before .before .args .table) (now (c .before .before .before .before .before .before .before .args .bytes)) _ _ (c .before .before .before .before .before .before .before .pre) (c .before .before .before .before .write-table .ensures .0) (c .before .if1 .taken)
 
 write-table-requires : tie.Need-write-table-requires
@@ -27,7 +28,7 @@ same-length c = search needs
 
 returns : tie.Need-returns
 returns c =
-    let n : length (c .before .before .before .before .before .before .before .args .table .entries) ≡ 16 = search (length-mapped, needs) in
+    let n : length (c .before .before .before .before .before .before .before .args .table .entries) ≡ capacity = search (length-mapped, needs) in
     laid-says (c .before .before .before .before .before .before .before .args .table) (now (c .before .before .before .before .before .before .before .args .bytes)) _ _ (c .before .before .before .before .before .before .before .pre) (c .before .before .before .before .write-table .ensures .0) (c .before .if1 .taken) n
 
 same-length-2 : tie.Need-same-length-2

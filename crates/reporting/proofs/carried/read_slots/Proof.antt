@@ -5,13 +5,14 @@ use Prim.Native.Nat.{_-_}
 use mathlib.Core.Path.{_≡_, _∙_}
 use lib.ListN.{length, length-set}
 use denote.Ref.{now}
+use Rattle.reporting.specs.Table.{capacity}
 use Rattle.reporting.proofs.Slots.{length-mapped}
 use Rattle.reporting.proofs.CarriageLoops.{ReadSoFar, read-start, read-more, read-done}
 use Rattle.reporting.proofs.carried.read_slots.Statement.{statement}
 use Rattle.reporting.proofs.carried.read_slots.Tie as tie
 
 abbrev Inv-loop : tie.InvT-loop
-Inv-loop bytes count table₀ i₀ table i = (length (table .entries) ≡ 16) × ReadSoFar bytes count (table .entries) i
+Inv-loop bytes count table₀ i₀ table i = (length (table .entries) ≡ capacity) × ReadSoFar bytes count (table .entries) i
 
 abbrev μ-loop : tie.MeasureT-loop
 μ-loop bytes count table₀ i₀ table i = count - i
@@ -47,7 +48,7 @@ loop-again : tie.Need-loop-again Inv-loop μ-loop
 loop-again c =
     let a = c .before .before .before .before .before .args in
     let l = c .before .before .loop in
-    let n : length (l .table .entries) ≡ 16 = l .inv .0 in
+    let n : length (l .table .entries) ≡ capacity = l .inv .0 in
     let h = c .before .loop-test .taken in (
       length-set (l .table .entries) (l .i) (c .read-slot .result) ∙ n,
       read-more (now (a .bytes)) (a .count) (l .table .entries) (l .i) (l .inv .1) (c .read-slot .result) h (omega (arith, c .before .before .before .before .before .pre)) (c .read-slot .ensures),

@@ -5,12 +5,13 @@ use mathlib.Core.Path.{_≡_, sym, _∙_}
 use mathlib.Core.Bool.{true}
 use borrow.Author.Tests.{not-true, not-false}
 use denote.Ref.{now}
+use Rattle.reporting.specs.Table.{capacity}
 use Rattle.reporting.specs.Carried.{isTable}
 use Rattle.reporting.proofs.CarriageLoops.{known-size, known-count, read-none, read-all}
 use Rattle.reporting.proofs.carried.read_table.Statement.{statement}
 use Rattle.reporting.proofs.carried.read_table.Tie as tie
 
-known : (c : tie.Else1) → isTable 16 (now (c .before .before .before .args .bytes)) ≡ true
+known : (c : tie.Else1) → isTable capacity (now (c .before .before .before .args .bytes)) ≡ true
 known c = sym (c .before .is-table .ensures) ∙ not-false _ (c .if1 .left)
 
 is-table-requires : tie.Need-is-table-requires

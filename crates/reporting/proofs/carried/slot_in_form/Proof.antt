@@ -4,6 +4,7 @@ use native.Mathlib.Omega.{arith}
 use mathlib.Core.Path.{refl, _∙_}
 use Prim.Native.Nat.{_+_, _-_}
 use denote.Ref.{now}
+use Rattle.reporting.specs.Carried.{slotBytes}
 use Rattle.reporting.proofs.CarriageCode.{form-past, form-marked, form-none}
 use Rattle.reporting.proofs.carried.slot_in_form.Statement.{statement}
 use Rattle.reporting.proofs.carried.slot_in_form.Tie as tie
@@ -41,7 +42,7 @@ all-zero-requires c κs = search needs
 returns-3 : tie.Need-returns-3
 returns-3 c =
     let a = c .before .before .before .before .before .before .args in
-    c .all-zero .ensures ∙ form-none (now (a .bytes)) (a .at) _ refl (a .at + 29 - (a .at + 17)) (omega arith) (c .before .before .before .if1 .left) (c .before .before .if2 .left)
+    c .all-zero .ensures ∙ form-none (now (a .bytes)) (a .at) _ refl (a .at + slotBytes - (a .at + 17)) (omega arith) (c .before .before .before .if1 .left) (c .before .before .if2 .left)
 
 pub slot-in-form-spec : {M : Type 1} → statement M
 slot-in-form-spec =

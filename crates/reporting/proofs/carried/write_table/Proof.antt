@@ -8,7 +8,8 @@ use mathlib.Core.List.{map}
 use lib.ListN.{length, take}
 use lib.Seq.{length-take-le}
 use denote.Ref.{now}
-use Rattle.reporting.specs.Carried.{quieted, readT}
+use Rattle.reporting.specs.Table.{capacity}
+use Rattle.reporting.specs.Carried.{quieted, readT, tableLength}
 use Rattle.reporting.specs.Claims.RoundTrip.{AllClean}
 use Rattle.reporting.proofs.CarriageTable.{quieted-read}
 use Rattle.reporting.proofs.Slots.{length-mapped}
@@ -17,7 +18,7 @@ use Rattle.reporting.proofs.carried.write_table.Statement.{statement}
 use Rattle.reporting.proofs.carried.write_table.Tie as tie
 
 abbrev Inv-loop : tie.InvT-loop
-Inv-loop bytes₀ table count i₀ bytes i = (i ≤ count) × ((length bytes ≡ 465) × ((bytes ≡ filled 465 count (table .entries) i) × AllClean (map quieted (take i (table .entries)))))
+Inv-loop bytes₀ table count i₀ bytes i = (i ≤ count) × ((length bytes ≡ tableLength) × ((bytes ≡ filled tableLength count (table .entries) i) × AllClean (map quieted (take i (table .entries)))))
 
 abbrev μ-loop : tie.MeasureT-loop
 μ-loop bytes₀ table count i₀ bytes i = count - i
@@ -70,11 +71,11 @@ loop-less c = omega arith
 loop-again : tie.Need-loop-again Inv-loop μ-loop
 loop-again c =
     let t = c .before .before .before .before .before .before .before .before .before .before .before .before .before .before .args .t2 in
-    let n : length (c .before .before .before .before .before .before .before .before .before .before .before .before .before .before .args .t2 .entries) ≡ 16 = search (length-mapped, needs) in
+    let n : length (c .before .before .before .before .before .before .before .before .before .before .before .before .before .before .args .t2 .entries) ≡ capacity = search (length-mapped, needs) in
     let l = c .before .before .before .before .before .before .loop in
     let h = c .before .before .before .before .before .loop-test .taken in
     let w = c .before .before .write-slot in
-    let below : l .i < 16 = omega (arith, c .before .before .before .before .before .before .before .before .before .before .before .if2 .left) in
+    let below : l .i < capacity = omega (arith, c .before .before .before .before .before .before .before .before .before .before .before .if2 .left) in
     let f = filled-turn (t .count) (t .entries) (l .i) _ (l .bytes) (w .last .0) n below (l .inv .1 .0) (l .inv .1 .1 .0) (w .ensures .0) in
     (omega arith, (f .0, (f .1, clean-turn (t .entries) (l .i) _ (omega arith) (l .inv .1 .1 .1) (w .ensures .1))))
 
@@ -85,12 +86,12 @@ returns-3 : tie.Need-returns-3 Inv-loop μ-loop
 returns-3 c =
     let l = c .before .loop in
     let t = c .before .before .before .before .before .before .before .before .before .args .t2 in
-    let n : length (c .before .before .before .before .before .before .before .before .before .args .t2 .entries) ≡ 16 = search (length-mapped, needs) in
+    let n : length (c .before .before .before .before .before .before .before .before .before .args .t2 .entries) ≡ capacity = search (length-mapped, needs) in
     let small = c .before .before .before .before .before .before .if2 .left in
     let e = l .inv .1 .1 .0 ∙ filled-all t (l .i) n small (l .inv .0) (c .loop-test .left) in
     let i : l .i ≡ t .count = omega (arith, l .inv .0, c .loop-test .left) in (
       write-done t (now (c .before .before .before .before .before .before .before .before .before .args .bytes)) (c .before .before .before .before .before .before .before .if1 .left) (l .bytes) small e,
-      λ q. ap (readT 16) e ∙ quieted-read 16 (take (t .count) (t .entries)) (omega (arith, length-take-le (t .count) (t .entries) (omega arith))) (subst (λ (k : ℕ). AllClean (map quieted (take k (t .entries)))) i (l .inv .1 .1 .1)),
+      λ q. ap (readT capacity) e ∙ quieted-read capacity (take (t .count) (t .entries)) (omega (arith, length-take-le (t .count) (t .entries) (omega arith))) (subst (λ (k : ℕ). AllClean (map quieted (take k (t .entries)))) i (l .inv .1 .1 .1)),
     )
 
 pub write-table-spec : {M : Type 1} → statement M

@@ -8,6 +8,7 @@ use lib.Seq.{sets, length-take-le}
 use denote.Ref.{now}
 use Rattle.types.specs.Number.{zeros}
 use Rattle.frame.proofs.Buffer.{mid-sets}
+use Rattle.reporting.specs.Carried.{slotBytes}
 use Rattle.reporting.proofs.lent.blank_slot.Statement.{statement}
 use Rattle.reporting.proofs.lent.blank_slot.Tie as tie
 
@@ -33,10 +34,10 @@ returns : tie.Need-returns
 returns c =
     let bs = now (c .before .before .before .before .before .args .bytes) in
     let at = c .before .before .before .before .before .args .at in
-    let n : at + 29 - at ≡ 29 = omega arith in
-    let z : c .before .before .clear .last .0 ≡ zeros 29 = c .before .before .clear .ensures ∙ ap zeros (length-take-le (at + 29 - at) (drop at bs) (omega (arith, length-drop at bs, c .before .before .before .before .before .pre)) ∙ n) in
-    let m : length (c .before .before .clear .last .0) ≡ 29 = ap length z ∙ length-replicate {A = ℕ} 29 0 in
-    mid-sets bs (c .before .before .clear .last .0) at (at + 29 - at) (m ∙ sym n) (omega (arith, m, c .before .before .before .before .before .pre)) ∙ ap (sets bs at) z
+    let n : at + slotBytes - at ≡ slotBytes = omega arith in
+    let z : c .before .before .clear .last .0 ≡ zeros slotBytes = c .before .before .clear .ensures ∙ ap zeros (length-take-le (at + slotBytes - at) (drop at bs) (omega (arith, length-drop at bs, c .before .before .before .before .before .pre)) ∙ n) in
+    let m : length (c .before .before .clear .last .0) ≡ slotBytes = ap length z ∙ length-replicate {A = ℕ} slotBytes 0 in
+    mid-sets bs (c .before .before .clear .last .0) at (at + slotBytes - at) (m ∙ sym n) (omega (arith, m, c .before .before .before .before .before .pre)) ∙ ap (sets bs at) z
 
 pub blank-slot-spec : {M : Type 1} → statement M
 blank-slot-spec =

@@ -4,7 +4,8 @@ use Prim.Native.Nat.{_+_, _-_, _≤_}
 use mathlib.Core.Path.{_≡_, ap, sym, subst, _∙_}
 use lib.ListN.{length, take, length-set}
 use denote.Ref.{now}
-use Rattle.reporting.specs.Carried.{tableBytes}
+use Rattle.reporting.specs.Table.{capacity}
+use Rattle.reporting.specs.Carried.{tableBytes, tableLength}
 use Rattle.reporting.specs.Claims.RoundTrip.{AllClean}
 use Rattle.reporting.proofs.CarriageLoops.{empty-length}
 use Rattle.saved.specs.Saved.{plain, savedIn}
@@ -13,7 +14,7 @@ use Rattle.saved.proofs.restore.fill.Statement.{statement}
 use Rattle.saved.proofs.restore.fill.Tie as tie
 
 abbrev Inv-loop : tie.InvT-loop
-Inv-loop table₀ saved n i₀ table i = (i ≤ n) × ((length table ≡ 465) × ((table ≡ tableBytes 16 (take i (savedIn plain saved))) × AllClean (take i (savedIn plain saved))))
+Inv-loop table₀ saved n i₀ table i = (i ≤ n) × ((length table ≡ tableLength) × ((table ≡ tableBytes capacity (take i (savedIn plain saved))) × AllClean (take i (savedIn plain saved))))
 
 abbrev μ-loop : tie.MeasureT-loop
 μ-loop table₀ saved n i₀ table i = n - i
@@ -93,7 +94,7 @@ returns : tie.Need-returns Inv-loop μ-loop
 returns c =
     let bs = now (c .before .before .before .before .before .args .saved) in
     let all = all-filled bs (c .before .loop .i) (c .loop-test .left) in (
-      c .before .loop .inv .1 .1 .0 ∙ ap (tableBytes 16) all,
+      c .before .loop .inv .1 .1 .0 ∙ ap (tableBytes capacity) all,
       subst AllClean all (c .before .loop .inv .1 .1 .1),
     )
 

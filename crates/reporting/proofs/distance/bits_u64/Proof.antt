@@ -1,8 +1,8 @@
 -- A number that is not negative keeps its bits; of a negative one they are turned, and turned again. Assumes nothing.
 use Rattle.types.proofs.Machine.{kept-casts, flipped-casts}
 use Rattle.reporting.proofs.CarriageCode.{bits-low, bits-high}
-use Rattle.reporting.proofs.carried.bits_u64.Statement.{statement}
-use Rattle.reporting.proofs.carried.bits_u64.Tie as tie
+use Rattle.reporting.proofs.distance.bits_u64.Statement.{statement}
+use Rattle.reporting.proofs.distance.bits_u64.Tie as tie
 
 cast-result : tie.Need-cast-result
 cast-result c = kept-casts _ (c .before .fits .x) (c .if1 .taken)
