@@ -1,5 +1,5 @@
 /*
- * An in-room box, small: a store with four attributes, requests on standard input and replies on standard output, and reports when they are
+ * An in-room box, small: a store with five attributes, requests on standard input and replies on standard output, and reports when they are
  * due. It needs no heap: the store, the table and the buffers are arrays of a fixed size.
  *
  * One line of input is one thing that happens:
@@ -29,14 +29,15 @@ enum { CLUSTER = 0xfc21 };
 /* The longest frame, in and out, and the longest line: 'restore' with the longest saved form as digits. */
 enum { FRAME_BYTES = 80, RESTORE_CHARS = sizeof "restore " - 1, LINE_CHARS = RESTORE_CHARS + 2 * HD_SAVED_BYTES };
 
-/* Where in the store the values stand, behind the head and four entries. */
+/* Where in the store the values stand, behind the head and five entries. */
 enum {
-    COUNTER_AT = 4 + 4 * 8,
+    COUNTER_AT = 4 + 5 * 8,
     LEVEL_AT = COUNTER_AT + 4,
     TEMPERATURE_AT = LEVEL_AT + 1,
     NAME_AT = TEMPERATURE_AT + 2,
     NAME_ROOM = 17,
-    STORE_BYTES = NAME_AT + NAME_ROOM
+    METER_AT = NAME_AT + NAME_ROOM,
+    STORE_BYTES = METER_AT + 8
 };
 
 /* An entry's access. */
@@ -48,7 +49,7 @@ enum { READ_ONLY = 0, WRITABLE = 1, REPORTABLE = 2 };
 /* The store: a head, an entry for each attribute in the order of their ids, then their values in the same order without gaps. */
 static uint8_t store[STORE_BYTES] = {
     TWO(CLUSTER),            /* the cluster */
-    TWO(4),                  /* how many attributes */
+    TWO(5),                  /* how many attributes */
 
     TWO(COUNTER),            /* the rollback counter: id */
     0x23,                    /*   type: Uint32 */
@@ -74,25 +75,33 @@ static uint8_t store[STORE_BYTES] = {
     TWO(NAME_AT),            /*   where its value stands */
     TWO(NAME_ROOM),          /*   the value's room: a length and 16 characters */
 
+    TWO(METER),              /* the sub-meter: id */
+    UINT64,                  /*   type */
+    READ_ONLY | REPORTABLE,  /*   access */
+    TWO(METER_AT),           /*   where its value stands */
+    TWO(8),                  /*   the value's room */
+
     0x00, 0x00, 0x00, 0x80,  /* the counter: 2147483648, its top bit set */
     7,                       /* the level */
     0x38, 0xff,              /* the temperature in hundredths: -200 */
-    3, '2', '1', '2',        /* the name: its length, its characters; the rest of its room is zero */
+    3, '2', '1', '2',        /* the name: its length, its characters; the rest of its room is zero, and so is the sub-meter */
 };
 
 /* What the hardware changes by itself: where it stands, how wide it is, and what fits. */
 static const struct wire {
     uint16_t id;
     size_t at, width;
-    int64_t least, most;
+    int64_t least;
+    uint64_t most;
 } wires[] = {
     { COUNTER, COUNTER_AT, 4, 0, UINT32_MAX },
     { LEVEL, LEVEL_AT, 1, 0, UINT8_MAX },
     { TEMPERATURE, TEMPERATURE_AT, 2, INT16_MIN, INT16_MAX },
+    { METER, METER_AT, 8, 0, UINT64_MAX },
 };
 
 /* What can be reported. Only what the head-end configured is: an ask for another attribute is a no. */
-static const uint16_t reportable[] = { COUNTER, LEVEL, TEMPERATURE };
+static const uint16_t reportable[] = { COUNTER, LEVEL, TEMPERATURE, METER };
 
 static uint8_t table[HD_TABLE_BYTES];
 static uint32_t now;
@@ -157,27 +166,28 @@ static void report_if_due(uint16_t id)
         stop("hd_mark", number);
 }
 
-/* A decimal number with nothing behind it. strtoll would pass over blanks and a plus sign in front. */
-static int decimal(const char *text, int64_t least, int64_t most, int64_t *number)
+/* A decimal number with nothing behind it, as its 64 bits; `least` is not above 0. strtoull would pass over blanks and a sign in front. */
+static int decimal(const char *text, int64_t least, uint64_t most, uint64_t *bits)
 {
-    const char *first = text[0] == '-' ? text + 1 : text;
+    const int minus = text[0] == '-';
+    const char *first = text + minus;
     char *end;
-    long long n;
+    unsigned long long size;
 
     if (first[0] < '0' || first[0] > '9')
         return 0;
     errno = 0;
-    n = strtoll(text, &end, 10);
-    if (errno != 0 || *end != '\0' || n < least || n > most)
+    size = strtoull(first, &end, 10);
+    if (errno != 0 || *end != '\0' || size > (minus ? 0 - (uint64_t)least : most))
         return 0;
-    *number = n;
+    *bits = minus ? 0 - (uint64_t)size : size;
     return 1;
 }
 
 /* 'tick N'. The clock ends with its 32 bits: it does not turn back to 0, since no time passes for the table then. */
 static int tick(const char *text)
 {
-    int64_t seconds;
+    uint64_t seconds;
 
     if (!decimal(text, 0, UINT32_MAX - now, &seconds))
         return 0;
@@ -189,7 +199,7 @@ static int tick(const char *text)
 static int set(const char *text)
 {
     uint8_t id[2];
-    int64_t value;
+    uint64_t value;
     size_t i, k;
 
     if (strlen(text) < 6 || text[4] != ' ' || !hex_read(text, 4, id, sizeof id))
@@ -200,7 +210,7 @@ static int set(const char *text)
         if (!decimal(text + 5, wires[i].least, wires[i].most, &value))
             return 0;
         for (k = 0; k < wires[i].width; k++)
-            store[wires[i].at + k] = (uint8_t)((uint64_t)value >> (8 * k));
+            store[wires[i].at + k] = (uint8_t)(value >> (8 * k));
         return 1;
     }
     return 0;

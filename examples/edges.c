@@ -1,6 +1,6 @@
 /*
- * The table's edges, from C: bytes that are no table, a full table, the hole that a clear leaves, values as far apart as they can be, and the
- * saved form in buffers of every length, and cut or changed. A test: it prints each check that fails and how many there were, and ends non-zero when one failed.
+ * The table's edges, from C: bytes that are no table, a full table, the hole that a clear leaves, values as far apart as they can be, with a sign and
+ * without, marks that are none, and the saved form in buffers of every length, cut or changed, and as it was before there were marks. A test: it prints each check that fails and how many there were, and ends non-zero when one failed.
  */
 #include <stdio.h>
 #include <string.h>
@@ -8,14 +8,17 @@
 #include "check.h"
 #include "hingedrift.h"
 
-/* docs/TABLE.md: the count, then slots; the places of a slot's flag, time and value. */
-enum { SLOT = 29, FLAG = 16, TIME = 17, VALUE = 21, ROOM = 16 };
+/* docs/TABLE.md: the count, then slots; the places of a slot's mark, flag, time and value. */
+enum { SLOT = 30, MARK = 16, FLAG = 17, TIME = 18, VALUE = 22, ROOM = 16 };
 
 /* More bytes than a table has, so that a write past the length shows. */
 enum { LENT = HD_TABLE_BYTES + 47 };
 
-/* The same for a saved form; its length with one entry, and where its first body's minimum and maximum stand then. */
-enum { SAVED_LENT = HD_SAVED_BYTES + 47, SAVED_ONE = 1 + 18, MINIMUM = 1 + 6, MAXIMUM = MINIMUM + 2 };
+/* The same for a saved form; its length with one entry, and where its first body's minimum, maximum and mark stand then. */
+enum { SAVED_LENT = HD_SAVED_BYTES + 47, SAVED_ONE = 1 + 19, MINIMUM = 1 + 6, MAXIMUM = MINIMUM + 2, SAVED_MARK = MAXIMUM + 2 + 8 };
+
+/* The bytes of a body with its mark, and without, as it was saved before there were marks. */
+enum { BODY = 13, OLD_BODY = 12 };
 
 static uint8_t *slot(uint8_t *table, unsigned i)
 {
@@ -29,7 +32,13 @@ static unsigned attribute_in(uint8_t *table, unsigned i)
     return s[0] == 0x02 && s[1] == 0x04 ? s[2] + 256u * s[3] : 0xffffffffu;
 }
 
-/* A new table with the attributes 1 to n, each marked at its own number. */
+/* The mark that `fill` gives an attribute: the odd ones compare without a sign. */
+static uint8_t mark_of(unsigned attribute)
+{
+    return attribute % 2 == 1 ? HD_UNSIGNED : HD_SIGNED;
+}
+
+/* A new table with the attributes 1 to n, each reported at its own number. */
 static void fill(uint8_t *table, unsigned n)
 {
     uint8_t accepted;
@@ -38,7 +47,7 @@ static void fill(uint8_t *table, unsigned n)
     check(hd_table_new(table, HD_TABLE_BYTES) == HD_OK, "new table", "its number");
     for (i = 1; i <= n; i++) {
         accepted = 77;
-        check(hd_configure(table, HD_TABLE_BYTES, 0x0402, (uint16_t)i, 10, 300, 50, &accepted) == HD_OK, "configure", "its number");
+        check(hd_configure(table, HD_TABLE_BYTES, 0x0402, (uint16_t)i, 10, 300, 50, mark_of(i), &accepted) == HD_OK, "configure", "its number");
         check(accepted == 1, "configure", "there is room");
         check(hd_mark(table, HD_TABLE_BYTES, 0x0402, (uint16_t)i, i, i) == HD_OK, "mark", "its number");
     }
@@ -73,16 +82,19 @@ static void not_saved(const uint8_t *lent, size_t len, size_t room, uint8_t numb
 /* Every function says 8 to these bytes, writes zeros to its results, and leaves the bytes. */
 static void refused(uint8_t *lent, size_t len, const char *which)
 {
-    uint8_t before[LENT], accepted = 77, found = 77, due = 77;
+    uint8_t before[LENT], accepted = 77, found = 77, due = 77, mark = 77;
     uint16_t minimum = 7777, maximum = 7777;
     uint64_t change = 7777;
 
     memcpy(before, lent, LENT);
-    check(hd_configure(lent, len, 0x0402, 1, 10, 300, 50, &accepted) == HD_NOT_A_TABLE, "configure gives 8", which);
+    check(hd_configure(lent, len, 0x0402, 1, 10, 300, 50, HD_SIGNED, &accepted) == HD_NOT_A_TABLE, "configure gives 8", which);
+    check(accepted == 0, "configure writes 0", which);
+    accepted = 77;
+    check(hd_configure(lent, len, 0x0402, 1, 10, 300, 50, 2, &accepted) == HD_NOT_A_TABLE, "configure gives 8 before 13", which);
     check(accepted == 0, "configure writes 0", which);
     check(hd_clear(lent, len, 0x0402, 1) == HD_NOT_A_TABLE, "clear gives 8", which);
-    check(hd_configuration(lent, len, 0x0402, 1, &found, &minimum, &maximum, &change) == HD_NOT_A_TABLE, "configuration gives 8", which);
-    check(found == 0 && minimum == 0 && maximum == 0 && change == 0, "configuration writes 0", which);
+    check(hd_configuration(lent, len, 0x0402, 1, &found, &minimum, &maximum, &change, &mark) == HD_NOT_A_TABLE, "configuration gives 8", which);
+    check(found == 0 && minimum == 0 && maximum == 0 && change == 0 && mark == 0, "configuration writes 0", which);
     check(hd_ask(lent, len, 0x0402, 1, 1000, 0, &due) == HD_NOT_A_TABLE, "ask gives 8", which);
     check(due == 0, "ask writes 0", which);
     check(hd_mark(lent, len, 0x0402, 1, 1000, 0) == HD_NOT_A_TABLE, "mark gives 8", which);
@@ -98,7 +110,7 @@ static void damaged(size_t at, uint8_t byte, const char *which)
 
     memset(lent, 0xa5, sizeof lent);
     fill(lent, 2);
-    check(hd_configure(lent, HD_TABLE_BYTES, 0x0402, 2, 10, 300, 50, &accepted) == HD_OK && accepted == 1, "configure again", which);
+    check(hd_configure(lent, HD_TABLE_BYTES, 0x0402, 2, 10, 300, 50, HD_SIGNED, &accepted) == HD_OK && accepted == 1, "configure again", which);
     lent[at] = byte;
     refused(lent, HD_TABLE_BYTES, which);
 }
@@ -106,7 +118,7 @@ static void damaged(size_t at, uint8_t byte, const char *which)
 static void no_tables(void)
 {
     static const size_t lengths[] = { 0, HD_TABLE_BYTES - 1, HD_TABLE_BYTES + 1 };
-    static const char *const names[] = { "length 0", "length 464", "length 466" };
+    static const char *const names[] = { "length 0", "length 480", "length 482" };
     uint8_t lent[LENT], before[LENT];
     unsigned i;
 
@@ -122,6 +134,8 @@ static void no_tables(void)
     damaged(0, 17, "count 17");
     damaged(0, 255, "count 255");
     damaged(0, 1, "a slot past the count");
+    damaged(1 + MARK, 2, "mark 2");
+    damaged(1 + SLOT + MARK, 255, "mark 255");
     damaged(1 + FLAG, 2, "flag 2");
     damaged(1 + FLAG, 0, "a time and a value under flag 0");
     damaged(1 + SLOT + TIME, 1, "a time under flag 0");
@@ -150,14 +164,15 @@ static void full(void)
 
     fill(table, ROOM);
     memcpy(before, table, sizeof table);
-    check(hd_configure(table, sizeof table, 0x0402, 17, 10, 300, 50, &accepted) == HD_OK, "the seventeenth", "its number");
+    check(hd_configure(table, sizeof table, 0x0402, 17, 10, 300, 50, HD_SIGNED, &accepted) == HD_OK, "the seventeenth", "its number");
     check(accepted == 0, "the seventeenth", "it is not accepted");
     check(memcmp(before, table, sizeof table) == 0, "the seventeenth", "the bytes stay");
     check(hd_ask(table, sizeof table, 0x0402, 17, 1000, 0, &due) == HD_OK && due == 0, "the seventeenth", "it has no report");
     for (i = 0; i < ROOM; i++)
         check(attribute_in(table, i) == i + 1, "sixteen", "in the order of their configuration");
-    check(hd_configure(table, sizeof table, 0x0402, 16, 1, 2, 3, &accepted) == HD_OK && accepted == 1, "configured again", "accepted");
+    check(hd_configure(table, sizeof table, 0x0402, 16, 1, 2, 3, HD_UNSIGNED, &accepted) == HD_OK && accepted == 1, "configured again", "accepted");
     check(table[0] == ROOM && attribute_in(table, 15) == 16, "configured again", "in its place");
+    check(slot(table, 15)[MARK] == HD_UNSIGNED, "configured again", "with another mark");
     check(slot(table, 15)[FLAG] == 0 && slot(table, 15)[TIME] == 0, "configured again", "the last report is forgotten");
 }
 
@@ -188,15 +203,15 @@ static void far_apart(void)
 {
     static const int64_t ends[2] = { INT64_MAX, INT64_MIN };
     static const int64_t nearer[2] = { INT64_MAX - 1, INT64_MIN + 1 };
-    uint8_t table[HD_TABLE_BYTES], accepted = 77, due = 77;
+    uint8_t table[HD_TABLE_BYTES], accepted = 77, due = 77, mark = 77;
     uint16_t minimum, maximum;
     uint64_t change;
     unsigned i;
 
     fill(table, 0);
-    check(hd_configure(table, sizeof table, 0xffff, 0xffff, 0, 0, UINT64_MAX, &accepted) == HD_OK && accepted == 1, "far apart", "configured");
-    check(hd_configuration(table, sizeof table, 0xffff, 0xffff, &accepted, &minimum, &maximum, &change) == HD_OK, "far apart", "its number");
-    check(accepted == 1 && minimum == 0 && maximum == 0 && change == UINT64_MAX, "far apart", "the configuration");
+    check(hd_configure(table, sizeof table, 0xffff, 0xffff, 0, 0, UINT64_MAX, HD_SIGNED, &accepted) == HD_OK && accepted == 1, "far apart", "configured");
+    check(hd_configuration(table, sizeof table, 0xffff, 0xffff, &accepted, &minimum, &maximum, &change, &mark) == HD_OK, "far apart", "its number");
+    check(accepted == 1 && minimum == 0 && maximum == 0 && change == UINT64_MAX && mark == HD_SIGNED, "far apart", "the configuration");
     for (i = 0; i < 2; i++) {
         check(hd_mark(table, sizeof table, 0xffff, 0xffff, UINT32_MAX, ends[i]) == HD_OK, "far apart", "marked");
         check(hd_ask(table, sizeof table, 0xffff, 0xffff, UINT32_MAX, ends[1 - i], &due) == HD_OK && due == 1, "far apart", "2^64-1 is the change");
@@ -205,11 +220,74 @@ static void far_apart(void)
     }
 }
 
+/* What an ask says to a value, with this mark and change, where `last` was reported: 1, 0, or 77 where something is refused. */
+static unsigned says(uint8_t mark, uint64_t change, int64_t last, int64_t value)
+{
+    uint8_t table[HD_TABLE_BYTES], accepted, due = 77;
+
+    fill(table, 0);
+    if (hd_configure(table, sizeof table, 0x0402, 1, 0, 60, change, mark, &accepted) != HD_OK || accepted != 1)
+        return 77;
+    if (hd_mark(table, sizeof table, 0x0402, 1, 100, last) != HD_OK || hd_ask(table, sizeof table, 0x0402, 1, 100, value, &due) != HD_OK)
+        return 77;
+    return due;
+}
+
+/* From 0 to the top, ffffffffffffffff or -1, is a move of 1 with a sign and of 2^64-1 without; over the middle it is the other way round. */
+static void by_mark(void)
+{
+    static const int64_t same[][2] = { { 0, 1 }, { 0, INT64_MAX }, { 7, 9 }, { -1, INT64_MIN }, { -9, -7 }, { -1, -1 } };
+    unsigned i;
+
+    check(says(HD_SIGNED, 2, 0, -1) == 0, "by mark", "from 0 to the top, signed");
+    check(says(HD_UNSIGNED, 2, 0, -1) == 1, "by mark", "from 0 to the top, unsigned");
+    check(says(HD_SIGNED, 2, -1, 0) == 0, "by mark", "from the top to 0, signed");
+    check(says(HD_UNSIGNED, 2, -1, 0) == 1, "by mark", "from the top to 0, unsigned");
+    check(says(HD_UNSIGNED, UINT64_MAX, 0, -1) == 1, "by mark", "2^64-1 is the change");
+    check(says(HD_UNSIGNED, UINT64_MAX, 0, -2) == 0, "by mark", "2^64-2 is under it");
+    check(says(HD_SIGNED, 2, INT64_MAX, INT64_MIN) == 1, "by mark", "over the middle, signed");
+    check(says(HD_UNSIGNED, 2, INT64_MAX, INT64_MIN) == 0, "by mark", "over the middle, unsigned");
+    check(says(HD_UNSIGNED, 1, INT64_MAX, INT64_MIN) == 1, "by mark", "over the middle, unsigned, by 1");
+    check(says(HD_UNSIGNED, 0, 0, -1) == 1 && says(HD_UNSIGNED, 0, -1, -1) == 0, "by mark", "change 0");
+    for (i = 0; i < sizeof same / sizeof same[0]; i++)
+        check(says(HD_SIGNED, 2, same[i][0], same[i][1]) == says(HD_UNSIGNED, 2, same[i][0], same[i][1]), "by mark", "on one side both say the same");
+}
+
+/* The two marks are kept and told; any other gets 13, also for a key that stands already and where there is no room, and changes nothing. */
+static void marks(void)
+{
+    static const uint8_t none[] = { 2, 3, 127, 128, 255 };
+    static const uint16_t keys[] = { 3, 16, 17 };
+    uint8_t lent[LENT], before[LENT], accepted, found, mark;
+    uint16_t minimum, maximum;
+    uint64_t change;
+    unsigned i, k;
+
+    memset(lent, 0xa5, sizeof lent);
+    fill(lent, ROOM);
+    memcpy(before, lent, sizeof lent);
+    for (i = 1; i <= ROOM; i++) {
+        mark = 77;
+        check(slot(lent, i - 1)[MARK] == mark_of(i), "marks", "in the slot");
+        check(hd_configuration(lent, HD_TABLE_BYTES, 0x0402, (uint16_t)i, &found, &minimum, &maximum, &change, &mark) == HD_OK, "marks", "its number");
+        check(found == 1 && mark == mark_of(i), "marks", "as configured");
+    }
+    check(hd_configuration(lent, HD_TABLE_BYTES, 0x0402, 17, &found, &minimum, &maximum, &change, &mark) == HD_OK, "marks", "its number");
+    check(found == 0 && minimum == 0 && maximum == 0 && change == 0 && mark == 0, "marks", "five zeros where nothing is configured");
+    for (i = 0; i < sizeof none; i++)
+        for (k = 0; k < 3; k++) {
+            accepted = 77;
+            check(hd_configure(lent, HD_TABLE_BYTES, 0x0402, keys[k], 1, 2, 3, none[i], &accepted) == HD_NOT_A_MARK, "marks", "13");
+            check(accepted == 0, "marks", "13 writes 0");
+            check(memcmp(before, lent, sizeof lent) == 0, "marks", "13 leaves the table");
+        }
+}
+
 /* A table of n entries is saved in its form's length and in any longer buffer, zeros behind it, and in no shorter one. */
 static void saved_in(unsigned n, const char *which)
 {
     uint8_t lent[LENT], before[LENT], saved[SAVED_LENT], first[SAVED_LENT];
-    const size_t form = 1 + 18 * (size_t)n;
+    const size_t form = 1 + 19 * (size_t)n;
     size_t room, used;
 
     memset(lent, 0xa5, sizeof lent);
@@ -236,7 +314,7 @@ static void not_written(uint16_t minimum, uint16_t maximum, const char *which)
 
     memset(lent, 0xa5, sizeof lent);
     fill(lent, 2);
-    check(hd_configure(lent, HD_TABLE_BYTES, 0x0402, 3, minimum, maximum, 50, &accepted) == HD_OK && accepted == 1, "configure", which);
+    check(hd_configure(lent, HD_TABLE_BYTES, 0x0402, 3, minimum, maximum, 50, HD_SIGNED, &accepted) == HD_OK && accepted == 1, "configure", which);
     not_saved(lent, HD_TABLE_BYTES, HD_SAVED_BYTES, HD_NOT_A_SAVED_FORM, which);
     not_saved(lent, HD_TABLE_BYTES, 0, HD_NOT_A_SAVED_FORM, which);
 }
@@ -270,7 +348,10 @@ static void not_restored(const uint8_t *saved, size_t len, const char *which)
     check(zeros_then_before(lent, HD_TABLE_BYTES, sizeof lent), "restore leaves an empty table, and only there", which);
 }
 
-/* A form of n entries is restored at its own length, whatever the table's bytes were, and at no other; a restored entry has no last report. */
+/*
+ * A form of n entries is restored at its own length, whatever the table's bytes were, and at no other; a restored entry has no last report. But of one
+ * entry what is left without the last byte is a form of before there were marks: its body stands where it stood then.
+ */
 static void restored_from(unsigned n, const char *which)
 {
     uint8_t table[HD_TABLE_BYTES], expected[LENT], lent[LENT], saved[SAVED_LENT];
@@ -281,7 +362,7 @@ static void restored_from(unsigned n, const char *which)
     memset(saved, 0, sizeof saved);
     check(hd_save(table, sizeof table, saved, HD_SAVED_BYTES, &used) == HD_OK, "save", which);
     for (len = 0; len <= sizeof saved; len++)
-        if (len != used)
+        if (len != used && !(n == 1 && len + 1 == used))
             not_restored(saved, len, which);
     memset(expected, 0xa5, sizeof expected);
     memcpy(expected, table, sizeof table);
@@ -293,6 +374,52 @@ static void restored_from(unsigned n, const char *which)
     memcpy(lent, table, sizeof table);
     check(hd_restore(lent, HD_TABLE_BYTES, saved, used) == HD_OK, "restore over the table", which);
     check(memcmp(expected, lent, sizeof lent) == 0, "the last reports are forgotten", which);
+}
+
+/* The form of n entries of `fill` as it was before there were marks. Gives its length. */
+static size_t old_form(unsigned n, uint8_t saved[SAVED_LENT])
+{
+    uint8_t table[HD_TABLE_BYTES], form[SAVED_LENT];
+    const size_t bodies = 1 + 6 * (size_t)n;
+    size_t used, i, at;
+
+    fill(table, n);
+    check(hd_save(table, sizeof table, form, HD_SAVED_BYTES, &used) == HD_OK, "save", "for an old form");
+    memset(saved, 0, SAVED_LENT);
+    memcpy(saved, form, bodies);
+    for (i = 0; i < n; i++) {
+        at = bodies + OLD_BODY * i;
+        saved[1 + 6 * i + 4] = (uint8_t)at;
+        saved[1 + 6 * i + 5] = (uint8_t)(at >> 8);
+        memcpy(saved + at, form + bodies + BODY * i, OLD_BODY);
+    }
+    return bodies + OLD_BODY * n;
+}
+
+/* It is restored with every mark 0, and saved again as the new form; at another length it is none, but that one entry and a mark are a new form. */
+static void restored_from_old(unsigned n, const char *which)
+{
+    uint8_t table[HD_TABLE_BYTES], expected[LENT], lent[LENT], saved[SAVED_LENT], again[SAVED_LENT], once[SAVED_LENT];
+    const size_t form = old_form(n, saved);
+    size_t used = 7777, len;
+    unsigned i;
+
+    for (len = 0; len <= sizeof saved; len++)
+        if (len != form && !(n == 1 && len == form + 1))
+            not_restored(saved, len, which);
+    fill(table, n);
+    memset(expected, 0xa5, sizeof expected);
+    memcpy(expected, table, sizeof table);
+    for (i = 0; i < n; i++)
+        memset(slot(expected, i) + MARK, 0, SLOT - MARK);
+    memset(lent, 0xa5, sizeof lent);
+    check(hd_restore(lent, HD_TABLE_BYTES, saved, form) == HD_OK, "restore without marks", which);
+    check(memcmp(expected, lent, sizeof lent) == 0, "every mark is 0", which);
+    check(hd_save(lent, HD_TABLE_BYTES, again, HD_SAVED_BYTES, &used) == HD_OK && used == form + n, "saved again with marks", which);
+    for (i = 0; i < n; i++)
+        check(again[1 + 6 * (size_t)n + BODY * i + OLD_BODY] == HD_SIGNED, "saved again with mark 0", which);
+    check(hd_restore(lent, HD_TABLE_BYTES, again, used) == HD_OK && memcmp(expected, lent, sizeof lent) == 0, "and restored again", which);
+    check(hd_save(lent, HD_TABLE_BYTES, once, HD_SAVED_BYTES, &used) == HD_OK && memcmp(once, again, HD_SAVED_BYTES) == 0, "the same bytes", which);
 }
 
 /* A form of one entry, 10 to 300 seconds. */
@@ -345,6 +472,11 @@ static void restores(void)
     changed(5, 6, "offset one less");
     changed(5, 8, "offset one more");
     changed(6, 1, "offset 256 more");
+    changed(SAVED_MARK, 2, "mark 2");
+    changed(SAVED_MARK, 255, "mark 255");
+    restored_from_old(1, "one entry without marks");
+    restored_from_old(2, "two entries without marks");
+    restored_from_old(ROOM, "sixteen entries without marks");
     with_intervals(0, 0xffff, "maximum ffff");
     with_intervals(0xffff, 0, "maximum 0 with minimum ffff");
     with_intervals(11, 10, "maximum below minimum");
@@ -372,6 +504,8 @@ int main(void)
     full();
     hole();
     far_apart();
+    by_mark();
+    marks();
     saves();
     restores();
     printf("edges: %u checks, %u failed\n", checks, failures);

@@ -95,6 +95,34 @@ static void reporting(void)
     }
 }
 
+/* A request sets the mark of the attribute's type, and does not tell it: a counter of 64 bits, configured with change 2, goes from 0 to its top. */
+static void by_type(void)
+{
+    static const struct { const char *store, *request; uint8_t mark, due; } types[] = {
+        { "21fc01000a0027020c0008000000000000000000", "002d06000a002700003c000200000000000000", HD_UNSIGNED, 1 },
+        { "21fc01000a002f020c0008000000000000000000", "002d06000a002f00003c000200000000000000", HD_SIGNED, 0 },
+    };
+    uint8_t store[MOST], table[HD_TABLE_BYTES], frame[MOST], reply[MOST], expected[MOST], found, mark, due;
+    uint16_t minimum, maximum;
+    uint64_t change;
+    size_t store_len, n, used, i;
+
+    for (i = 0; i < 2; i++) {
+        store_len = bytes(types[i].store, store);
+        n = bytes(types[i].request, frame);
+        check(hd_table_new(table, sizeof table) == HD_OK, "by type", "a table");
+        check(hd_handle_request(store, store_len, table, sizeof table, CLUSTER, 1, frame, n, reply, MOST, &used) == HD_OK, "by type", "the number");
+        check(used == bytes("182d0700", expected) && memcmp(reply, expected, used) == 0, "by type", "the reply");
+        check(hd_configuration(table, sizeof table, CLUSTER, 10, &found, &minimum, &maximum, &change, &mark) == HD_OK && found == 1, "by type", "configured");
+        check(minimum == 0 && maximum == 60 && change == 2 && mark == types[i].mark, "by type", "the mark");
+        check(hd_mark(table, sizeof table, CLUSTER, 10, 100, 0) == HD_OK, "by type", "a report of 0");
+        check(hd_ask(table, sizeof table, CLUSTER, 10, 100, -1, &due) == HD_OK && due == types[i].due, "by type", "whether all ones are due");
+        n = bytes("002e08000a00", frame);
+        check(hd_handle_request(store, store_len, table, sizeof table, CLUSTER, 1, frame, n, reply, MOST, &used) == HD_OK, "by type", "read back");
+        check(used == 3 + 9 + 8 && reply[used - 8] == 2 && reply[used - 1] == 0, "by type", "without the mark");
+    }
+}
+
 /* Frame 12, and numbers that there are none of. */
 static void numbers(void)
 {
@@ -184,6 +212,7 @@ int main(void)
 {
     commands();
     reporting();
+    by_type();
     numbers();
     damages();
     others();

@@ -11,9 +11,9 @@
 #include "hingedrift.h"
 
 /* The box's attributes, by the numbers that both sides know. */
-enum { COUNTER = 0x0000, LEVEL = 0x0001, TEMPERATURE = 0x0005, NAME = 0x0007 };
+enum { COUNTER = 0x0000, LEVEL = 0x0001, TEMPERATURE = 0x0005, NAME = 0x0007, METER = 0x000a };
 
-enum { CHARACTER_STRING = 0x42, INVALID_STRING = 0xff };
+enum { UINT64 = 0x27, CHARACTER_STRING = 0x42, INVALID_STRING = 0xff };
 
 static void print_attribute(uint16_t id)
 {
@@ -22,6 +22,7 @@ static void print_attribute(uint16_t id)
     case LEVEL:       printf("level"); break;
     case TEMPERATURE: printf("temperature"); break;
     case NAME:        printf("name"); break;
+    case METER:       printf("sub-meter"); break;
     default:          printf("%04x", id); break;
     }
 }
@@ -74,13 +75,18 @@ static void print_hundredths(int64_t number)
     printf("%s%" PRIu64 ".%02" PRIu64, number < 0 ? "-" : "", size / 100, size % 100);
 }
 
-/* An attribute and its value. The sign is the reader's affair: a counter with its top bit set is no negative number here. */
+/*
+ * An attribute and its value. The sign is the reader's affair: a counter with its top bit set is no negative number here. But for eight bytes: these
+ * come as they are, and for a Uint64 they are taken without a sign here.
+ */
 static void print_value(uint16_t id, uint8_t type, const uint8_t *value, size_t len, uint8_t numbered, int64_t number)
 {
     print_attribute(id);
     putchar(' ');
     if (numbered && id == TEMPERATURE)
         print_hundredths(number);
+    else if (numbered && type == UINT64)
+        printf("%" PRIu64, (uint64_t)number);
     else if (numbered)
         printf("%" PRId64, number);
     else if (type == CHARACTER_STRING && len > 0)

@@ -36,7 +36,7 @@ static void ask(uint32_t now, int64_t value, int expected)
 
 int main(void)
 {
-    uint8_t saved[HD_SAVED_BYTES], accepted, found;
+    uint8_t saved[HD_SAVED_BYTES], accepted, found, mark;
     uint16_t minimum, maximum;
     uint64_t change;
     size_t used;
@@ -44,14 +44,14 @@ int main(void)
     expect(hd_table_new(table, sizeof table) == HD_OK, "no new table");
     printf("new table: %u of 16 configured\n", table[0]);
 
-    /* At least 10 seconds apart, at most 60, and in between when the value has moved by 50 or more. */
-    expect(hd_configure(table, sizeof table, CLUSTER, ATTRIBUTE, 10, 60, 50, &accepted) == HD_OK, "configure was refused");
+    /* At least 10 seconds apart, at most 60, and in between when the value has moved by 50 or more; the value is an Int, and so has a sign. */
+    expect(hd_configure(table, sizeof table, CLUSTER, ATTRIBUTE, 10, 60, 50, HD_SIGNED, &accepted) == HD_OK, "configure was refused");
     expect(accepted == 1, "there was no room");
     printf("configured: %u of 16\n", table[0]);
 
-    expect(hd_configuration(table, sizeof table, CLUSTER, ATTRIBUTE, &found, &minimum, &maximum, &change) == HD_OK, "configuration was refused");
-    expect(found == 1 && minimum == 10 && maximum == 60 && change == 50, "another configuration");
-    printf("configuration: %u to %u seconds, change %" PRIu64 "\n", minimum, maximum, change);
+    expect(hd_configuration(table, sizeof table, CLUSTER, ATTRIBUTE, &found, &minimum, &maximum, &change, &mark) == HD_OK, "configuration was refused");
+    expect(found == 1 && minimum == 10 && maximum == 60 && change == 50 && mark == HD_SIGNED, "another configuration");
+    printf("configuration: %u to %u seconds, change %" PRIu64 ", %s\n", minimum, maximum, change, mark == HD_SIGNED ? "signed" : "unsigned");
 
     /* The first ask is a yes. A report that was sent is marked, with its time and value. */
     ask(100, -200, 1);

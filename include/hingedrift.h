@@ -27,10 +27,10 @@ extern "C" {
 #endif
 
 /* The bytes of a table. It has room for 16 attributes. */
-#define HD_TABLE_BYTES 465
+#define HD_TABLE_BYTES 481
 
-/* The bytes of the longest saved form of a table: one byte, and 18 for each of 16 attributes. */
-#define HD_SAVED_BYTES 289
+/* The bytes of the longest saved form of a table: one byte, and 19 for each of 16 attributes. */
+#define HD_SAVED_BYTES 305
 
 /* What a call returns: that it was done, */
 #define HD_OK 0
@@ -58,8 +58,15 @@ extern "C" {
 #define HD_EMPTY_REPORT 11
 /* An attribute to report is missing or not reportable. */
 #define HD_NOT_REPORTABLE 12
-/* The bytes are no saved form of a table, or the table is one that is not saved. */
+/* The bytes are no saved form of a table, or the table is one that is not saved; */
 #define HD_NOT_A_SAVED_FORM 13
+/* or a mark is neither HD_SIGNED nor HD_UNSIGNED. */
+#define HD_NOT_A_MARK 13
+
+/* The mark of an attribute's configuration: how its numbers compare. Int types with their sign, */
+#define HD_SIGNED 0
+/* all others by their 64 bits, without one. */
+#define HD_UNSIGNED 1
 
 /* The commands of requests, and of replies and reports: the last byte of a frame's header. */
 #define HD_READ 0x00
@@ -96,16 +103,18 @@ uint8_t hd_table_new(uint8_t *table, size_t table_len);
 /*
  * Configures an attribute, in place of what was configured for it before, and forgets its last report. A report is due when
  * `minimum` seconds have passed since the last one and the value has moved, by `change` or more; or when `maximum` seconds have
- * passed too, whatever the value (0: never for the time alone; ffff: no reports at all).
- * Writes 1 to *accepted, or 0 where 16 other attributes are configured: the table is then as it was, and HD_OK is returned.
+ * passed too, whatever the value (0: never for the time alone; ffff: no reports at all). How far a value has moved is measured as `mark` says:
+ * HD_SIGNED, as for the Int types, or HD_UNSIGNED, as for all others, by the 64 bits of the value; any other mark gets HD_NOT_A_MARK. A request
+ * that configures sets the mark of its type. Writes 1 to *accepted, or 0 where 16 other attributes are configured: the table is then as it was,
+ * and HD_OK is returned.
  */
-uint8_t hd_configure(uint8_t *table, size_t table_len, uint16_t cluster, uint16_t attribute, uint16_t minimum, uint16_t maximum, uint64_t change, uint8_t *accepted);
+uint8_t hd_configure(uint8_t *table, size_t table_len, uint16_t cluster, uint16_t attribute, uint16_t minimum, uint16_t maximum, uint64_t change, uint8_t mark, uint8_t *accepted);
 
 /* Takes the attribute's configuration and last report out of the table. Where there is none, the table is as it was. */
 uint8_t hd_clear(uint8_t *table, size_t table_len, uint16_t cluster, uint16_t attribute);
 
-/* Writes 1 to *found, and what hd_configure was given for the attribute; or four zeros where nothing is configured. */
-uint8_t hd_configuration(const uint8_t *table, size_t table_len, uint16_t cluster, uint16_t attribute, uint8_t *found, uint16_t *minimum, uint16_t *maximum, uint64_t *change);
+/* Writes 1 to *found, and what hd_configure was given for the attribute; or five zeros where nothing is configured. */
+uint8_t hd_configuration(const uint8_t *table, size_t table_len, uint16_t cluster, uint16_t attribute, uint8_t *found, uint16_t *minimum, uint16_t *maximum, uint64_t *change, uint8_t *mark);
 
 /*
  * Writes to *due whether the attribute should be reported at the time `now`, in seconds, if its value is `value`: 1 or 0.
@@ -129,8 +138,9 @@ uint8_t hd_save(const uint8_t *table, size_t table_len, uint8_t *saved, size_t s
 
 /*
  * Makes a table of a saved form, whatever the table's bytes were: its attributes are configured, and none is reported yet. `saved_len` is the
- * form's own length, as hd_save gave it. Bytes that are no saved form get HD_NOT_A_SAVED_FORM and make an empty table. HD_NOT_A_TABLE where
- * table_len is not HD_TABLE_BYTES; then the bytes are as they were.
+ * form's own length, as hd_save gave it; a form from before there were marks, one byte and 18 for each attribute, is read as HD_SIGNED. Bytes that
+ * are no saved form get HD_NOT_A_SAVED_FORM and make an empty table. HD_NOT_A_TABLE where table_len is not HD_TABLE_BYTES; then the bytes are as
+ * they were.
  */
 uint8_t hd_restore(uint8_t *table, size_t table_len, const uint8_t *saved, size_t saved_len);
 

@@ -4,12 +4,12 @@
  *
  * Every number on the pipe has 8 bytes, the lowest first, as it lies in the memory of an x86-64.
  *
- * A call: ten numbers (its function, as in `answer` below; 5 arguments; the lengths of 4 buffers), then the bytes of the buffers, one behind
+ * A call: eleven numbers (its function, as in `answer` below; 6 arguments; the lengths of 4 buffers), then the bytes of the buffers, one behind
  * the other. What a function does not have is 0.
  *
  * Function 0 is no call: it ends a batch. The answers are kept until then, so that the other end can write a whole batch before it reads.
  *
- * An answer: five numbers (what the function returned; 4 results), then each buffer as it is afterwards, between two walls of 16 bytes. The
+ * An answer: six numbers (what the function returned; 5 results), then each buffer as it is afterwards, between two walls of 16 bytes. The
  * wall behind has up to 7 more, so that all buffers start at multiples of 8, as lists of numbers must. Results and walls were all a5.
  */
 #include <stdio.h>
@@ -18,7 +18,7 @@
 
 #include "driver.h"
 
-enum { ARGUMENTS = 5, RESULTS = 4, BUFFERS = 4 };
+enum { ARGUMENTS = 6, RESULTS = 5, BUFFERS = 4 };
 
 enum { WALL = 16 };
 
@@ -78,11 +78,11 @@ static uint8_t answer(uint64_t function, const uint64_t *a, uint8_t *const *b, c
     case 1:
         return hd_table_new(b[0], len[0]);
     case 2:
-        return hd_configure(b[0], len[0], cluster, attribute, (uint16_t)a[2], (uint16_t)a[3], a[4], &r[0].byte);
+        return hd_configure(b[0], len[0], cluster, attribute, (uint16_t)a[2], (uint16_t)a[3], a[4], (uint8_t)a[5], &r[0].byte);
     case 3:
         return hd_clear(b[0], len[0], cluster, attribute);
     case 4:
-        return hd_configuration(b[0], len[0], cluster, attribute, &r[0].byte, &r[1].word, &r[2].word, &r[3].change);
+        return hd_configuration(b[0], len[0], cluster, attribute, &r[0].byte, &r[1].word, &r[2].word, &r[3].change, &r[4].byte);
     case 5:
         return hd_ask(b[0], len[0], cluster, attribute, (uint32_t)a[2], (int64_t)a[3], &r[0].byte);
     case 6:

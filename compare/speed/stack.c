@@ -39,9 +39,9 @@ static volatile uint8_t said;
 /* Every function and its arguments. */
 #define FUNCTIONS(F) \
     F(hd_table_new, table, sizeof table) \
-    F(hd_configure, KEY, 10, 60, 50, &b1) \
+    F(hd_configure, KEY, 10, 60, 50, HD_SIGNED, &b1) \
     F(hd_clear, KEY) \
-    F(hd_configuration, KEY, &b1, &w1, &w2, &change) \
+    F(hd_configuration, KEY, &b1, &w1, &w2, &change, &b2) \
     F(hd_ask, KEY, call->now, call->value, &b1) \
     F(hd_mark, KEY, call->now, call->value) \
     F(hd_save, table, sizeof table, saved, saved_len, &used) \
@@ -162,7 +162,23 @@ static void report(void)
         read_back(reply, used);
 }
 
-/* A save and a restore, each first refused: there is no buffer, and the form's last byte is missing. */
+/* Makes the form what it was before there were marks: a body has its first 12 bytes, and stands so much earlier. */
+static void without_marks(void)
+{
+    const size_t n = saved[0], rows = 1 + 6 * n;
+    size_t i;
+
+    for (i = 0; i < n; i++) {
+        const size_t at = rows + 12 * i;
+
+        memmove(saved + at, saved + rows + 13 * i, 12);
+        saved[1 + 6 * i + 4] = (uint8_t)at;
+        saved[1 + 6 * i + 5] = (uint8_t)(at >> 8);
+    }
+    saved_len = rows + 12 * n;
+}
+
+/* A save and a restore, each first refused: there is no buffer, and the form's first byte alone is lent. Then the same form without marks. */
 static void save_and_restore(void)
 {
     saved_len = 0;
@@ -171,10 +187,16 @@ static void save_and_restore(void)
     measure(call_hd_save);
     if (said != HD_OK)
         return;
-    saved_len = used - 1;
+    saved_len = 1;
     measure(call_hd_restore);
     saved_len = used;
     measure(call_hd_restore);
+    without_marks();
+    measure(call_hd_restore);
+    if (said != HD_OK) {
+        fprintf(stderr, "stack: a form without marks was not read\n");
+        exit(1);
+    }
 }
 
 /* The same with a table of 16 entries. */
@@ -186,7 +208,7 @@ static void full(void)
     strcpy(what, "of 16 entries");
     hd_table_new(table, sizeof table);
     for (i = 0; i < 16; i++) {
-        hd_configure(table, sizeof table, 0x0402, i, 10, 300, 50, &b1);
+        hd_configure(table, sizeof table, 0x0402, i, 10, 300, 50, HD_SIGNED, &b1);
         hd_mark(table, sizeof table, 0x0402, i, 100000, -5);
     }
     save_and_restore();

@@ -1,6 +1,7 @@
 //! Copies of a table's bytes with one byte changed, or of another length:
 //! every function refuses them with 8 and leaves them alone, or, where they
-//! are a table all the same, does with it what the Rust does.
+//! are a table all the same, does with it what it does with any. 8 comes before
+//! the 13 of a mark that is none.
 
 use cases::Random;
 use cases::histories::kinds::{self, Kinds};
@@ -8,6 +9,7 @@ use cases::histories::{Answer, History};
 use ours::Held;
 use reading::table::{SIZE, SLOT, entries};
 
+use crate::MARKS;
 use crate::call::{leaving, on};
 use crate::table::Table;
 
@@ -38,15 +40,17 @@ pub fn calls(table: &[u8], random: &mut Random, kinds: &mut Kinds) -> Result<Vec
     Ok(held)
 }
 
-/// The count, a slot's flag, time or value, the slot past the count, or any.
+/// The count, a slot's mark, flag, time or value, the slot past the count, or
+/// any.
 fn place(table: &[u8], random: &mut Random) -> usize {
     let count = usize::from(table[0]);
     let slot = 1 + SLOT * random.below(count + 1).min(15);
-    match random.below(8) {
+    match random.below(9) {
         0 => 0,
         1 => slot + 16,
-        2 => slot + 17 + random.below(12),
-        3 if count < 16 => 1 + SLOT * count + random.below(SLOT),
+        2 => slot + 17,
+        3 => slot + 18 + random.below(12),
+        4 if count < 16 => 1 + SLOT * count + random.below(SLOT),
         _ => random.below(SIZE),
     }
 }
@@ -56,7 +60,7 @@ fn every_call(bytes: &[u8], random: &mut Random, kinds: &mut Kinds) -> Result<Ve
     kinds.count(kinds::of_damaged(&read));
 
     let held = read.clone().unwrap_or_default();
-    let calls = History::new(random).every_call(random, &held);
+    let calls = History::marked(random, &MARKS).every_call(random, &held);
     let each = calls.iter().map(|call| match &read {
         Ok(held) => Ok(Table::of(bytes, held.clone()).give(call)?.held),
         Err(_) => Ok(Held {

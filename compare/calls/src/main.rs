@@ -1,6 +1,8 @@
 //! Gives the held Rust's reporting table and ours the same calls, and compares
-//! after every one the answer and the whole table. Two runs make the same
-//! calls.
+//! after every one the answer and the whole table. The Rust compares all numbers
+//! with their sign: where a key is marked to compare without one, ours is held to
+//! the reading of the documents, and what the Rust says otherwise is a listed
+//! difference, which must come. Two runs make the same calls.
 //!
 //! It prints how often each kind of call came, and fails at the first
 //! disagreement, with the shortest history that it finds to lead there, and
@@ -15,7 +17,8 @@ use std::process::ExitCode;
 use std::time::Instant;
 
 use cases::histories::kinds::{self, Kinds};
-use cases::histories::{Call, History};
+use cases::histories::middle::{NAME, SMALLEST, Smallest};
+use cases::histories::{Answer, Call, History};
 use cases::{Random, shorter};
 use ours::Driver;
 use reading::table::SIZE;
@@ -23,6 +26,9 @@ use table::{Table, list};
 
 /// A run makes at least this many, besides those on damaged tables.
 const CALLS: usize = 1_000_000;
+
+/// Of the marks that a configuration is given, two are none.
+pub const MARKS: [u8; 8] = [0, 0, 0, 1, 1, 1, 2, 255];
 
 /// One table in so many is kept, to try damaged copies of it.
 const KEPT: usize = 200;
@@ -45,6 +51,9 @@ fn run() -> Result<(), String> {
     let (mut calls, mut histories) = (0, 0);
     let mut kept = Vec::new();
     driver.agree(&[damaged::table_new(&[0x5a; SIZE])])?;
+    for smallest in &SMALLEST {
+        listed(driver, smallest)?;
+    }
     while calls < CALLS {
         calls += history(driver, random, kinds, &mut kept)?;
         histories += 1;
@@ -56,12 +65,35 @@ fn run() -> Result<(), String> {
     println!("calls: {calls} in {histories} histories agree, {seconds:.1} s");
     print!("{}", kinds.list(&kinds::ALL));
     println!(
+        "{:9}  smallest histories of the listed difference: {NAME}",
+        SMALLEST.len()
+    );
+    println!(
         "{:9}  calls of ours, with those on damaged tables",
         driver.made()
     );
     let missing = kinds.missing(&kinds::ALL);
     if !missing.is_empty() {
         return Err(format!("never reached: {}", missing.join("; ")));
+    }
+    Ok(())
+}
+
+/// One of the smallest histories: to its ask ours says what is listed, and so does
+/// the Rust.
+fn listed(driver: &mut Driver, smallest: &Smallest) -> Result<(), String> {
+    let [configure, report, ask] = smallest.calls;
+    let mut table = Table::new();
+    let mut held = Vec::new();
+    for call in [configure, report] {
+        held.push(table.give(&call)?.held);
+    }
+    let given = table.give(&ask)?;
+    let said = (given.answer, given.rust);
+    held.push(given.held);
+    driver.agree(&held)?;
+    if said != (Answer::yes(smallest.due), Some(Answer::yes(smallest.rust))) {
+        return Err(format!("{NAME}: not as listed: {ask}"));
     }
     Ok(())
 }
@@ -75,7 +107,7 @@ fn history(
 ) -> Result<usize, String> {
     let most = random.of(&[10, 100, 1000, 2000, 2000]);
     let length = 1 + random.below(most);
-    let mut history = History::new(random);
+    let mut history = History::marked(random, &MARKS);
     let mut calls = Vec::with_capacity(length);
     let mut held = Vec::with_capacity(length);
     let mut table = Table::new();
@@ -86,6 +118,11 @@ fn history(
             return Err(disagreement(driver, &calls));
         };
         kinds.count(kinds::of(&given.before, &call, &given.answer));
+        if let Some(rust) = &given.rust
+            && let Some(kind) = kinds::of_marked(&given.before, &call, &given.answer, rust)
+        {
+            kinds.count(kind);
+        }
         held.push(given.held);
         if random.one_in(KEPT) {
             kept.push(table.bytes().to_vec());

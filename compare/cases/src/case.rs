@@ -4,7 +4,7 @@ use std::fmt;
 
 use reading::commands::serve_lent;
 use reading::store::cluster_of;
-use reading::table::{entries, to_bytes};
+use reading::table::{Entry, SIGNED, entries, to_bytes};
 
 use crate::hex::hex;
 
@@ -105,6 +105,15 @@ pub fn shown(table: &[u8]) -> String {
         }
         Err(broken) => format!("{}  # {broken:?}", or_none(table)),
     }
+}
+
+/// A table's entries as the Rust has them, which knows no marks.
+pub fn unmarked(entries: &[Entry]) -> Vec<Entry> {
+    let mut unmarked = entries.to_vec();
+    for entry in &mut unmarked {
+        entry.config.mark = SIGNED;
+    }
+    unmarked
 }
 
 fn or_none(bytes: &[u8]) -> String {

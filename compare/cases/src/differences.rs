@@ -5,7 +5,7 @@ use reading::store::cluster_of;
 use reading::table::{Entry, entries};
 use reading::{FrameType, Header};
 
-use crate::case::Case;
+use crate::case::{Case, unmarked};
 use crate::conditions::Condition;
 use crate::divided::divided;
 use crate::records::body_of;
@@ -61,6 +61,7 @@ impl Difference {
 pub struct Said {
     pub reply: Option<Vec<u8>>,
     pub store: Vec<u8>,
+    /// Without marks.
     pub table: Vec<Entry>,
 }
 
@@ -70,7 +71,7 @@ impl Said {
         Self {
             reply: None,
             store: case.store.clone(),
-            table: entries(&case.table).unwrap_or_default(),
+            table: unmarked(&entries(&case.table).unwrap_or_default()),
         }
     }
 

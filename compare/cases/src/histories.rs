@@ -2,8 +2,9 @@
 
 mod call;
 pub mod kinds;
+pub mod middle;
 
-use reading::table::{Config, Entry, Key};
+use reading::table::{Config, Entry, Key, SIGNED};
 
 use crate::random::Random;
 
@@ -64,19 +65,31 @@ const MIXES: [[usize; 5]; 5] = [
 /// One history's keys and calls, and a clock and a value that walk.
 pub struct History {
     keys: Vec<Key>,
+    /// Those that a configuration is given.
+    marks: &'static [u8],
     mix: [usize; 5],
     now: u32,
     value: i64,
 }
 
 impl History {
+    /// All that it configures compares with the sign, as the Rust does.
     pub fn new(random: &mut Random) -> Self {
         let many = random.of(&[1, 3, 8, 16, 17, 20, 40]);
         Self {
             keys: (0..many).map(|_| key(random)).collect(),
+            marks: &[SIGNED],
             mix: random.of(&MIXES),
             now: random.of(&TIMES),
             value: random.of(&VALUES),
+        }
+    }
+
+    /// With these marks.
+    pub fn marked(random: &mut Random, marks: &'static [u8]) -> Self {
+        Self {
+            marks,
+            ..Self::new(random)
         }
     }
 
@@ -100,7 +113,7 @@ impl History {
     fn call_of(&mut self, kind: usize, random: &mut Random, entries: &[Entry]) -> Call {
         let key = self.key(random, entries);
         match kind {
-            0 => Call::Configure(key, config(random)),
+            0 => Call::Configure(key, config(random, self.marks)),
             1 => Call::Clear(key),
             2 => Call::Configuration(key),
             3 => {
@@ -183,7 +196,7 @@ fn key(random: &mut Random) -> Key {
     }
 }
 
-fn config(random: &mut Random) -> Config {
+fn config(random: &mut Random, marks: &[u8]) -> Config {
     // half of them leave most to the value
     let (minimum, maximum) = if random.one_in(2) {
         (random.of(&[0, 0, 1, 10]), random.of(&[0, 60, 65534]))
@@ -197,6 +210,11 @@ fn config(random: &mut Random) -> Config {
             0 => random.number(),
             1 => random.byte().into(),
             _ => random.of(&CHANGES),
+        },
+        // one alone takes no number of the row
+        mark: match marks {
+            [mark] => *mark,
+            _ => random.of(marks),
         },
     }
 }

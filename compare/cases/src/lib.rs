@@ -16,7 +16,7 @@ mod shorter;
 pub mod stores;
 pub mod values;
 
-pub use case::{Case, Seen, shown};
+pub use case::{Case, Seen, shown, unmarked};
 pub use conditions::Condition;
 pub use differences::{Difference, Said};
 pub use hex::{hex, unhex};

@@ -1,6 +1,6 @@
 //! How the Rust stands to what document 01 says.
 
-use cases::{Case, Difference, Seen};
+use cases::{Case, Difference, Seen, unmarked};
 use oracle::{Oracle, Outcome, Request};
 use reading::store::is_store;
 use reading::table::entries;
@@ -62,12 +62,12 @@ pub fn asked(oracle: &mut Oracle, case: &Case) -> Result<Option<Outcome>, String
 }
 
 /// Whether the Rust, which says `None` to every refusal, says and leaves the
-/// same.
+/// same, but for marks, which it does not have.
 fn agrees(seen: &Seen, outcome: &Outcome) -> bool {
     let reply = (seen.number == 0).then(|| seen.reply());
     reply == outcome.reply.as_deref()
         && seen.store == outcome.store
-        && entries(&seen.table).as_deref() == Ok(&outcome.table)
+        && entries(&seen.table).is_ok_and(|left| unmarked(&left) == outcome.table)
 }
 
 fn shown(outcome: &Outcome) -> String {

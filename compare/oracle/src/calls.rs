@@ -1,7 +1,7 @@
 //! Calls on the held `ReportingTable<16>`.
 
 use cases::histories::{Answer, Call};
-use reading::table::{Config, Entry, Key};
+use reading::table::{Config, Entry, Key, SIGNED};
 use zigbee_cluster_library::reporting::{AttributeReporting, ReportingConfig, ReportingTable};
 use zigbee_cluster_library::types::ids::{AttributeId, ClusterId};
 
@@ -34,6 +34,7 @@ impl Table {
         self.0.len()
     }
 
+    /// What it says, whatever the mark of a configuration is.
     pub fn call(&self, call: &Call) -> Answer {
         match *call {
             Call::Configure(key, config) => {
@@ -79,5 +80,6 @@ fn config_from_rust(config: ReportingConfig) -> Config {
         minimum: config.min_interval,
         maximum: config.max_interval,
         change: config.reportable_change,
+        mark: SIGNED,
     }
 }

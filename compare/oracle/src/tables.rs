@@ -1,6 +1,7 @@
-//! Entries into the Rust's table and out of it.
+//! Entries into the Rust's table and out of it. It has no marks, and compares
+//! with the sign: what comes out is marked so.
 
-use reading::table::{Config, Entry, Key};
+use reading::table::{Config, Entry, Key, SIGNED};
 use zigbee_cluster_library::Shown;
 use zigbee_cluster_library::reporting::{ReportingConfig, ReportingTable};
 use zigbee_cluster_library::types::ids::{AttributeId, ClusterId};
@@ -39,6 +40,7 @@ fn from_rust((cluster, attribute, config, last): Shown) -> Entry {
             minimum: config.min_interval,
             maximum: config.max_interval,
             change: config.reportable_change,
+            mark: SIGNED,
         },
         last,
     }

@@ -91,6 +91,7 @@ fn configures() {
             minimum: 10,
             maximum: 60,
             change: 50,
+            mark: 0,
         },
         last: None,
     };

@@ -119,7 +119,7 @@ mod tests {
         let call = Call::number(&[1, 2, 3], 5);
         let mut bytes = vec![9, 0, 0, 0, 0, 0, 0, 0];
         bytes.extend([0; 8]);
-        bytes.extend([BEFORE; 24 + 16]);
+        bytes.extend([BEFORE; 32 + 16]);
         bytes.extend([1, 2, 3]);
         bytes.extend([BEFORE; 5 + 16 + 3 * 32]);
         change(&mut bytes);
@@ -136,7 +136,7 @@ mod tests {
     fn every_write_shows() {
         let whole = answered(|_| ());
         // past the result's eight bytes there is not one that may change
-        for at in 0..5 * 8 + (16 + 8 + 16) + 3 * 32 {
+        for at in 0..6 * 8 + (16 + 8 + 16) + 3 * 32 {
             let changed = answered(|bytes| bytes[at] ^= 1);
             assert_ne!(changed, whole, "at {at}");
             assert_eq!(

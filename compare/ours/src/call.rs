@@ -28,8 +28,8 @@ pub struct Call {
 }
 
 const NONE: [usize; RESULTS] = [0; RESULTS];
-const BYTE: [usize; RESULTS] = [1, 0, 0, 0];
-const LONG: [usize; RESULTS] = [8, 0, 0, 0];
+const BYTE: [usize; RESULTS] = [1, 0, 0, 0, 0];
+const LONG: [usize; RESULTS] = [8, 0, 0, 0, 0];
 
 impl Call {
     pub fn table_new(table: &[u8]) -> Self {
@@ -39,7 +39,14 @@ impl Call {
     pub fn configure(table: &[u8], key: Key, config: Config) -> Self {
         let [cluster, attribute] = numbers(key);
         let (minimum, maximum) = (config.minimum.into(), config.maximum.into());
-        let arguments = [cluster, attribute, minimum, maximum, config.change];
+        let arguments = [
+            cluster,
+            attribute,
+            minimum,
+            maximum,
+            config.change,
+            config.mark.into(),
+        ];
         Self::new("configure", 2, &arguments, [open(table)], BYTE)
     }
 
@@ -48,7 +55,7 @@ impl Call {
     }
 
     pub fn configuration(table: &[u8], key: Key) -> Self {
-        let results = [1, 2, 2, 8];
+        let results = [1, 2, 2, 8, 1];
         Self::new("configuration", 4, &numbers(key), [closed(table)], results)
     }
 

@@ -150,7 +150,7 @@ mod tests {
     #[test]
     fn no_answer() {
         let mut driver = Driver::of("true").expect("it starts");
-        let trouble = driver.answer(&Call::table_new(&[0; 465]));
+        let trouble = driver.answer(&Call::table_new(&[0; 481]));
         let trouble = trouble.expect_err("nothing came");
         assert!(trouble.contains("does not answer"), "{trouble}");
     }

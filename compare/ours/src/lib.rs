@@ -24,8 +24,8 @@ const BEFORE: u8 = 0xa5;
 const WALL: usize = 16;
 
 /// How many of each a call and its answer have on the pipe.
-const ARGUMENTS: usize = 5;
-const RESULTS: usize = 4;
+const ARGUMENTS: usize = 6;
+const RESULTS: usize = 5;
 const BUFFERS: usize = 4;
 
 /// These, and defaults behind them.

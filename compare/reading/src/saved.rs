@@ -1,15 +1,20 @@
 //! The saved form of a reporting table, which a box keeps through a power cut:
-//! document 02, request 5. It tells what is configured, and no last report.
+//! document 02, requests 5 and 6. It tells what is configured, and no last
+//! report. A form that was saved before there were marks is read too: its
+//! numbers compare as they did then.
 
 use crate::body::{Body, Cut};
 use crate::commands::{Answer, Refusal};
-use crate::table::{self, Config, ENTRIES, Entry, Key, SIZE};
+use crate::table::{self, Config, ENTRIES, Entry, Key, SIGNED, SIZE};
 
 /// Bytes of an entry of the contents: cluster, attribute, offset.
 const CONTENT: usize = 6;
 
-/// Bytes of a body: minimum, maximum, change.
-const BODY: usize = 12;
+/// Bytes of a body without a mark: minimum, maximum, change.
+const UNMARKED: usize = 12;
+
+/// Bytes of a body.
+const BODY: usize = UNMARKED + 1;
 
 /// Why bytes are not a saved form, or a table has none. Where several are true,
 /// the first that is met is said; the number is the same for all.
@@ -21,6 +26,8 @@ pub enum Fault {
     Count,
     /// A body does not stand where its offset says.
     Offset,
+    /// A mark is none.
+    Mark,
     /// A key stands twice.
     Repeated,
     /// A maximum of ffff,
@@ -44,6 +51,7 @@ pub fn read(saved: &[u8]) -> Result<Vec<Entry>, Fault> {
     if count > ENTRIES {
         return Err(Fault::Count);
     }
+    let marked = !is_old(count, saved.len());
     let mut contents = Vec::new();
     for _ in 0..count {
         contents.push(content(&mut bytes)?);
@@ -53,7 +61,7 @@ pub fn read(saved: &[u8]) -> Result<Vec<Entry>, Fault> {
         if usize::from(offset) != bytes.at() {
             return Err(Fault::Offset);
         }
-        let config = config(&mut bytes)?;
+        let config = config(&mut bytes, marked)?;
         let last = None;
         entries.push(Entry { key, config, last });
     }
@@ -64,6 +72,12 @@ pub fn read(saved: &[u8]) -> Result<Vec<Entry>, Fault> {
     Ok(entries)
 }
 
+/// Whether a form of so many entries has no marks, by its bytes. A form of none
+/// is the same either way.
+fn is_old(count: usize, bytes: usize) -> bool {
+    bytes == old_length(count)
+}
+
 /// A key, and where its body starts.
 fn content(bytes: &mut Body<'_>) -> Result<(Key, u16), Cut> {
     let cluster = bytes.short()?;
@@ -71,14 +85,19 @@ fn content(bytes: &mut Body<'_>) -> Result<(Key, u16), Cut> {
     Ok((Key { cluster, attribute }, bytes.short()?))
 }
 
-fn config(bytes: &mut Body<'_>) -> Result<Config, Cut> {
+fn config(bytes: &mut Body<'_>, marked: bool) -> Result<Config, Fault> {
     let minimum = bytes.short()?;
     let maximum = bytes.short()?;
     let change = bytes.bytes(8)?.try_into().expect("eight were taken");
+    let mark = if marked { bytes.byte()? } else { SIGNED };
+    if !table::is_mark(mark) {
+        return Err(Fault::Mark);
+    }
     Ok(Config {
         minimum,
         maximum,
         change: u64::from_le_bytes(change),
+        mark,
     })
 }
 
@@ -94,6 +113,7 @@ pub fn write(entries: &[Entry]) -> Result<Vec<u8>, Fault> {
         bodies.extend(config.minimum.to_le_bytes());
         bodies.extend(config.maximum.to_le_bytes());
         bodies.extend(config.change.to_le_bytes());
+        bodies.push(config.mark);
     }
     Ok([&[count], contents.as_flattened(), &bodies].concat())
 }
@@ -101,6 +121,11 @@ pub fn write(entries: &[Entry]) -> Result<Vec<u8>, Fault> {
 /// The bytes of the form of so many entries.
 pub fn length(entries: usize) -> usize {
     1 + (CONTENT + BODY) * entries
+}
+
+/// The bytes of the form without marks of so many entries.
+pub fn old_length(entries: usize) -> usize {
+    1 + (CONTENT + UNMARKED) * entries
 }
 
 /// What a form and a table that has one keep both.

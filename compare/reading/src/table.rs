@@ -4,7 +4,13 @@
 pub const ENTRIES: usize = 16;
 
 /// An entry's bytes.
-pub const SLOT: usize = 29;
+pub const SLOT: usize = 30;
+
+/// The mark of an entry whose numbers compare with their sign: the Int types.
+pub const SIGNED: u8 = 0;
+
+/// That of all others: their numbers are taken as 64 bits without a sign.
+pub const UNSIGNED: u8 = 1;
 
 /// A table's bytes: the count, then the slots.
 pub const SIZE: usize = 1 + ENTRIES * SLOT;
@@ -20,6 +26,8 @@ pub struct Config {
     pub minimum: u16,
     pub maximum: u16,
     pub change: u64,
+    /// How its numbers compare: document 02, request 6.
+    pub mark: u8,
 }
 
 #[derive(Debug, Clone, Copy, PartialEq, Eq)]
@@ -38,7 +46,9 @@ pub enum Broken {
     Count,
     /// A slot past the count is not all zero.
     Unused,
-    /// Neither 0 nor 1.
+    /// A mark that is none,
+    Mark,
+    /// or a flag that is neither 0 nor 1.
     Flag,
     /// A time or a value under flag 0.
     Unreported,
@@ -66,9 +76,13 @@ pub fn is_table(bytes: &[u8]) -> bool {
 }
 
 fn entry(slot: &[u8]) -> Result<Entry, Broken> {
-    let time = u32::from_le_bytes(field(slot, 17));
-    let value = i64::from_le_bytes(field(slot, 21));
-    let last = match slot[16] {
+    let mark = slot[16];
+    if !is_mark(mark) {
+        return Err(Broken::Mark);
+    }
+    let time = u32::from_le_bytes(field(slot, 18));
+    let value = i64::from_le_bytes(field(slot, 22));
+    let last = match slot[17] {
         0 if (time, value) == (0, 0) => None,
         0 => return Err(Broken::Unreported),
         1 => Some((time, value)),
@@ -83,9 +97,15 @@ fn entry(slot: &[u8]) -> Result<Entry, Broken> {
             minimum: u16::from_le_bytes(field(slot, 4)),
             maximum: u16::from_le_bytes(field(slot, 6)),
             change: u64::from_le_bytes(field(slot, 8)),
+            mark,
         },
         last,
     })
+}
+
+/// Whether a byte is a mark.
+pub fn is_mark(byte: u8) -> bool {
+    byte == SIGNED || byte == UNSIGNED
 }
 
 fn field<const N: usize>(slot: &[u8], at: usize) -> [u8; N] {
@@ -105,6 +125,7 @@ pub fn to_bytes(entries: &[Entry]) -> Vec<u8> {
         bytes.extend(entry.config.minimum.to_le_bytes());
         bytes.extend(entry.config.maximum.to_le_bytes());
         bytes.extend(entry.config.change.to_le_bytes());
+        bytes.push(entry.config.mark);
         bytes.push(entry.last.is_some().into());
         bytes.extend(time.to_le_bytes());
         bytes.extend(value.to_le_bytes());
@@ -189,14 +210,18 @@ pub fn ask(entries: &[Entry], key: Key, now: u32, value: i64) -> Reason {
     if config.maximum != 0 && elapsed >= config.maximum.into() {
         return Reason::AtMaximum;
     }
-    match moved(value, reported) {
+    match moved(config.mark, value, reported) {
         0 => Reason::NotMoved,
         moved if moved < config.change.into() => Reason::MovedTooLittle,
         _ => Reason::MovedEnough,
     }
 }
 
-/// How far two values are apart: at most 2^64 - 1.
-pub fn moved(value: i64, reported: i64) -> u128 {
-    (i128::from(value) - i128::from(reported)).unsigned_abs()
+/// How far two values of this mark are apart: at most 2^64 - 1.
+pub fn moved(mark: u8, value: i64, reported: i64) -> u128 {
+    let wide = |number: i64| match mark {
+        UNSIGNED => i128::from(number.cast_unsigned()),
+        _ => i128::from(number),
+    };
+    (wide(value) - wide(reported)).unsigned_abs()
 }

@@ -60,6 +60,7 @@ fn frame_11() {
         minimum: 10,
         maximum: 60,
         change: 50,
+        mark: 0,
     };
     let last = None;
     assert_eq!(served.table, [Entry { key, config, last }]);

@@ -3,7 +3,7 @@
 mod common;
 
 use common::{CLUSTER, Served, bytes, reply, says};
-use reading::table::{Config, Entry, Key};
+use reading::table::{Config, Entry, Key, SIGNED, UNSIGNED};
 
 fn entry(cluster: u16, attribute: u16, config: (u16, u16, u64)) -> Entry {
     let (minimum, maximum, change) = config;
@@ -13,6 +13,7 @@ fn entry(cluster: u16, attribute: u16, config: (u16, u16, u64)) -> Entry {
             minimum,
             maximum,
             change,
+            mark: SIGNED,
         },
         last: Some((7, 7)),
     }
@@ -102,20 +103,35 @@ fn a_full_table() {
     assert_eq!(served.says(frame, 64), "8");
 }
 
+/// What a value of this type is configured as, with this change field.
+fn configured(code: u8, field: &str) -> Config {
+    let size = reading::fixed_size(code).expect("fixed");
+    let [low, high] = u16::try_from(size).expect("short").to_le_bytes();
+    let head = [0x21, 0xfc, 1, 0, 1, 0, code, 2, 12, 0, low, high];
+    let mut served = Served {
+        store: [&head[..], &vec![0; size]].concat(),
+        table: Vec::new(),
+    };
+    let frame = format!("000006 000100 {code:02x} 00000000 {field}");
+    assert_eq!(served.says(&frame, 64), reply("180007 00"));
+    served.table[0].config
+}
+
+/// Of every type of fixed length that an attribute may have.
+#[test]
+fn marks() {
+    let stored = |&code: &u8| reading::fixed_size(code).is_some_and(|size| size > 0);
+    for code in (0..=255).filter(stored) {
+        let field = "00".repeat(reading::change_width(code));
+        let int = (0x28..=0x2f).contains(&code);
+        let expected = if int { SIGNED } else { UNSIGNED };
+        assert_eq!(configured(code, &field).mark, expected, "{code:02x}");
+    }
+}
+
 #[test]
 fn changes() {
-    let change = |code: u8, field: &str| {
-        let size = reading::fixed_size(code).expect("fixed");
-        let [low, high] = u16::try_from(size).expect("short").to_le_bytes();
-        let head = [0x21, 0xfc, 1, 0, 1, 0, code, 2, 12, 0, low, high];
-        let mut served = Served {
-            store: [&head[..], &vec![0; size]].concat(),
-            table: Vec::new(),
-        };
-        let frame = format!("000006 000100 {code:02x} 00000000 {field}");
-        assert_eq!(served.says(&frame, 64), reply("180007 00"));
-        served.table[0].config.change
-    };
+    let change = |code: u8, field: &str| configured(code, field).change;
     assert_eq!(change(0x28, "80"), 128, "bench frame 12");
     assert_eq!(change(0x20, "80"), 128);
     assert_eq!(change(0x29, "38ff"), 200);

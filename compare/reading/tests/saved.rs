@@ -4,14 +4,20 @@
 mod common;
 
 use common::{bytes, hex};
-use reading::saved::Fault::{Count, Crossed, Length, Neither, NoReports, Offset, Repeated};
-use reading::saved::{length, read, restore, save, write};
-use reading::table::{Config, Entry, Key, SIZE, to_bytes};
+use reading::saved::Fault::{Count, Crossed, Length, Mark, Neither, NoReports, Offset, Repeated};
+use reading::saved::{length, old_length, read, restore, save, write};
+use reading::table::{Config, Entry, Key, SIGNED, SIZE, UNSIGNED, to_bytes};
 
-const ONE: &str = "01 0204 0000 0700 0a00 2c01 3200000000000000";
+const ONE: &str = "01 0204 0000 0700 0a00 2c01 3200000000000000 00";
 
-const TWO: &str = "02 21fc 0500 0d00 0201 0403 1900
-                   0a00 3c00 3200000000000000 0605 0807 100f0e0d0c0b0a09";
+const TWO: &str = "02 21fc 0500 0d00 0201 0403 1a00
+                   0a00 3c00 3200000000000000 00 0605 0807 100f0e0d0c0b0a09 01";
+
+/// As they were saved before there were marks.
+const OLD_ONE: &str = "01 0204 0000 0700 0a00 2c01 3200000000000000";
+
+const OLD_TWO: &str = "02 21fc 0500 0d00 0201 0403 1900
+                       0a00 3c00 3200000000000000 0605 0807 100f0e0d0c0b0a09";
 
 /// Of `ONE`, as it is read.
 const FIRST: Entry = Entry {
@@ -23,6 +29,7 @@ const FIRST: Entry = Entry {
         minimum: 10,
         maximum: 300,
         change: 50,
+        mark: SIGNED,
     },
     last: None,
 };
@@ -80,8 +87,8 @@ fn two_with(at: usize, byte: u8) -> Vec<u8> {
 fn the_worked_example() {
     let table = to_bytes(&[REPORTED]);
     let form = hex(&bytes(ONE));
-    assert_eq!(saves(&table, 19), (0, 19, form.clone()));
-    assert_eq!(saves(&table, 21), (0, 19, form + "0000"));
+    assert_eq!(saves(&table, 20), (0, 20, form.clone()));
+    assert_eq!(saves(&table, 22), (0, 20, form + "0000"));
     assert_eq!(read(&bytes(ONE)), Ok(vec![FIRST]));
     assert_eq!(restores(&bytes(ONE)), (0, to_bytes(&[FIRST])));
 }
@@ -108,6 +115,7 @@ fn two_in_order() {
     );
     assert_eq!(first.config.change, 50);
     assert_eq!(second.config.change, 0x090a_0b0c_0d0e_0f10);
+    assert_eq!((first.config.mark, second.config.mark), (SIGNED, UNSIGNED));
     assert_eq!((first.last, second.last), (None, None));
     assert_eq!(write(&entries), Ok(bytes(TWO)));
 }
@@ -126,7 +134,71 @@ fn there_and_back() {
         assert_eq!(read(&form), Ok(expected.clone()));
         assert_eq!(write(&expected), Ok(form));
     }
-    assert_eq!(length(16), 289);
+    assert_eq!(length(16), 305);
+    assert_eq!(old_length(16), 289);
+}
+
+/// A form without its marks, as it was written before there were any.
+fn old(entries: &[Entry]) -> Vec<u8> {
+    let form = write(entries).expect("it has one");
+    let (contents, bodies) = form[1..].split_at(6 * entries.len());
+    let mut old = vec![form[0]];
+    for (place, content) in contents.chunks(6).enumerate() {
+        let offset = 1 + 6 * entries.len() + 12 * place;
+        old.extend(&content[..4]);
+        old.extend(u16::try_from(offset).expect("short").to_le_bytes());
+    }
+    old.extend(bodies.chunks(13).flat_map(|body| &body[..12]));
+    old
+}
+
+#[test]
+fn without_marks() {
+    assert_eq!(old(&[FIRST]), bytes(OLD_ONE));
+    assert_eq!(read(&bytes(OLD_ONE)), Ok(vec![FIRST]));
+    assert_eq!(restores(&bytes(OLD_ONE)), (0, to_bytes(&[FIRST])));
+    let entries = read(&bytes(OLD_TWO)).expect("a saved form");
+    assert_eq!(entries.len(), 2);
+    assert!(entries.iter().all(|entry| entry.config.mark == SIGNED));
+    // saved again it has them
+    let mut marked = bytes(TWO);
+    *marked.last_mut().expect("a mark") = SIGNED;
+    assert_eq!(write(&entries), Ok(marked));
+    for count in 0..=16 {
+        let form = old(&many(count));
+        assert_eq!(form.len(), old_length(count.into()));
+        let entries = read(&form).expect("a saved form");
+        assert_eq!(entries.len(), usize::from(count));
+        assert_eq!(old(&entries), form);
+    }
+    // a length is told with its count: one entry more or less is none
+    for count in 1..16 {
+        for other in [count - 1, count + 1] {
+            let mut form = old(&many(count));
+            form[0] = other.try_into().expect("short");
+            assert!(read(&form).is_err(), "{count} {other}");
+        }
+    }
+    // offsets of the other form
+    for (one, two) in [(OLD_TWO, TWO), (TWO, OLD_TWO)] {
+        let mut mixed = bytes(one);
+        mixed[11] = bytes(two)[11];
+        assert_eq!(read(&mixed), Err(Offset));
+    }
+}
+
+#[test]
+fn marks() {
+    let (first, second) = (13 + 12, 13 + 13 + 12);
+    for mark in 2..=255 {
+        assert_eq!(read(&two_with(first, mark)), Err(Mark), "{mark}");
+        assert_eq!(read(&two_with(second, mark)), Err(Mark), "{mark}");
+    }
+    let marked = |at, mark| read(&two_with(at, mark)).expect("a saved form");
+    assert_eq!(marked(first, 1)[0].config.mark, UNSIGNED);
+    assert_eq!(marked(second, 0)[1].config.mark, SIGNED);
+    assert_eq!(write(&marked(first, 1)), Ok(two_with(first, 1)));
+    assert_eq!(restores(&two_with(first, 2)), (13, vec![0; SIZE]));
 }
 
 #[test]
@@ -134,7 +206,15 @@ fn other_lengths() {
     assert_eq!(read(&[]), Err(Length));
     let two = bytes(TWO);
     for end in 0..two.len() {
-        assert_eq!(read(&two[..end]), Err(Length), "{end}");
+        // a form without marks would be as long, and have its second body earlier
+        let fault = if end == old_length(2) { Offset } else { Length };
+        assert_eq!(read(&two[..end]), Err(fault), "{end}");
+    }
+    // of one entry it is such a form that is left where the last byte is cut
+    let one = bytes(ONE);
+    assert_eq!(&one[..19], bytes(OLD_ONE));
+    for end in 0..19 {
+        assert_eq!(read(&one[..end]), Err(Length), "{end}");
     }
     for behind in [0, 1, 0xff] {
         assert_eq!(read(&[&two[..], &[behind]].concat()), Err(Length));
@@ -147,7 +227,7 @@ fn other_lengths() {
 
 #[test]
 fn counts() {
-    let seventeen = [vec![17], vec![0; 17 * 18]].concat();
+    let seventeen = [vec![17], vec![0; 17 * 19]].concat();
     assert_eq!(read(&seventeen), Err(Count));
     assert_eq!(read(&[0xff]), Err(Count));
 }
@@ -155,14 +235,14 @@ fn counts() {
 #[test]
 fn offsets() {
     for at in [5, 6, 11, 12] {
-        for byte in [0x01, 0x0c, 0x0e, 0x1a, 0x31, 0xff] {
+        for byte in [0x01, 0x0c, 0x0e, 0x19, 0x31, 0xff] {
             assert_eq!(read(&two_with(at, byte)), Err(Offset), "{at} {byte:x}");
         }
     }
     // both to one body, or each to the other's
     assert_eq!(read(&two_with(11, 0x0d)), Err(Offset));
     let mut exchanged = two_with(11, 0x0d);
-    exchanged[5] = 0x19;
+    exchanged[5] = 0x1a;
     assert_eq!(read(&exchanged), Err(Offset));
 }
 
@@ -218,27 +298,27 @@ fn intervals() {
 fn what_a_refused_save_leaves() {
     let zeros = |number, room| (number, 0, "00".repeat(room));
     let full = to_bytes(&many(16));
-    for room in [0, 1, 18, 288] {
+    for room in [0, 1, 19, 304] {
         assert_eq!(saves(&full, room), zeros(5, room));
     }
-    assert_eq!(saves(&full, 289).0, 0);
+    assert_eq!(saves(&full, 305).0, 0);
     let off = to_bytes(&[with(0, 0xffff)]);
     let twice = to_bytes(&[FIRST, REPORTED]);
     // 13 comes before 5
-    for room in [0, 1, 37, 289] {
+    for room in [0, 1, 39, 305] {
         assert_eq!(saves(&off, room), zeros(13, room));
         assert_eq!(saves(&twice, room), zeros(13, room));
     }
     // and 8 before both
-    for at in [0, 1 + 16, 1 + 29 + 16, SIZE - 1] {
+    for at in [0, 1 + 16, 1 + 17, 1 + 30 + 16, 1 + 30 + 17, SIZE - 1] {
         let mut broken = twice.clone();
         broken[at] = 0xff;
-        assert_eq!(saves(&broken, 289), zeros(8, 289), "{at}");
+        assert_eq!(saves(&broken, 305), zeros(8, 305), "{at}");
         assert_eq!(saves(&broken, 0), zeros(8, 0), "{at}");
     }
-    assert_eq!(saves(&full[..SIZE - 1], 289), zeros(8, 289));
-    assert_eq!(saves(&[&full[..], &[0]].concat(), 289), zeros(8, 289));
-    assert_eq!(saves(&[], 289), zeros(8, 289));
+    assert_eq!(saves(&full[..SIZE - 1], 305), zeros(8, 305));
+    assert_eq!(saves(&[&full[..], &[0]].concat(), 305), zeros(8, 305));
+    assert_eq!(saves(&[], 305), zeros(8, 305));
 }
 
 #[test]

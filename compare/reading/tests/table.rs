@@ -1,7 +1,9 @@
 //! A table's bytes, what breaks them, and bench frame 11's asks.
 
-use reading::table::Broken::{Count, Flag, Length, Unreported, Unused};
-use reading::table::{Config, Entry, Key, Reason, ask, entries, is_table, moved, place};
+use reading::table::Broken::{Count, Flag, Length, Mark, Unreported, Unused};
+use reading::table::{
+    Config, Entry, Key, Reason, SIGNED, UNSIGNED, ask, entries, is_table, moved, place,
+};
 
 const FIRST: Entry = Entry {
     key: Key {
@@ -12,6 +14,7 @@ const FIRST: Entry = Entry {
         minimum: 10,
         maximum: 60,
         change: 50,
+        mark: SIGNED,
     },
     last: Some((100, -200)),
 };
@@ -25,6 +28,7 @@ const SECOND: Entry = Entry {
         minimum: 0x0506,
         maximum: 0x0708,
         change: 0x090a_0b0c_0d0e_0f10,
+        mark: UNSIGNED,
     },
     last: None,
 };
@@ -40,11 +44,11 @@ fn bytes(hex: &str) -> Vec<u8> {
 fn two() -> Vec<u8> {
     let used = bytes(
         "02
-         21fc 0500 0a00 3c00 3200000000000000 01 64000000 38ffffffffffffff
-         0201 0403 0605 0807 100f0e0d0c0b0a09 00 00000000 0000000000000000",
+         21fc 0500 0a00 3c00 3200000000000000 00 01 64000000 38ffffffffffffff
+         0201 0403 0605 0807 100f0e0d0c0b0a09 01 00 00000000 0000000000000000",
     );
-    assert_eq!(used.len(), 59);
-    [used, vec![0; 406]].concat()
+    assert_eq!(used.len(), 61);
+    [used, vec![0; 420]].concat()
 }
 
 /// Two entries with the byte at `at` set.
@@ -63,11 +67,11 @@ fn two_entries_in_order() {
 
 #[test]
 fn none_and_sixteen() {
-    assert_eq!(entries(&[0; 465]), Ok(vec![]));
-    let slot = two()[1..30].to_vec();
+    assert_eq!(entries(&[0; 481]), Ok(vec![]));
+    let slot = two()[1..31].to_vec();
     let full = [vec![16], slot.repeat(16)].concat();
     assert_eq!(entries(&full), Ok(vec![FIRST; 16]));
-    let blank = [vec![16], vec![0; 464]].concat();
+    let blank = [vec![16], vec![0; 480]].concat();
     assert_eq!(entries(&blank).map(|entries| entries.len()), Ok(16));
     for count in 0..16 {
         let mut fewer = full.clone();
@@ -83,7 +87,7 @@ fn none_and_sixteen() {
 
 #[test]
 fn other_lengths() {
-    for length in (0..465).chain([466, 494, 930, 3713]) {
+    for length in (0..481).chain([482, 511, 962, 3841]) {
         let mut table = two();
         table.resize(length, 0);
         assert_eq!(entries(&table), Err(Length), "{length}");
@@ -103,6 +107,7 @@ fn counts() {
             minimum: 0,
             maximum: 0,
             change: 0,
+            mark: SIGNED,
         },
         last: None,
     };
@@ -113,7 +118,7 @@ fn counts() {
 
 #[test]
 fn slots_past_the_count() {
-    for at in 59..465 {
+    for at in 61..481 {
         assert_eq!(entries(&with(at, 1)), Err(Unused), "{at}");
     }
 }
@@ -121,20 +126,31 @@ fn slots_past_the_count() {
 #[test]
 fn flags() {
     for flag in 2..=255 {
-        assert_eq!(entries(&with(17, flag)), Err(Flag), "{flag}");
-        assert_eq!(entries(&with(46, flag)), Err(Flag), "{flag}");
+        assert_eq!(entries(&with(18, flag)), Err(Flag), "{flag}");
+        assert_eq!(entries(&with(48, flag)), Err(Flag), "{flag}");
     }
-    assert_eq!(entries(&with(17, 0)), Err(Unreported));
+    assert_eq!(entries(&with(18, 0)), Err(Unreported));
     let marked = Entry {
         last: Some((0, 0)),
         ..SECOND
     };
-    assert_eq!(entries(&with(46, 1)), Ok(vec![FIRST, marked]));
+    assert_eq!(entries(&with(48, 1)), Ok(vec![FIRST, marked]));
+}
+
+#[test]
+fn marks() {
+    for mark in 2..=255 {
+        assert_eq!(entries(&with(17, mark)), Err(Mark), "{mark}");
+        assert_eq!(entries(&with(47, mark)), Err(Mark), "{mark}");
+    }
+    let changed = |at, mark| entries(&with(at, mark)).expect("a table");
+    assert_eq!(changed(17, 1)[0].config.mark, UNSIGNED);
+    assert_eq!(changed(47, 0)[1].config.mark, SIGNED);
 }
 
 #[test]
 fn unreported() {
-    for at in 47..59 {
+    for at in 49..61 {
         assert_eq!(entries(&with(at, 1)), Err(Unreported), "{at}");
         assert_eq!(entries(&with(at, 0x80)), Err(Unreported), "{at}");
     }
@@ -143,13 +159,13 @@ fn unreported() {
 /// Every byte of a key, an interval or a change counts, and none breaks it.
 #[test]
 fn any_numbers() {
-    for at in (1..17).chain(18..30).chain(30..46) {
+    for at in (1..17).chain(19..31).chain(31..47) {
         let changed = entries(&with(at, 0xee)).expect("a table");
         assert_ne!(changed, [FIRST, SECOND], "{at}");
     }
-    let time = entries(&with(21, 0x80)).expect("a table");
+    let time = entries(&with(22, 0x80)).expect("a table");
     assert_eq!(time[0].last, Some((0x8000_0064, -200)));
-    let value = entries(&with(29, 0x7f)).expect("a table");
+    let value = entries(&with(30, 0x7f)).expect("a table");
     assert_eq!(value[0].last, Some((100, i64::MAX - 199)));
 }
 
@@ -192,6 +208,7 @@ fn other_asks() {
             minimum,
             maximum,
             change,
+            mark: SIGNED,
         };
         [Entry {
             config,
@@ -218,5 +235,44 @@ fn other_asks() {
     let far = of(0, 0, u64::MAX, Some((0, i64::MIN)));
     assert_eq!(ask(&far, key, 0, i64::MAX), Reason::MovedEnough);
     assert_eq!(ask(&far, key, 0, i64::MAX - 1), Reason::MovedTooLittle);
-    assert_eq!(moved(i64::MAX, i64::MIN), u64::MAX.into());
+    assert_eq!(moved(SIGNED, i64::MAX, i64::MIN), u64::MAX.into());
+}
+
+/// The sub-meter of request 6: from 0 to its top.
+#[test]
+fn without_a_sign() {
+    let of = |mark, change, reported| {
+        let config = Config {
+            minimum: 0,
+            maximum: 60,
+            change,
+            mark,
+        };
+        let last = Some((0, reported));
+        [Entry {
+            config,
+            last,
+            ..FIRST
+        }]
+    };
+    let says = |mark, change, reported, value| {
+        let table = of(mark, change, reported);
+        ask(&table, FIRST.key, 0, value)
+    };
+    assert_eq!(says(SIGNED, 2, 0, -1), Reason::MovedTooLittle);
+    assert_eq!(says(UNSIGNED, 2, 0, -1), Reason::MovedEnough);
+    assert_eq!(says(UNSIGNED, 2, -1, 0), Reason::MovedEnough);
+    assert_eq!(says(UNSIGNED, u64::MAX, 0, -1), Reason::MovedEnough);
+    assert_eq!(says(UNSIGNED, u64::MAX, 0, -2), Reason::MovedTooLittle);
+    // over the middle it is one step, and as far with a sign as can be
+    let (below, above) = (i64::MAX, i64::MIN);
+    assert_eq!(says(UNSIGNED, 2, below, above), Reason::MovedTooLittle);
+    assert_eq!(says(SIGNED, u64::MAX, below, above), Reason::MovedEnough);
+    assert_eq!(says(UNSIGNED, 0, -1, -1), Reason::NotMoved);
+    // on one side of it both say the same
+    for (value, reported) in [(0, 0), (0, i64::MAX), (7, 9), (-1, i64::MIN), (-9, -7)] {
+        let [signed, unsigned] = [SIGNED, UNSIGNED].map(|mark| moved(mark, value, reported));
+        assert_eq!(signed, unsigned, "{value} {reported}");
+    }
+    assert_eq!(moved(UNSIGNED, -1, 0), u64::MAX.into());
 }

@@ -7,7 +7,7 @@ use cases::histories::kinds::{self, CALLS, Kinds};
 use cases::histories::{Answer, Call, History};
 use cases::{Random, hex};
 use oracle::Table;
-use reading::table::{Config, Entry, Key, SLOT, ask, clear, configure, place, to_bytes};
+use reading::table::{Config, Entry, Key, SIGNED, SLOT, to_bytes};
 
 use crate::rust::short;
 
@@ -97,28 +97,9 @@ impl Line {
 
     /// Document 01's answer to a step.
     fn document(&mut self, step: Step) -> Vec<u8> {
-        let entries = &mut self.entries;
         match step {
-            Step::Call(Call::Configure(key, config)) => {
-                vec![0, configure(entries, key, config).into()]
-            }
-            Step::Call(Call::Clear(key)) => {
-                clear(entries, key);
-                vec![0, 1]
-            }
-            Step::Call(Call::Mark(key, now, value)) => {
-                if let Some(place) = place(entries, key) {
-                    entries[place].last = Some((now, value));
-                }
-                vec![0, 1]
-            }
-            Step::Call(Call::Ask(key, now, value)) => {
-                vec![0, ask(entries, key, now, value).is_due().into()]
-            }
-            Step::Call(Call::Configuration(key)) => {
-                found(place(entries, key).map(|place| entries[place].config))
-            }
-            Step::Len => vec![0, short(entries.len())],
+            Step::Call(call) => answered(&call, &call.document(&mut self.entries)),
+            Step::Len => vec![0, short(self.entries.len())],
         }
     }
 
@@ -135,9 +116,10 @@ impl Line {
     }
 }
 
-/// The Rust's answer in the list's form. What it does without an answer is done.
+/// An answer in the list's form. All marks are those of the Rust: they are not
+/// told. What is done without an answer is done.
 fn answered(call: &Call, answer: &Answer) -> Vec<u8> {
-    let [first, minimum, maximum, change] = answer.written;
+    let [first, minimum, maximum, change, _] = answer.written;
     match call {
         Call::Configure(..) | Call::Ask(..) => vec![0, first.to_le_bytes()[0]],
         Call::Clear(_) | Call::Mark(..) => vec![0, 1],
@@ -146,6 +128,7 @@ fn answered(call: &Call, answer: &Answer) -> Vec<u8> {
                 minimum: u16::try_from(minimum).expect("an interval"),
                 maximum: u16::try_from(maximum).expect("an interval"),
                 change,
+                mark: SIGNED,
             };
             found((first == 1).then_some(config))
         }
@@ -158,6 +141,7 @@ fn found(config: Option<Config>) -> Vec<u8> {
         minimum: 0,
         maximum: 0,
         change: 0,
+        mark: SIGNED,
     };
     let numbers = settings(config.unwrap_or(none));
     [&[0, config.is_some().into()], &numbers[..]].concat()
@@ -205,6 +189,7 @@ mod tests {
             minimum: 10,
             maximum: 60,
             change: 2,
+            mark: SIGNED,
         };
         let calls = [
             Call::Configure(key, config),
@@ -221,7 +206,7 @@ mod tests {
         let none = "00".repeat(12);
         let calls =
             format!("00{id}{settings} 02{id}{marked} 03{id}{asked} 04{id}{none} 0500000000{none}");
-        let answers = format!("0001 0001 0001 0001{settings} 0001 01{id}{settings}01{marked}");
+        let answers = format!("0001 0001 0001 0001{settings} 0001 01{id}{settings}0001{marked}");
         let expected = [calls, answers].map(|field| field.replace(' ', ""));
         assert_eq!(line.text(), format!("m {}", expected.join(" ")));
     }

@@ -34,7 +34,8 @@
 //! - `m calls answers`: calls on a reporting table, from an empty one on. A call
 //!   is its operation (configure 00, clear 01, mark 02, ask 03, configuration
 //!   04, len 05), the cluster and the attribute in two bytes each, and twelve
-//!   bytes: minimum, maximum and change, or a time and a value, or zeros. An
+//!   bytes: minimum, maximum and change, or a time and a value, or zeros. All
+//!   are configured with mark 0: the Rust compares with the sign. An
 //!   answer is 00 and a byte: 01 where it was accepted or done, is due or was
 //!   found, or how many entries there are; behind a configuration its minimum,
 //!   maximum and change. Behind the answers comes the table, its count and its
@@ -44,7 +45,8 @@
 //!   length in two bytes, the store, the request frame. The answer is 01, the
 //!   number, the reply's length in one byte, the reply, and 00 where the table is
 //!   as it was, or 01 and the table's count and slots. The number is document
-//!   01's, as in `c`; reply and table are the Rust's as well.
+//!   01's, as in `c`; reply and table are the Rust's as well, but for the marks
+//!   in the slots, which are document 02's.
 //! - `y input answer answer`: a frame of command 0b with a listed difference,
 //!   input and answers as in `q`, document 01's first, then the Rust's, whose
 //!   number is 0.

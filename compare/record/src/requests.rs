@@ -7,7 +7,7 @@ use cases::given::tables;
 use cases::kinds::{self, Call, Kinds};
 use cases::requests::request;
 use cases::stores::{built, random_parts, word};
-use cases::{Case, Difference, Random, Seen, hex};
+use cases::{Case, Difference, Random, Seen, hex, unmarked};
 use oracle::{Oracle, Outcome, Request};
 use reading::commands::{Answer, serve_lent};
 use reading::store::{attributes, cluster_of};
@@ -122,7 +122,7 @@ fn line(case: &Case, oracle: &mut Oracle, kinds: &mut Kinds) -> Result<String, S
     }
     let number = if outcome.reply.is_some() { 0 } else { 6 };
     let reply = outcome.reply.as_deref().unwrap_or_default();
-    let theirs = answer(&before, number, reply, &outcome.table);
+    let theirs = answer(&unmarked(&before), number, reply, &outcome.table);
     Ok(format!("y {input} {ours} {theirs}"))
 }
 
@@ -141,12 +141,12 @@ fn used(table: &[Entry]) -> Vec<u8> {
 }
 
 /// Whether the Rust, which says `None` to every refusal, says and leaves the
-/// same.
+/// same, but for marks, which it does not have.
 fn agrees(seen: &Seen, outcome: &Outcome) -> bool {
     let reply = (seen.number == 0).then(|| seen.reply());
     reply == outcome.reply.as_deref()
         && seen.store == outcome.store
-        && entries(&seen.table).as_deref() == Ok(&outcome.table)
+        && entries(&seen.table).is_ok_and(|left| unmarked(&left) == outcome.table)
 }
 
 fn count(
@@ -186,7 +186,7 @@ mod tests {
         let frame = "002a06 000500 29 0a00 3c00 0200".replace(' ', "");
         let input = format!("00 3000 {} {frame}", hex(&bench())).replace(' ', "");
         let slot = format!(
-            "21fc0500 0a00 3c00 02{} 00 {}",
+            "21fc0500 0a00 3c00 02{} 00 00 {}",
             "00".repeat(7),
             "00".repeat(12)
         );

@@ -3,8 +3,8 @@
 use std::collections::{BTreeSet, HashMap};
 
 use reading::commands::Answer;
-use reading::saved::{self, Fault, length};
-use reading::table::{Broken, ENTRIES, Entry, entries};
+use reading::saved::{self, Fault, length, old_length};
+use reading::table::{Broken, ENTRIES, Entry, UNSIGNED, entries};
 
 /// What may be wrong with a table that is not written,
 const UNWRITTEN: [Fault; 4] = [
@@ -15,12 +15,13 @@ const UNWRITTEN: [Fault; 4] = [
 ];
 
 /// and besides with bytes that are not a saved form.
-const UNREAD: [Fault; 3] = [Fault::Length, Fault::Count, Fault::Offset];
+const UNREAD: [Fault; 4] = [Fault::Length, Fault::Count, Fault::Offset, Fault::Mark];
 
-const NO_TABLES: [Broken; 5] = [
+const NO_TABLES: [Broken; 6] = [
     Broken::Length,
     Broken::Count,
     Broken::Unused,
+    Broken::Mark,
     Broken::Flag,
     Broken::Unreported,
 ];
@@ -47,6 +48,13 @@ const RESTORED: [&str; 4] = [
     "restore 0: over bytes that are no table",
 ];
 
+/// By what is told of the marks.
+const MARKED: [&str; 3] = [
+    "restore 0: a form with a mark of 1",
+    "restore 0: a form with marks of 0 alone",
+    "restore 0: a form without marks, read as signed",
+];
+
 const OTHER_LENGTH: [&str; 2] = ["restore 8: a saved form", "restore 8: before 13"];
 
 const EMPTIED: [&str; 3] = [
@@ -61,11 +69,15 @@ pub const READ_BACK: [&str; 2] = [
     "saved, then restored: the same table, which had none",
 ];
 pub const SAME_BYTES: &str = "restored, then saved: the same bytes";
+/// and of request 6.
+pub const NEW_BYTES: &str = "restored, then saved: a form without marks gets marks of 0";
 
 pub struct Counted {
     counts: HashMap<String, usize>,
     /// How many entries the forms had.
     forms: BTreeSet<usize>,
+    /// And those without marks.
+    old_forms: BTreeSet<usize>,
 }
 
 impl Counted {
@@ -73,6 +85,7 @@ impl Counted {
         Self {
             counts: lines().into_iter().map(|line| (line, 0)).collect(),
             forms: BTreeSet::new(),
+            old_forms: BTreeSet::new(),
         }
     }
 
@@ -118,11 +131,14 @@ impl Counted {
         }
         let before = entries(before);
         match read {
-            Ok(_) => self.count(match before {
-                Err(_) => RESTORED[3],
-                Ok(held) if held.is_empty() => RESTORED[2],
-                Ok(held) => RESTORED[usize::from(!reported(&held))],
-            }),
+            Ok(read) => {
+                self.count(match before {
+                    Err(_) => RESTORED[3],
+                    Ok(held) if held.is_empty() => RESTORED[2],
+                    Ok(held) => RESTORED[usize::from(!reported(&held))],
+                });
+                self.marks(&read, form);
+            }
             Err(fault) => {
                 self.count(&not_read(fault));
                 self.count(match before {
@@ -133,22 +149,44 @@ impl Counted {
         }
     }
 
+    /// Of a form that was read as these entries.
+    fn marks(&mut self, read: &[Entry], form: &[u8]) {
+        if is_old(form) {
+            self.old_forms.insert(read.len());
+            self.count(MARKED[2]);
+        } else if !read.is_empty() {
+            let unsigned = |entry: &Entry| entry.config.mark == UNSIGNED;
+            self.count(MARKED[usize::from(!read.iter().any(unsigned))]);
+        }
+    }
+
     /// A line for each kind.
     pub fn list(&self) -> String {
         let line = |line: String| format!("{:9}  {line}\n", self.counts[&line]);
         let lines: String = lines().into_iter().map(line).collect();
         let (here, all) = (self.forms.len(), ENTRIES + 1);
-        lines + &format!("{here:9}  numbers of entries in forms, of {all}\n")
+        let old = self.old_forms.len();
+        lines
+            + &format!("{here:9}  numbers of entries in forms, of {all}\n")
+            + &format!("{old:9}  numbers of entries in forms without marks, of {ENTRIES}\n")
     }
 
     /// What must come and never came.
     pub fn never(&self) -> Vec<String> {
         let lines = lines().into_iter().filter(|line| self.counts[line] == 0);
         let forms = (0..=ENTRIES).filter(|entries| !self.forms.contains(entries));
+        let old = (1..=ENTRIES).filter(|entries| !self.old_forms.contains(entries));
         lines
             .chain(forms.map(|entries| format!("a form of {entries} entries")))
+            .chain(old.map(|entries| format!("a form of {entries} entries without marks")))
             .collect()
     }
+}
+
+/// Whether bytes have the length of a form without marks, of the entries that
+/// they tell. A form of none is the same with and without.
+pub fn is_old(form: &[u8]) -> bool {
+    form.len() > 1 && form.len() == old_length(form[0].into())
 }
 
 /// Whether one of them has a last report.
@@ -159,7 +197,7 @@ pub fn reported(held: &[Entry]) -> bool {
 /// All lines, in the order in which they are printed.
 fn lines() -> Vec<String> {
     let owned = |lines: &[&str]| lines.iter().map(|&line| line.to_owned()).collect();
-    let lines: [Vec<String>; 11] = [
+    let lines: [Vec<String>; 12] = [
         owned(&SAVED),
         owned(&TOO_SHORT),
         NO_TABLES.map(no_table).to_vec(),
@@ -167,10 +205,11 @@ fn lines() -> Vec<String> {
         UNWRITTEN.map(not_written).to_vec(),
         owned(&[FORM_FIRST]),
         owned(&RESTORED),
+        owned(&MARKED),
         owned(&OTHER_LENGTH),
         UNREAD.into_iter().chain(UNWRITTEN).map(not_read).collect(),
         owned(&EMPTIED),
-        owned(&[READ_BACK[0], READ_BACK[1], SAME_BYTES]),
+        owned(&[READ_BACK[0], READ_BACK[1], SAME_BYTES, NEW_BYTES]),
     ];
     lines.concat()
 }
@@ -180,6 +219,7 @@ fn no_table(broken: Broken) -> String {
         Broken::Length => "another length",
         Broken::Count => "count above 16",
         Broken::Unused => "slot past the count",
+        Broken::Mark => "mark",
         Broken::Flag => "flag",
         Broken::Unreported => "time or value under flag 0",
     };
@@ -199,6 +239,7 @@ fn why(fault: Fault) -> &'static str {
         Fault::Length => "another length",
         Fault::Count => "count above 16",
         Fault::Offset => "an offset that does not follow on",
+        Fault::Mark => "a mark that is neither 0 nor 1",
         Fault::Repeated => "a key twice",
         Fault::NoReports => "maximum ffff",
         Fault::Neither => "maximum 0 with minimum ffff",
@@ -213,12 +254,14 @@ mod tests {
     #[test]
     fn what_never_came_is_named() {
         let mut counted = Counted::new();
-        assert_eq!(counted.never().len(), lines().len() + ENTRIES + 1);
+        assert_eq!(counted.never().len(), lines().len() + 2 * ENTRIES + 1);
         for line in lines() {
             counted.count(&line);
         }
-        assert_eq!(counted.never().len(), ENTRIES + 1);
+        assert_eq!(counted.never().len(), 2 * ENTRIES + 1);
         counted.forms = (0..=ENTRIES).collect();
+        assert_eq!(counted.never().len(), ENTRIES);
+        counted.old_forms = (1..=ENTRIES).collect();
         assert!(counted.never().is_empty());
         let line = &lines()[7];
         counted.counts.insert(line.clone(), 0);

@@ -2,10 +2,11 @@
 
 use ours::Answer;
 use reading::saved::{Fault, length, read, save, write};
-use reading::table::{ENTRIES, Entry, SIZE, entries, place, to_bytes};
+use reading::table::{ENTRIES, Entry, SIGNED, SIZE, UNSIGNED, entries, is_mark, place, to_bytes};
 
 use crate::call::{Call, restores, saves};
-use crate::made::{laid_out, offsets};
+use crate::counted::is_old;
+use crate::made::Form;
 use crate::server::Server;
 
 /// What it makes of a call.
@@ -20,18 +21,22 @@ impl Server for Fake {
 type Wrong = fn(&Call) -> Answer;
 
 /// With the function in which each is wrong.
-pub const ALL: [(&str, Wrong); 11] = [
+pub const ALL: [(&str, Wrong); 15] = [
     ("restore", keeps_last_reports),
     ("restore", any_offsets),
     ("restore", leaves_the_old_table),
     ("restore", passes_over_the_rest),
     ("restore", over_a_table_alone),
     ("restore", one_more),
+    ("restore", old_as_unsigned),
+    ("restore", no_old_forms),
+    ("restore", keeps_any_mark),
     ("save", saves_what_is_cleared),
     ("save", saves_a_key_twice),
     ("save", leaves_bytes),
     ("save", room_first),
     ("save", clears_reports),
+    ("save", without_marks),
 ];
 
 /// A restore that leaves `entries`, where the bytes are a table's length.
@@ -70,8 +75,12 @@ fn any_offsets(call: &Call) -> Answer {
 fn put_right(saved: &[u8]) -> Vec<u8> {
     let mut form = saved.to_vec();
     let count = usize::from(form.first().copied().unwrap_or(0));
-    if form.len() == length(count) && count <= ENTRIES {
-        for (place, offset) in offsets(count).into_iter().enumerate() {
+    let which = match is_old(&form) {
+        true => Form::Unmarked,
+        false => Form::Marked,
+    };
+    if form.len() == 1 + (6 + which.body()) * count && count <= ENTRIES {
+        for (place, offset) in which.offsets(count).into_iter().enumerate() {
             form[6 * place + 5..6 * place + 7].copy_from_slice(&offset.to_le_bytes());
         }
     }
@@ -96,7 +105,7 @@ fn saves_with(call: &Call, fault: Fault) -> Answer {
         && write(&held) == Err(fault)
         && *room >= length(held.len())
     {
-        let reply = laid_out(&held, &offsets(held.len()));
+        let reply = Form::Marked.of(&held);
         let number = 0;
         return saves(table, &reading::commands::Answer { number, reply }, *room);
     }
@@ -159,7 +168,7 @@ fn one_more(call: &Call) -> Answer {
     match call {
         Call::Restore { table, saved } if saved.len() == length(17) && saved[0] == 17 => {
             let (contents, bodies) = saved[1..].split_at(6 * 17);
-            let form = [&[16], &contents[..6 * 16], &bodies[..12 * 16]].concat();
+            let form = [&[16], &contents[..6 * 16], &bodies[..13 * 16]].concat();
             restored(table, saved, read(&put_right(&form)).ok())
         }
         _ => call.document(),
@@ -177,4 +186,62 @@ fn clears_reports(call: &Call) -> Answer {
         left = to_bytes(&held);
     }
     saves(&left, &save(table, *room), *room)
+}
+
+/// A restore that reads a form without marks as unsigned.
+fn old_as_unsigned(call: &Call) -> Answer {
+    let Call::Restore { table, saved } = call else {
+        return call.document();
+    };
+    let mut entries = read(saved).ok();
+    if is_old(saved) {
+        for entry in entries.iter_mut().flatten() {
+            entry.config.mark = UNSIGNED;
+        }
+    }
+    restored(table, saved, entries)
+}
+
+/// A restore that knows only the form with marks.
+fn no_old_forms(call: &Call) -> Answer {
+    match call {
+        Call::Restore { table, saved } if is_old(saved) => restored(table, saved, None),
+        _ => call.document(),
+    }
+}
+
+/// A restore that takes any byte for a mark, a 2 too, and keeps it.
+fn keeps_any_mark(call: &Call) -> Answer {
+    let Call::Restore { table, saved } = call else {
+        return call.document();
+    };
+    if read(saved) != Err(Fault::Mark) {
+        return call.document();
+    }
+    let bodies = 1 + 6 * usize::from(saved[0]);
+    let mut form = saved.clone();
+    let mut marks = Vec::new();
+    for mark in form[bodies..].iter_mut().skip(12).step_by(13) {
+        marks.push(*mark);
+        if !is_mark(*mark) {
+            *mark = SIGNED;
+        }
+    }
+    let mut entries = read(&form).ok();
+    for (entry, mark) in entries.iter_mut().flatten().zip(marks) {
+        entry.config.mark = mark;
+    }
+    restored(table, saved, entries)
+}
+
+/// A save that writes the form that there was before.
+fn without_marks(call: &Call) -> Answer {
+    if let Call::Save { table, room } = call
+        && save(table, *room).number == 0
+    {
+        let reply = Form::Unmarked.of(&entries(table).expect("it is saved"));
+        let number = 0;
+        return saves(table, &reading::commands::Answer { number, reply }, *room);
+    }
+    call.document()
 }

@@ -1,12 +1,12 @@
-//! Bytes that are restored: forms with every damage of one byte, and any bytes
-//! that look like a form.
+//! Bytes that are restored: forms with marks and without, with every damage of one
+//! byte, and any bytes that look like a form.
 
 use cases::Random;
-use reading::saved::{length, write};
+use reading::saved::{length, old_length};
 use reading::table::{ENTRIES, Entry, SIZE, to_bytes};
 
 use crate::compared::Compared;
-use crate::made::{self, Intervals, laid_out, offsets};
+use crate::made::{self, Form, Intervals};
 use crate::round_trip::restore_and_save;
 use crate::server::Server;
 
@@ -23,10 +23,12 @@ pub fn compare_damaged(
 ) -> Result<(), String> {
     let before = full(random);
     for many in DAMAGED {
-        let form = write(&made::table(random, many, Intervals::Sound)).expect("it has one");
-        restore_and_save(compared, &before, &form)?;
-        for damaged in damaged(&form) {
-            restore_and_save(compared, &before, &damaged)?;
+        let entries = made::table(random, many, Intervals::Sound);
+        for form in Form::BOTH.map(|form| form.of(&entries)) {
+            restore_and_save(compared, &before, &form)?;
+            for damaged in damaged(&form) {
+                restore_and_save(compared, &before, &damaged)?;
+            }
         }
     }
     Ok(())
@@ -46,9 +48,9 @@ fn full(random: &mut Random) -> Vec<u8> {
 fn damaged(form: &[u8]) -> Vec<Vec<u8>> {
     let cut = (0..form.len()).map(|at| form[..at].to_vec());
     let byte_behind = (0..=0xff).map(|byte| [form, &[byte]].concat());
-    // 18 bytes are those of an entry more; the last two are lost in a length of
-    // one byte or of two
-    let lengths = [2, 6, 12, 17, 18, 19, 36, length(ENTRIES), 1 << 8, 1 << 16];
+    // 19 bytes are those of an entry more, 18 without a mark; the last two are
+    // lost in a length of one byte or of two
+    let lengths = [2, 6, 12, 13, 18, 19, 38, length(ENTRIES), 1 << 8, 1 << 16];
     let behind = lengths
         .into_iter()
         .flat_map(|length| [0, 0xff, 0xa5].map(|byte| [form, &vec![byte; length]].concat()));
@@ -106,11 +108,15 @@ fn any(random: &mut Random) -> Vec<u8> {
     if many >= 2 && random.one_in(4) {
         entries[random.below(many)].key = entries[random.below(many)].key;
     }
-    let mut offsets = offsets(many);
+    if many >= 1 && random.one_in(8) {
+        entries[random.below(many)].config.mark = random.of(&[2, 3, 0x80, 0xff]);
+    }
+    let form = random.of(&[Form::Marked, Form::Marked, Form::Unmarked]);
+    let mut offsets = form.offsets(many);
     if many >= 1 && random.one_in(4) {
         misplace(random, &mut offsets);
     }
-    let mut form = laid_out(&entries, &offsets);
+    let mut form = form.laid_out(&entries, &offsets);
     if random.one_in(8) {
         let other = random.below(2 * form.len());
         form.resize(other, random.of(&[0, 0xff]));
@@ -138,10 +144,13 @@ fn misplace(random: &mut Random, offsets: &mut [u16]) {
     match random.below(5) {
         0 => offsets.swap(one, other),
         1 => offsets[one] = offsets[other],
-        2 => offsets[one] = offsets[one].wrapping_add_signed(random.of(&[-1, 1, 12, -12, 256])),
+        2 => {
+            offsets[one] =
+                offsets[one].wrapping_add_signed(random.of(&[-1, 1, 12, -12, 13, -13, 256]))
+        }
         3 => offsets[one] = random.short(),
         _ => {
-            let by = random.of(&[-1, 1, 6, 12, -7]);
+            let by = random.of(&[-1, 1, 6, 12, 13, -7]);
             for offset in offsets {
                 *offset = offset.wrapping_add_signed(by);
             }
@@ -151,7 +160,8 @@ fn misplace(random: &mut Random, offsets: &mut [u16]) {
 
 /// Bytes without any order, but for their length and, mostly, the count.
 fn noise(random: &mut Random, many: usize) -> Vec<u8> {
-    let mut bytes = random.bytes(length(many));
+    let length = random.of(&[length, old_length])(many);
+    let mut bytes = random.bytes(length);
     if !random.one_in(4) {
         bytes[0] = many as u8;
     }
@@ -168,12 +178,14 @@ mod tests {
     fn every_damage_is_another_form() {
         let random = &mut Random::new(1);
         for many in DAMAGED {
-            let form = write(&made::table(random, many, Intervals::Sound)).expect("it has one");
-            let all = damaged(&form);
-            assert_eq!(all.len(), 256 * form.len() + 256 + 30);
-            let once: HashSet<&Vec<u8>> = all.iter().collect();
-            assert_eq!(once.len(), all.len());
-            assert!(!once.contains(&form));
+            let entries = made::table(random, many, Intervals::Sound);
+            for form in Form::BOTH.map(|form| form.of(&entries)) {
+                let all = damaged(&form);
+                assert_eq!(all.len(), 256 * form.len() + 256 + 30);
+                let once: HashSet<&Vec<u8>> = all.iter().collect();
+                assert_eq!(once.len(), all.len());
+                assert!(!once.contains(&form));
+            }
         }
     }
 }

@@ -1,7 +1,7 @@
 //! Random tables, as direct calls make them, and forms that no table has.
 
 use cases::Random;
-use reading::table::{Config, Entry, Key, clear, configure};
+use reading::table::{Config, Entry, Key, SIGNED, UNSIGNED, clear, configure};
 
 /// Some are others with their bytes, or cluster and attribute, exchanged: keys
 /// that are almost the same.
@@ -82,6 +82,7 @@ pub fn config(random: &mut Random, intervals: Intervals) -> Config {
             0 => random.number(),
             _ => random.of(&CHANGES),
         },
+        mark: random.of(&[SIGNED, UNSIGNED]),
     }
 }
 
@@ -116,35 +117,63 @@ fn odd(random: &mut Random) -> (u16, u16) {
     }
 }
 
-/// What these entries would have for a form if any entries had one, with these
-/// offsets.
-pub fn laid_out(entries: &[Entry], offsets: &[u16]) -> Vec<u8> {
-    let mut form = vec![entries.len() as u8];
-    for (entry, offset) in entries.iter().zip(offsets) {
-        form.extend(entry.key.cluster.to_le_bytes());
-        form.extend(entry.key.attribute.to_le_bytes());
-        form.extend(offset.to_le_bytes());
-    }
-    for Entry { config, .. } in entries {
-        form.extend(config.minimum.to_le_bytes());
-        form.extend(config.maximum.to_le_bytes());
-        form.extend(config.change.to_le_bytes());
-    }
-    form
+/// Whether a form has marks.
+#[derive(Debug, Clone, Copy, PartialEq, Eq)]
+pub enum Form {
+    Marked,
+    /// As it was written before request 6.
+    Unmarked,
 }
 
-/// The offsets that follow on.
-pub fn offsets(entries: usize) -> Vec<u16> {
-    let first = 1 + 6 * entries;
-    (0..entries)
-        .map(|place| (first + 12 * place) as u16)
-        .collect()
+impl Form {
+    pub const BOTH: [Self; 2] = [Self::Marked, Self::Unmarked];
+
+    /// The bytes of a body.
+    pub fn body(self) -> usize {
+        match self {
+            Self::Marked => 13,
+            Self::Unmarked => 12,
+        }
+    }
+
+    /// The form of these entries that follows on.
+    pub fn of(self, entries: &[Entry]) -> Vec<u8> {
+        self.laid_out(entries, &self.offsets(entries.len()))
+    }
+
+    /// What these entries would have for a form if any entries had one, with
+    /// these offsets.
+    pub fn laid_out(self, entries: &[Entry], offsets: &[u16]) -> Vec<u8> {
+        let mut form = vec![entries.len() as u8];
+        for (entry, offset) in entries.iter().zip(offsets) {
+            form.extend(entry.key.cluster.to_le_bytes());
+            form.extend(entry.key.attribute.to_le_bytes());
+            form.extend(offset.to_le_bytes());
+        }
+        for Entry { config, .. } in entries {
+            form.extend(config.minimum.to_le_bytes());
+            form.extend(config.maximum.to_le_bytes());
+            form.extend(config.change.to_le_bytes());
+            if self == Self::Marked {
+                form.push(config.mark);
+            }
+        }
+        form
+    }
+
+    /// The offsets that follow on.
+    pub fn offsets(self, entries: usize) -> Vec<u16> {
+        let first = 1 + 6 * entries;
+        (0..entries)
+            .map(|place| (first + self.body() * place) as u16)
+            .collect()
+    }
 }
 
 #[cfg(test)]
 mod tests {
     use super::*;
-    use reading::saved::write;
+    use reading::saved::{length, old_length, write};
 
     #[test]
     fn sound_tables_have_a_form() {
@@ -153,8 +182,9 @@ mod tests {
             for _ in 0..100 {
                 let entries = table(random, many, Intervals::Sound);
                 assert_eq!(entries.len(), many);
-                let form = laid_out(&entries, &offsets(many));
-                assert_eq!(write(&entries), Ok(form));
+                assert_eq!(write(&entries), Ok(Form::Marked.of(&entries)));
+                assert_eq!(Form::Marked.of(&entries).len(), length(many));
+                assert_eq!(Form::Unmarked.of(&entries).len(), old_length(many));
             }
         }
     }

@@ -1,11 +1,13 @@
-//! Saves and restores reporting tables (document 02, request 5), by our archive
+//! Saves and restores reporting tables (document 02, requests 5 and 6), by our archive
 //! and by the reading of the documents, and compares after every call the number,
 //! the length and all bytes of buffer and table. The tables are random, as direct
 //! calls make them, and damaged; the forms are theirs, every damage of one byte
 //! of a few, and any bytes that look like one. Two runs make the same calls.
 //!
 //! What is restored is held to be the table that was saved without its last
-//! reports, and what is saved again to be the same bytes.
+//! reports, and what is saved again to be the same bytes. A form that was saved
+//! before there were marks is held to be read as signed, and to have marks of 0
+//! when it is saved again.
 //!
 //! It prints how often each kind of call came, and fails at the first
 //! disagreement, with its bytes, and where a kind never came.

@@ -3,11 +3,11 @@
 
 use cases::{Random, hex};
 use reading::saved::length;
-use reading::table::{ENTRIES, Entry, SIZE, to_bytes};
+use reading::table::{ENTRIES, Entry, SIGNED, SIZE, to_bytes};
 
 use crate::compared::Compared;
-use crate::counted::{READ_BACK, SAME_BYTES, reported};
-use crate::made::{self, Intervals};
+use crate::counted::{NEW_BYTES, READ_BACK, SAME_BYTES, is_old, reported};
+use crate::made::{self, Form, Intervals};
 use crate::server::Server;
 
 const TABLES: usize = 5000;
@@ -47,6 +47,27 @@ fn there_and_back(
         compared.restore(&random.bytes(length), &form)?;
         compared.restore(&vec![0; length], &form)?;
     }
+    as_before(compared, random, entries)
+}
+
+/// The form that these entries had before there were marks is read as signed.
+fn as_before(
+    compared: &mut Compared<'_, impl Server>,
+    random: &mut Random,
+    entries: &[Entry],
+) -> Result<(), String> {
+    let form = Form::Unmarked.of(entries);
+    let mut signed = entries.to_vec();
+    for entry in &mut signed {
+        entry.config.mark = SIGNED;
+    }
+    for before in [other(random), random.bytes(SIZE)] {
+        let left = restore_and_save(compared, &before, &form)?;
+        if left != Some(unreported(&signed)) {
+            return Err(format!("it is not read as signed: {}", hex(&form)));
+        }
+    }
+    compared.restore(&random.bytes(SIZE - 1), &form)?;
     Ok(())
 }
 
@@ -69,7 +90,8 @@ fn other(random: &mut Random) -> Vec<u8> {
 }
 
 /// Restores these bytes and, where they are a saved form, saves the table again:
-/// the same bytes. Gives that table.
+/// the same bytes, or of a form without marks the one with marks of 0. Gives that
+/// table.
 pub fn restore_and_save(
     compared: &mut Compared<'_, impl Server>,
     before: &[u8],
@@ -79,10 +101,31 @@ pub fn restore_and_save(
     if number != 0 {
         return Ok(None);
     }
-    let again = compared.save(&table, form.len())?;
-    if again.as_deref() != Some(form) {
+    let (expected, line) = if is_old(form) {
+        (marked(form), NEW_BYTES)
+    } else {
+        (form.to_vec(), SAME_BYTES)
+    };
+    let again = compared.save(&table, expected.len())?;
+    if again != Some(expected) {
         return Err(format!("other bytes are written again: {}", hex(form)));
     }
-    compared.counted.count(SAME_BYTES);
+    compared.counted.count(line);
     Ok(Some(table))
+}
+
+/// A form without marks, with a 0 behind every body.
+fn marked(form: &[u8]) -> Vec<u8> {
+    let count = usize::from(form[0]);
+    let (contents, bodies) = form[1..].split_at(6 * count);
+    let mut marked = vec![form[0]];
+    for (content, offset) in contents.chunks(6).zip(Form::Marked.offsets(count)) {
+        marked.extend(&content[..4]);
+        marked.extend(offset.to_le_bytes());
+    }
+    for body in bodies.chunks(Form::Unmarked.body()) {
+        marked.extend(body);
+        marked.push(SIGNED);
+    }
+    marked
 }

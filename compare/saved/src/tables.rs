@@ -61,9 +61,10 @@ fn damaged(table: &[u8], random: &mut Random) -> Vec<Vec<u8>> {
     let mut all = Vec::new();
     if let Some(twice) = twice(table, random) {
         // no table at all, whatever is twice in it
-        let mut flag = twice.clone();
-        flag[1 + 16] = random.of(&[2, 0xff]);
-        all.extend([twice, flag]);
+        let [mut mark, mut flag] = [twice.clone(), twice.clone()];
+        mark[1 + 16] = random.of(&[2, 0xff]);
+        flag[1 + 17] = random.of(&[2, 0xff]);
+        all.extend([twice, mark, flag]);
     }
     for _ in 0..3 {
         let mut changed = table.to_vec();
@@ -92,17 +93,18 @@ fn twice(table: &[u8], random: &mut Random) -> Option<Vec<u8>> {
     Some(twice)
 }
 
-/// The count; a slot's intervals, flag, time or value; the slot past the count;
-/// or any.
+/// The count; a slot's intervals, mark, flag, time or value; the slot past the
+/// count; or any.
 fn place(table: &[u8], random: &mut Random) -> usize {
     let count = usize::from(table[0]);
     let slot = 1 + SLOT * random.below(count.max(1));
-    match random.below(6) {
+    match random.below(7) {
         0 => 0,
         1 => slot + 4 + random.below(4),
         2 => slot + 16,
-        3 => slot + 17 + random.below(12),
-        4 if count < ENTRIES => 1 + SLOT * count + random.below(SLOT),
+        3 => slot + 17,
+        4 => slot + 18 + random.below(12),
+        5 if count < ENTRIES => 1 + SLOT * count + random.below(SLOT),
         _ => random.below(SIZE),
     }
 }

@@ -1,7 +1,7 @@
 //! Both sides make a row's calls, and all that can be seen of each is compared,
 //! before anything is timed.
 
-use cases::{hex, shown};
+use cases::{hex, shown, unmarked};
 use reading::table::{Entry, to_bytes};
 
 use crate::calls::ROOM;
@@ -73,9 +73,9 @@ fn seen(row: &Row, at: usize, side: &mut impl Side) -> Result<Seen, String> {
 }
 
 /// The first that differs. Behind the frame it is the new one that document 01
-/// has leave zeros.
+/// has leave zeros, and of the tables the old one has no marks.
 fn difference(row: &Row, old: &Seen, new: &Seen) -> Option<String> {
-    let table = |seen: &Seen| shown(&to_bytes(&seen.table));
+    let table = |seen: &Seen| shown(&to_bytes(&unmarked(&seen.table)));
     let each = [
         (
             "answer",

@@ -2,7 +2,7 @@
 
 use reading::change_width;
 use reading::store::{Attribute, attributes};
-use reading::table::{Config, Entry, Key};
+use reading::table::{Config, Entry, Key, SIGNED, UNSIGNED};
 
 use crate::calls::{Ask, Calls, Report, Request};
 use crate::frames::{
@@ -70,12 +70,14 @@ fn configured(some: &[Attribute]) -> Vec<Entry> {
 
 fn entry(attribute: &Attribute) -> Entry {
     let is_discrete = change_width(attribute.type_code) == 0;
+    let is_int = matches!(attribute.type_code, 0x28..=0x2f);
     Entry {
         key: key(attribute.id),
         config: Config {
             minimum: MINIMUM,
             maximum: MAXIMUM,
             change: if is_discrete { 0 } else { CHANGE },
+            mark: if is_int { SIGNED } else { UNSIGNED },
         },
         last: None,
     }
@@ -97,6 +99,7 @@ fn over_table() -> Vec<Row> {
                 minimum: MINIMUM,
                 maximum: MAXIMUM,
                 change: CHANGE,
+                mark: SIGNED,
             },
             last: (attribute % 2 == 0).then_some((100, -200)),
         })

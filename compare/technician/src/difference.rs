@@ -2,11 +2,12 @@
 
 use std::fmt;
 
-use cases::{Seen, hex, shown};
+use cases::{Seen, hex, shown, unmarked};
 use oracle::Outcome;
-use reading::table::to_bytes;
+use reading::table::{entries, to_bytes};
 
 /// What a side says and leaves.
+#[derive(Clone)]
 pub struct Side {
     name: &'static str,
     /// The old one has none.
@@ -39,6 +40,15 @@ impl Side {
             store: outcome.store.clone(),
             table: to_bytes(&outcome.table),
         }
+    }
+
+    /// With a table as the old one has it, which knows no marks.
+    pub fn unmarked(&self) -> Self {
+        let mut side = self.clone();
+        if let Ok(entries) = entries(&side.table) {
+            side.table = to_bytes(&unmarked(&entries));
+        }
+        side
     }
 }
 
@@ -150,10 +160,10 @@ mod tests {
     #[test]
     fn a_table() {
         let mut new = side("new", None, &[]);
-        new.table[464] = 1;
+        new.table[480] = 1;
         assert_eq!(
             between(side("old", None, &[]), new),
-            "table, byte 464: old 00, new 01"
+            "table, byte 480: old 00, new 01"
         );
     }
 

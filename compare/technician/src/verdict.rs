@@ -55,7 +55,10 @@ impl Ran {
         }
         let Ok(new) = &new else { return text };
         // where old and new are alike, both have left document 01
-        let against_old = old.as_ref().ok().and_then(|old| first(old, new));
+        let against_old = old
+            .as_ref()
+            .ok()
+            .and_then(|old| first(old, &new.unmarked()));
         let difference = against_old.or_else(|| {
             text += &document.to_string();
             first(&document, new)
@@ -141,6 +144,31 @@ mod tests {
         let mut wrong = ran(&bench(), "002a0000");
         wrong.new.as_mut().expect("an answer").number = 5;
         says(&wrong, "first difference: the number: document 01 4, new 5");
+    }
+
+    /// The old one has no marks: the level's, a Uint8, is held to document 02.
+    #[test]
+    fn another_mark() {
+        let store = {
+            let mut store = bench();
+            store[4 + 8 + 3] |= 2; // it can be reported
+            store
+        };
+        let configure = "002d06000100200a003c0001";
+        let right = ran(&store, configure);
+        let seen = right.new.as_ref().expect("an answer");
+        assert_eq!((seen.table[0], seen.table[17]), (1, 1));
+        assert_eq!(right.verdict(), Verdict::Equal);
+        let mut wrong = ran(&store, configure);
+        wrong.new.as_mut().expect("an answer").table[17] = 0;
+        says(
+            &wrong,
+            "first difference: table, byte 17: document 01 01, new 00",
+        );
+        // another difference is named, and not the mark
+        let mut wrong = ran(&store, configure);
+        wrong.new.as_mut().expect("an answer").table[18] = 1;
+        says(&wrong, "first difference: table, byte 18: old 00, new 01");
     }
 
     #[test]

@@ -19,6 +19,7 @@ use Rattle.types.proofs.Follows.{Within, before-more, after-more, unsigned-with
 use Rattle.frame.specs.Walk.{item, done, recordsFrom, joined}
 use Rattle.frame.proofs.Walks.{shifted, append-records}
 use Rattle.frame.specs.Sized.{upTo}
+use Rattle.reporting.specs.Due.{comparesUnsigned}
 use Rattle.configure.specs.Request.{ConfigureRecord, received, reported, widthBy, changeWidth, configAt, configureAt, configures}
 use Rattle.configure.proofs.Items.{up-to-in, up-to-past, up-to-is, hereAt, sizeAt, isReported, record-at, record-within, ahead}
 
@@ -53,7 +54,7 @@ module _ (k : ℕ) (s l : List ℕ) (w : Within k s l) where
       let high : unsignedAt l (k + p + 4 + 2) 2 ≡ unsignedAt s (p + 4 + 2) 2 = ap (λ (i : ℕ). unsignedAt l i 2) (ap (λ (i : ℕ). i + 2) (add-assoc k p 4)) ∙ number-within (p + 4) 2 (omega arith) in
       let same : cond (isAnalog t) (changeAt l (k + p + 4 + 4) t) 0 ≡ cond (isAnalog t) (changeAt s (p + 4 + 4) t) 0 =
       ap (λ (i : ℕ). cond (isAnalog t) (changeAt l i t) 0) (add-assoc (k + p) 4 4 ∙ add-assoc k p 8 ∙ ap (λ (i : ℕ). k + i) (sym (add-assoc p 4 4))) ∙ change-within t (p + 4 + 4) (omega arith) in
-      λ i. record { «min_interval» = low i; «max_interval» = high i; «reportable_change» = same i }
+      λ i. record { «min_interval» = low i; «max_interval» = high i; «reportable_change» = same i; unsigned = comparesUnsigned t }
 
   -- a record that lies within the part
   here-within : (b : Bool) (p : ℕ) → p + sizeAt b s p ≤ length s → hereAt b l (k + p) ≡ hereAt b s p

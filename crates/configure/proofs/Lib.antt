@@ -8,6 +8,7 @@ pub mod History  -- a frame is its events
 pub mod Append  -- the records of one request and then another
 pub mod Coded  -- of a header only the manufacturer code counts
 pub mod Limits  -- a frame under two limits
+pub mod Marks  -- which requests the mark concerns
 pub mod WorkedConfigure  -- frames that compute
 -- Read Reporting Configuration
 pub mod Asked  -- what a request asks for

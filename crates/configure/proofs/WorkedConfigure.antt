@@ -1,5 +1,6 @@
 -- Frames that a reader can check by hand, as one list under one claim: antt computes both sides. Assumes nothing.
 use mathlib.Core.Path.{_≡_, refl}
+use mathlib.Core.Bool.{false}
 use mathlib.Core.List.{List, [], _∷_}
 use Prim.Native.Nat.{ℕ}
 use Rattle.types.specs.Number.{le, unsignedAt, signedAt, signedOf, bytesOf}
@@ -35,8 +36,9 @@ request = record { «frame_control» = record { 0 = 0 }; «manufacturer_code» =
 abbrev five : Key
 five = record { cluster = record { 0 = 0xfc21 }; attribute = record { 0 = 5 } }
 
+-- an Int16's: it compares with a sign
 abbrev setTo : ℕ → ℕ → ℕ → ReportingConfig
-setTo min max change = record { «min_interval» = min; «max_interval» = max; «reportable_change» = change }
+setTo min max change = record { «min_interval» = min; «max_interval» = max; «reportable_change» = change; unsigned = false }
 
 -- a body, what comes of it in an empty table, the buffer having 16 bytes, and the events
 record Case : Type 0 where

@@ -1,6 +1,6 @@
 -- Definitions. Read Reporting Configuration (document 01, "Commands, step by step", Read configuration; ZCL 2.5.9, 2.5.10).
 use Prim.Native.Nat.{ℕ, _*_, _%_, _^_}
-use mathlib.Core.Bool.{cond}
+use mathlib.Core.Bool.{false, cond}
 use mathlib.Core.List.{List, _∷_, _++_}
 use mathlib.Core.Option.{Option, none, some}
 use lib.Dec.{eqb}
@@ -37,13 +37,14 @@ encode (failure why direction id) = why ∷ direction ∷ bytesOf 2 id
 
 -- ---- one that was asked
 
--- what is sent of a configuration beside a type: its change cut to the width that the type has, to 0 where there is no change field
+-- what is sent of a configuration beside a type: its change cut to the width that the type has, to 0 where there is no change field; a frame has no field for the mark
 abbrev pub sentAs : ℕ → ReportingConfig → ReportingConfig
 sentAs t g =
     record {
       «min_interval» = g .«min_interval»;
       «max_interval» = g .«max_interval»;
       «reportable_change» = g .«reportable_change» % 2 ^ (8 * changeWidth t);
+      unsigned = false;
     }
 
 -- no entry 8b

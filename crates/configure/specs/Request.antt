@@ -15,6 +15,7 @@ use Rattle.frame.specs.declared.header.ZclHeader.{ZclHeader}
 use Rattle.store.specs.Contents.{clusterOf}
 use Rattle.reporting.specs.declared.entry.Key.{Key}
 use Rattle.reporting.specs.declared.entry.ReportingConfig.{ReportingConfig}
+use Rattle.reporting.specs.Due.{comparesUnsigned}
 
 -- ---- the change field
 
@@ -34,13 +35,14 @@ pub data ConfigureRecord : Type 0 where
   -- direction 0: id, type (1), and minimum (2), maximum (2), change
   reported : ℕ → ℕ → ReportingConfig → ConfigureRecord
 
--- minimum, maximum and change behind a type t at p
+-- minimum, maximum and change behind a type t at p; the mark is the type's: "signed (0, the Int types) or unsigned (1, all others)"
 abbrev pub configAt : List ℕ → ℕ → ℕ → ReportingConfig
 configAt body p t =
     record {
       «min_interval» = unsignedAt body p 2;
       «max_interval» = unsignedAt body (p + 2) 2;
       «reportable_change» = cond (isAnalog t) (changeAt body (p + 4) t) 0;
+      unsigned = comparesUnsigned t;
     }
 
 unfoldable pub configureAt : List ℕ → ℕ → Item ConfigureRecord

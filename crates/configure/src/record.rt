@@ -31,7 +31,7 @@ pub(crate) enum Next {
     Cut,
 }
 
-// Minimum, maximum and change at `at`, behind a type. Not public: the four bytes of the intervals must be there.
+// Minimum, maximum and change at `at`, behind a type, and the type's mark. Not public: the four bytes of the intervals must be there.
 fn config_at(body: &[u8], at: usize, type_id: TypeId) -> ReportingConfig
     requires { ⌜ at + 4 ≤ length (now body) ⌝ }
     ensures { λ r. ⌜ r ≡ configAt (now (body .entry)) at («type_id» .0) ⌝ }
@@ -40,6 +40,7 @@ fn config_at(body: &[u8], at: usize, type_id: TypeId) -> ReportingConfig
         min_interval: u16_at(body, at),
         max_interval: u16_at(body, at + 2),
         reportable_change: change_of(body, at + 4, type_id),
+        unsigned: !type_id.is_signed(),
     }
 }
 

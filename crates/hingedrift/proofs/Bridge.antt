@@ -1,29 +1,32 @@
 -- From what the functions of crate `reporting` ensure to what the functions towards C leave. Assumes nothing.
-use Prim.Native.Nat.{ℕ}
+use Prim.Native.Nat.{ℕ, _≤_, _<_}
 use mathlib.Core.Path.{_≡_, refl, sym, ap, _∙_}
-use mathlib.Core.Bool.{Bool}
+use mathlib.Core.Bool.{Bool, true, false, cond, _&&_}
 use mathlib.Core.List.{List, [], _∷_}
 use lib.ListN.{length}
 use lib.IntN.{ℤ}
-use borrow.Author.Tests.{eq-eqb, ne-eqb}
+use borrow.Author.Tests.{eq-eqb, ne-eqb, le-ltb, lt-ltb}
 use types.Run.{OneOf, miss}
 use denote.Enum.Declared.{tagOf}
-use Rattle.types.specs.Number.{zeros}
+use lib.Dec.{ltb}
+use Rattle.types.specs.Number.{AllBytes, zeros}
 use Rattle.frame.specs.Answer.{refusalNumber}
-use Rattle.frame.specs.declared.answer.Refusal.the-variants.{NotATable}
+use Rattle.frame.specs.declared.answer.Refusal.the-variants.{NotATable, NotASavedForm}
 use Rattle.reporting.specs.declared.entry.Key.{Key}
 use Rattle.reporting.specs.declared.entry.ReportingConfig.{ReportingConfig}
 use Rattle.reporting.specs.declared.table.Change.{Change}
 use Rattle.reporting.specs.declared.table.Change.the-variants as ChangeV
 use Rattle.reporting.specs.declared.table.Report.{Report}
 use Rattle.reporting.specs.declared.table.Setting.{Setting}
-use Rattle.reporting.specs.Table.{changeTold, ReportTold, reportTold, SettingTold, settingTold}
-use Rattle.reporting.specs.Carried.{Written, written, tableLength}
+use Rattle.reporting.specs.Table.{capacity, changeTold, ReportTold, reportTold, SettingTold, settingTold}
+use Rattle.reporting.specs.Carried.{isTable, tableIn, Written, written, tableLength}
 use Rattle.reporting.specs.Lent.{askLent, configurationLent, markLent, clearLent, ChangeLeft, leftAs, configureLent, tableNumber}
+use Rattle.reporting.specs.Inside.{keptAs, configureIn}
+use Rattle.reporting.proofs.Lending.{configure-refused, configure-known}
 use Rattle.reporting.proofs.table.Change as change
 use Rattle.reporting.proofs.CarriageLoops.{empty-bytes}
 use Rattle.saved.specs.Lent.{restoreLent}
-use Rattle.hingedrift.specs.Tables.{bit, left, noResult, newLeft, configureLeft, clearLeft, markLeft, askLeft, configurationBy, configurationLeft}
+use Rattle.hingedrift.specs.Tables.{bit, left, noResult, Left, newLeft, configureLeft, clearLeft, markLeft, askLeft, configurationBy, configurationLeft}
 use Rattle.hingedrift.specs.Saving.{restoreLeft}
 
 -- hd_table_new
@@ -50,10 +53,30 @@ pub found-so : {bs : List ℕ} {k k′ : Key} {r a : Setting} → settingTold r 
 found-so {bs} p key e =
     ap (λ (x : SettingTold). left (x .number) bs (configurationBy (x .found) (x .configuration))) (ap settingTold (sym e) ∙ p ∙ (λ i. configurationLent (key i) bs))
 
-pub configured-so : (bs : List ℕ) (g : ReportingConfig) {bs′ : List ℕ} {k k′ : Key} {r a : Change} → leftAs r bs′ ≡ configureLent k′ g bs → k′ ≡ k → r ≡ a
-    → left (changeTold a .number) bs′ (bit (changeTold a .accepted)) ≡ configureLeft bs k g
-configured-so bs g {bs′} p key e =
-    ap (λ (x : ChangeLeft). left (x .told .number) (x .bytes) (bit (x .told .accepted))) (ap (λ (x : Change). leftAs x bs′) (sym e) ∙ p ∙ (λ i. configureLent (key i) g bs))
+-- hd_configure: what is left, by whether the bytes are a table and whether the mark is above 1
+abbrev pub configureBy : List ℕ → Bool → Bool → ChangeLeft → Left ℕ
+configureBy bs known large x = cond (known && large) (left (refusalNumber NotASavedForm) bs 0) (left (x .told .number) (x .bytes) (bit (x .told .accepted)))
+
+module _ (bs : List ℕ) (k : Key) (g : ReportingConfig) (m : ℕ) where
+  by : (a b : Bool) → isTable capacity bs ≡ a → ltb 1 m ≡ b → configureBy bs a b (configureLent k g bs) ≡ configureLeft bs k g m
+  by a b p q = λ i. configureBy bs (sym p i) (sym q i) (configureLent k g bs)
+
+  pub configure-no-table : (n : ℕ) → isTable capacity bs ≡ false → n ≡ refusalNumber NotATable → left n bs 0 ≡ configureLeft bs k g m
+  configure-no-table n h e =
+      ap (λ (x : ℕ). left x bs 0) e
+      ∙ ap (λ (x : ChangeLeft). left (x .told .number) (x .bytes) (bit (x .told .accepted))) (configure-refused bs k g h)
+      ∙ by false (ltb 1 m) h refl
+
+  pub configure-no-mark : (n : ℕ) → isTable capacity bs ≡ true → 1 < m → n ≡ refusalNumber NotASavedForm → left n bs 0 ≡ configureLeft bs k g m
+  configure-no-mark n h large e = ap (λ (x : ℕ). left x bs 0) e ∙ by true true h (lt-ltb 1 m large)
+
+  -- the answer a that the table's own function gave, and the bytes that it left
+  pub configured-so : isTable capacity bs ≡ true → m ≤ 1 → (k′ : Key) → k′ ≡ k → (r a : Change) (bs′ : List ℕ) → AllBytes bs′ → keptAs r bs′ ≡ configureIn k′ g (tableIn bs) → r ≡ a
+      → left (changeTold a .number) bs′ (bit (changeTold a .accepted)) ≡ configureLeft bs k g m
+  configured-so h small k′ key r a bs′ bytes p e =
+      ap (λ (x : Change). left (changeTold x .number) bs′ (bit (changeTold x .accepted))) (sym e)
+      ∙ ap (λ (x : ChangeLeft). left (x .told .number) (x .bytes) (bit (x .told .accepted))) (configure-known bs h k′ g r bs′ bytes p ∙ (λ i. configureLent (key i) g bs))
+      ∙ by true false h (le-ltb 1 m small)
 
 -- hd_restore: by the number that its answer tells
 pub restored-so : (was form bs : List ℕ) (r : Change) → leftAs r bs ≡ restoreLent form was → (n : ℕ) → n ≡ changeTold r .number → left n bs noResult ≡ restoreLeft was form

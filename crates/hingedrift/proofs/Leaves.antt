@@ -33,7 +33,8 @@ use Rattle.server.proofs.Stays.{store-stays}
 use Rattle.server.proofs.Fitting.{request-fits}
 use Rattle.server.proofs.Histories.{request-is, request-holds}
 use Rattle.hingedrift.specs.Serving.{isUnicast, handleLeft}
-use Rattle.hingedrift.specs.Claims.Left.{HdHandleRequestClears, HdHandleRequestThenZeros, HdHandleRequestLength, HdHandleRequestStarts, HdUntouched, HdNoTableStays, HdStoreStays, HdTableStays, HdUnsupportedClusterClears, HdUnsupportedClusterThenZeros, HdUnsupportedClusterLength, HdUnsupportedClusterStarts, HdReportClears, HdReportThenZeros, HdReportLength, HdReportStarts}
+use Rattle.hingedrift.specs.Claims.Left.{HdHandleRequestClears, HdHandleRequestThenZeros, HdHandleRequestLength, HdHandleRequestStarts, HdUntouched, HdNoTableStays, HdStoreStays, HdTableStays, HdUnsupportedClusterClears, HdUnsupportedClusterThenZeros, HdUnsupportedClusterLength, HdUnsupportedClusterStarts, HdReportClears, HdReportThenZeros, HdReportLength, HdReportStarts, HdConfigureNoTable, HdConfigureNoMark}
+use Rattle.hingedrift.proofs.Bridge.{configure-no-table, configure-no-mark}
 use Rattle.hingedrift.proofs.Kept.{run-keeps}
 
 -- ---- hd_handle_request
@@ -153,3 +154,11 @@ hd-report-length s sequence ids size = report-length 8 s sequence ids size
 
 pub hd-report-starts : HdReportStarts
 hd-report-starts s sequence ids size = reports-start 8 s sequence ids size
+
+-- ---- hd_configure
+
+pub hd-configure-no-table : HdConfigureNoTable
+hd-configure-no-table bs k g mark h = sym (configure-no-table bs k g mark _ h refl)
+
+pub hd-configure-no-mark : HdConfigureNoMark
+hd-configure-no-mark bs k g mark h large = sym (configure-no-mark bs k g mark _ h large refl)

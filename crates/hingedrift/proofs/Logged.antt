@@ -6,7 +6,7 @@ use mathlib.Core.List.{List, [], _∷_, _++_, map}
 use Prim.Native.Nat.{ℕ}
 use native.Mathlib.Omega.{arith}
 use lib.ListN.{length}
-use lib.Dec.{eqb}
+use lib.Dec.{ltb, eqb}
 use borrow.Author.Tests.{eq-eqb}
 use Rattle.types.specs.Number.{AllBytes}
 use Rattle.frame.specs.declared.answer.Refusal.the-variants.{NotAStore, NotATable, NotASavedForm}
@@ -26,17 +26,18 @@ use Rattle.reporting.proofs.CarriageTable.{length-table, table-is, table-back}
 use Rattle.reporting.proofs.Histories as direct-call
 use Rattle.reporting.proofs.Kept.{Kept}
 use Rattle.reporting.proofs.Lending.{fresh-clean}
-use Rattle.saved.specs.Saved.{plain, savedIn, isSaved}
+use Rattle.saved.specs.Saved.{savedIn, isSaved, formIn}
 use Rattle.saved.specs.Lent.{restoreLent}
 use Rattle.saved.specs.Claims.Demand3.{taken}
 use Rattle.saved.proofs.Demand3.{read-is-call}
-use Rattle.saved.proofs.Widths.{saved-clean}
+use Rattle.saved.proofs.Widths.{own-clean}
 use Rattle.server.specs.Serve.{serve}
 use Rattle.server.specs.Claims.History.{requested, requestEvents, Use, direct, used, useEvents, uses, usesEvents}
 use Rattle.server.specs.Claims.History as History
 use Rattle.server.proofs.Fitting.{AllFit, fit-append, fit-either, request-fits}
 use Rattle.server.proofs.Frames.{demand-3-of-frames, demand-3-of-frames-restored}
 use Rattle.server.proofs.Histories.{request-is, request-holds}
+use Rattle.hingedrift.proofs.Bridge.{configureBy}
 use Rattle.hingedrift.specs.Tables.{bit, Left, left, noResult, newLeft}
 use Rattle.server.specs.Lent.{Lent, lent, carried, serveLent}
 use Rattle.hingedrift.specs.Serving.{isUnicast, handleLeft}
@@ -91,25 +92,25 @@ bit-back false = refl
 -- of bytes that are a saved form, or not, over bytes as long as a table's
 record ReadIn (form : List ℕ) (is : Bool) (number : ℕ) (table : List ℕ) : Type 0 where
   saved : is ≡ eqb number 0
-  bytes : table ≡ tableBytes capacity (cond is (savedIn plain form) [])
+  bytes : table ≡ tableBytes capacity (cond is (savedIn (formIn form) form) [])
 
 module _ (was form : List ℕ) (number : ℕ) (table : List ℕ) (p : left number table noResult ≡ restoreLeft was form) where
   -- by the two tests of the definition
   abbrev Said : Bool → Bool → ChangeLeft
   Said size is =
       cond size
-      (cond is (leftAs ChangeV.Done (tableBytes capacity (savedIn plain form))) (leftAs (ChangeV.Refused NotASavedForm) (tableBytes capacity [])))
+      (cond is (leftAs ChangeV.Done (tableBytes capacity (savedIn (formIn form) form))) (leftAs (ChangeV.Refused NotASavedForm) (tableBytes capacity [])))
       (leftAs (ChangeV.Refused NotATable) was)
 
   abbrev IsSaid : Bool → Bool → Type 0
   IsSaid size is = left number table noResult ≡ left (Said size is .told .number) (Said size is .bytes) noResult
 
-  is-said : IsSaid (sizeOk capacity was) (isSaved plain capacity form)
+  is-said : IsSaid (sizeOk capacity was) (isSaved (formIn form) capacity form)
   unfolding restoreLent
   is-said = p
 
-  read-in : sizeOk capacity was ≡ true → ReadIn form (isSaved plain capacity form) number table
-  read-in size = go (isSaved plain capacity form) (subst (λ (b : Bool). IsSaid b (isSaved plain capacity form)) size is-said)
+  read-in : sizeOk capacity was ≡ true → ReadIn form (isSaved (formIn form) capacity form) number table
+  read-in size = go (isSaved (formIn form) capacity form) (subst (λ (b : Bool). IsSaid b (isSaved (formIn form) capacity form)) size is-said)
     where
       go : (is : Bool) → IsSaid true is → ReadIn form is number table
       go true q = record { saved = ap (λ (x : Left (Unit {0})). eqb (x .number) 0) (sym q); bytes = ap (λ (x : Left (Unit {0})). x .table) q }
@@ -119,14 +120,14 @@ module _ (was form : List ℕ) (number : ℕ) (table : List ℕ) (p : left numbe
   read-sized : (number ≡ 8 → ⊥) → sizeOk capacity was ≡ true
   read-sized h = go (sizeOk capacity was) is-said
     where
-      go : (size : Bool) → IsSaid size (isSaved plain capacity form) → size ≡ true
+      go : (size : Bool) → IsSaid size (isSaved (formIn form) capacity form) → size ≡ true
       go true q = refl
       go false q = absurd (h (ap (λ (x : Left (Unit {0})). x .number) q))
 
 -- ---- a call is a use
 
 useOf : Made → Use
-useOf (configure a g number accepted table) = direct (Event.configure (keyAt a) (configAs g))
+useOf (configure a g number accepted table) = direct (cond (ltb 1 (g .mark)) Event.len (Event.configure (keyAt a) (configAs g)))
 useOf (clear a number table) = direct (Event.clear (keyAt a))
 useOf (mark a x number table) = direct (Event.mark (keyAt a) (x .now) (x .value))
 useOf (ask a x number due) = direct (Event.ask (keyAt a) (x .now) (x .value))
@@ -146,10 +147,10 @@ settings-fit (e ∷ l) h = (fresh-clean (e .key) (e .config) (h .0 .cluster) (h 
 
 -- what a read takes from bytes is within the widths
 taken-clean : (form : List ℕ) → AllBytes form → AllClean (taken capacity form)
-taken-clean form h = go (isSaved plain capacity form)
+taken-clean form h = go (isSaved (formIn form) capacity form)
   where
-    go : (b : Bool) → AllClean (cond b (savedIn plain form) [])
-    go true = saved-clean form h
+    go : (b : Bool) → AllClean (cond b (savedIn (formIn form) form) [])
+    go true = own-clean form h
     go false = tt
 
 read-fits : (form : List ℕ) (l : List Entry) → AllBytes form → AllFit (useEvents capacity (direct (Event.restore (taken capacity form))) l)
@@ -160,8 +161,11 @@ read-fits form l h =
 -- what it puts into the table fits the bytes
 use-fits : (c : Made) (l : List Entry) → Typed c → AllFit (useEvents capacity (useOf c) l)
 unfolding useOf
-use-fits (configure a g number accepted table) l d =
-    fit-either (acceptsL capacity (keyAt a) l) (configured (keyAt a) (configAs g) ∷ []) (fresh-clean (keyAt a) (configAs g) (d .0) (d .1) (d .2) (d .3) (d .4), tt)
+use-fits (configure a g number accepted table) l d = go (ltb 1 (g .mark))
+  where
+    go : (b : Bool) → AllFit (useEvents capacity (direct (cond b Event.len (Event.configure (keyAt a) (configAs g)))) l)
+    go true = tt
+    go false = fit-either (acceptsL capacity (keyAt a) l) (configured (keyAt a) (configAs g) ∷ []) (fresh-clean (keyAt a) (configAs g) (d .0) (d .1) (d .2) (d .3) (d .4), tt)
 use-fits (clear a number table) l d = (tt, tt)
 use-fits (mark a x number table) l d = (d, tt)
 use-fits (ask a x number due) l d = (tt, tt)
@@ -180,14 +184,21 @@ record Is (u : Use) (l : List Entry) (es : List Event) (bs : List ℕ) : Type 0 
 
 call-is : (c : Made) (bs : List ℕ) (l : List Entry) → Held bs l → Contract c bs → Is (useOf c) l (eventsOf c bs) (next c bs)
 unfolding useOf configureLent clearLent markLent askLent requested
-call-is (configure a g number accepted table) bs l h p =
-    let o = p ∙ ap (λ (x : ChangeLeft). left (x .told .number) (x .bytes) (bit (x .told .accepted))) (on-lent bs l h _ _) in
-    record {
-      events =
-          ap (λ (x : Left ℕ). cond (eqb (x .result) 1) (configured (keyAt a) (configAs g) ∷ []) []) o
-          ∙ ap (λ (b : Bool). cond b (configured (keyAt a) (configAs g) ∷ []) []) (accepted-back (acceptsL capacity (keyAt a) l));
-      table = ap (λ (x : Left ℕ). x .table) o;
-    }
+call-is (configure a g number accepted table) bs l h p = go (ltb 1 (g .mark)) (p ∙ ap (λ (t : Bool). configureBy bs t (ltb 1 (g .mark)) (configureLent (keyAt a) (configAs g) bs)) (is-one bs l h))
+  where
+    -- by whether the bytes are a table, and the mark: with any above 1 nothing is changed
+    go : (b : Bool) → left number table accepted ≡ configureBy bs true b (configureLent (keyAt a) (configAs g) bs)
+        → Is (direct (cond b Event.len (Event.configure (keyAt a) (configAs g)))) l (cond (eqb accepted 1) (configured (keyAt a) (configAs g) ∷ []) []) table
+    go true p =
+        record { events = ap (λ (x : Left ℕ). cond (eqb (x .result) 1) (configured (keyAt a) (configAs g) ∷ []) []) p; table = ap (λ (x : Left ℕ). x .table) p ∙ h .bytes }
+    go false p =
+        let o = p ∙ ap (λ (x : ChangeLeft). left (x .told .number) (x .bytes) (bit (x .told .accepted))) (on-lent bs l h _ _) in
+        record {
+          events =
+              ap (λ (x : Left ℕ). cond (eqb (x .result) 1) (configured (keyAt a) (configAs g) ∷ []) []) o
+              ∙ ap (λ (b : Bool). cond b (configured (keyAt a) (configAs g) ∷ []) []) (accepted-back (acceptsL capacity (keyAt a) l));
+          table = ap (λ (x : Left ℕ). x .table) o;
+        }
 call-is (clear a number table) bs l h p =
     let o = p ∙ ap (λ (x : Written). left (tableNumber (x .done)) (x .bytes) noResult) (on-lent bs l h _ _) in
     record {
@@ -221,7 +232,7 @@ call-is (restore form number table) bs l h p =
     let r = read-in bs form number table p (are-sized bs l h) in
     let back : taken capacity form ≡ Event.readIn capacity (taken capacity form) = sym (read-is-call capacity form l) in
     record {
-      events = λ i. clearings (are-back bs l h i) ++ settings ((ap (λ (b : Bool). cond b (savedIn plain form) []) (sym (r .saved)) ∙ back) i);
+      events = λ i. clearings (are-back bs l h i) ++ settings ((ap (λ (b : Bool). cond b (savedIn (formIn form) form) []) (sym (r .saved)) ∙ back) i);
       table = r .bytes ∙ ap (tableBytes capacity) back;
     }
 
@@ -261,7 +272,7 @@ new-held was bs p = record { bytes = go (sizeOk capacity was) p; kept = empty-ke
     go false q = let z : _≡_ {A = ℕ} 0 8 = ap (λ (x : Left (Unit {0})). x .number) q in absurd (omega (arith, z))
 
 -- those that hd_restore left, where it gave 0 or 13
-begun-read : (form : List ℕ) (number : ℕ) (was bs : List ℕ) → Begins (read form number) was bs → ReadIn form (isSaved plain capacity form) number bs
+begun-read : (form : List ℕ) (number : ℕ) (was bs : List ℕ) → Begins (read form number) was bs → ReadIn form (isSaved (formIn form) capacity form) number bs
 begun-read form number was bs p = read-in was form number bs (p .1 .1) (read-sized was form number bs (p .1 .1) (p .1 .0))
 
 -- as after a read over an empty table
@@ -299,8 +310,8 @@ demand-3-of-bytes how was bs before h after earlier k g rest G begin p q low hig
 pub demand-3-of-restored : Demand3OfRestored
 demand-3-of-restored was form bs after k g G begin p entry low s =
     let is = begun-read form 0 was bs begin .saved in
-    let own = read-is-call capacity form [] ∙ ap (λ (b : Bool). cond b (savedIn plain form) []) is in
-    let all = log-is after bs (savedIn plain form) (subst (Held bs) own (read-held form 0 was bs begin)) p in
+    let own = read-is-call capacity form [] ∙ ap (λ (b : Bool). cond b (savedIn (formIn form) form) []) is in
+    let all = log-is after bs (savedIn (formIn form) form) (subst (Held bs) own (read-held form 0 was bs begin)) p in
     subst (λ (es : List Event). Promised g G (asksOf k es)) (sym (all .events))
     (demand-3-of-frames-restored capacity form k g G (map useOf after) (record { saved = is; entry = entry; maximum = low })
     (subst (Supposed k G) (all .events) s))

@@ -13,7 +13,7 @@ use Rattle.reporting.specs.Carried.{laid, numbersIn, rowsLaid, rowsIn, numbersO
 use Rattle.reporting.specs.Lent.{onLent, askLent, markLent}
 use Rattle.reporting.specs.Claims.Events.{Event}
 use Rattle.reporting.specs.Demand3.{asksOf, Supposed, Promised}
-use Rattle.saved.specs.Saved.{contentsFrom, savedBytes, allSet, entriesFrom, savedIn, followOn, isLaid, isSaved}
+use Rattle.saved.specs.Saved.{contentsFrom, savedBytes, allSet, entriesFrom, savedIn, followOn, marksOk, isLaid, isSaved}
 use Rattle.saved.specs.Lent.{saveLent, restoreLent}
 use Rattle.server.specs.Claims.Bench.{key}
 use Rattle.server.specs.Claims.ServedHistory.{g}
@@ -25,7 +25,7 @@ use Rattle.hingedrift.proofs.Logged.{demand-3-of-restored}
 use Rattle.hingedrift.proofs.LogExample.{bytes-small, log-stands}
 
 -- what hd_save gave of attribute 5's entry
-saved-so : handed 0 19 (padded 32 form) noState ≡ saveLeft (tableBytes capacity (reported ∷ [])) 32
+saved-so : handed 0 20 (padded 32 form) noState ≡ saveLeft (tableBytes capacity (reported ∷ [])) 32
 unfolding allZero le bytesOf padded distinct laid numbersIn rowsLaid rowsIn numbersOf entryOf isSlot tableBytes slotsIn tableIn areSlots isTable onLent contentsFrom savedBytes allSet saveLent
 saved-so = refl
 
@@ -36,7 +36,7 @@ cut-stands =
     (log-stands .0, (l .0, l .1, (l .2 .0, l .2 .1, (l .2 .2 .0, l .2 .2 .1, (tt, saved-so, tt)))))
 
 pub restore-stands : RestoreStands
-unfolding allZero le bytesOf signedOf residue padded distinct movedBy laid numbersIn rowsLaid rowsIn numbersOf entryOf isSlot tableBytes slotsIn tableIn areSlots isTable onLent askLent markLent allSet entriesFrom savedIn followOn isLaid isSaved restoreLent
+unfolding allZero le bytesOf signedOf residue padded distinct movedBy laid numbersIn rowsLaid rowsIn numbersOf entryOf isSlot tableBytes slotsIn tableIn areSlots isTable onLent askLent markLent allSet entriesFrom savedIn followOn marksOk isLaid isSaved restoreLent
 restore-stands = (
   refl,
   (

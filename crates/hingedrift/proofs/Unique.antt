@@ -71,16 +71,22 @@ pub hd-table-new-once : HdTableNewOnce
 hd-table-new-once table r q bs cs e f = one-table (newLeft table) r q bs cs e f
 
 pub hd-configure-once : HdConfigureOnce
-hd-configure-once table cluster attribute minimum maximum change r q bs cs x y e f = one-outcome (configureLeft table (keyAs cluster attribute) (configOf minimum maximum change)) r q bs cs x y e f
+hd-configure-once table cluster attribute minimum maximum change mark r q bs cs x y e f =
+    one-outcome (configureLeft table (keyAs cluster attribute) (configOf minimum maximum change mark) mark) r q bs cs x y e f
 
 pub hd-clear-once : HdClearOnce
 hd-clear-once table cluster attribute r q bs cs e f = one-table (clearLeft table (keyAs cluster attribute)) r q bs cs e f
 
 pub hd-configuration-once : HdConfigurationOnce
-hd-configuration-once table cluster attribute r q a b k l m n x y e f =
-    let w = one-outcome (configurationLeft table (keyAs cluster attribute)) r q table table (configurationAs a k m x) (configurationAs b l n y) e f in
-    let c = w .1 .1 in
-    (w .0, (ap (λ (z : Configuration). z .found) c, (ap (λ (z : Configuration). z .minimum) c, (ap (λ (z : Configuration). z .maximum) c, ap (λ (z : Configuration). z .change) c))))
+hd-configuration-once table cluster attribute r q a b k l m n x y u v e f =
+    let w = one-outcome (configurationLeft table (keyAs cluster attribute)) r q table table (configurationAs a k m x u) (configurationAs b l n y v) e f in
+    let c = w .1 .1 in (
+      w .0,
+      (
+        ap (λ (z : Configuration). z .found) c,
+        (ap (λ (z : Configuration). z .minimum) c, (ap (λ (z : Configuration). z .maximum) c, (ap (λ (z : Configuration). z .change) c, ap (λ (z : Configuration). z .mark) c))),
+      ),
+    )
 
 pub hd-ask-once : HdAskOnce
 hd-ask-once table cluster attribute now value r q x y e f = let w = one-outcome (askLeft table (keyAs cluster attribute) now value) r q table table x y e f in (w .0, w .1 .1)

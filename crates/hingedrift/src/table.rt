@@ -4,12 +4,13 @@ ghost use Rattle.hingedrift.specs.Tables.{keyAs, configOf, left, noResul
 use frame::answer::Refusal;
 use frame::reply::clear;
 use reporting::carried::TABLE_BYTES;
+use reporting::carried::is_table;
 use reporting::entry::Key;
 use reporting::entry::ReportingConfig;
 use reporting::lent::ask_lent;
 use reporting::lent::clear_lent;
 use reporting::lent::configuration_lent;
-use reporting::lent::configure_lent;
+use reporting::lent::configure_in;
 use reporting::lent::mark_lent;
 use reporting::table::Change;
 use reporting::table::Report;
@@ -39,7 +40,7 @@ pub extern "C" fn hd_table_new(table: &mut [u8]) -> u8
     0
 }
 
-// Configures an attribute: 1 through `accepted` where there was room.
+// Configures an attribute: 1 through `accepted` where there was room. `mark` says whether its numbers compare as signed, 0, or unsigned, 1.
 #[no_mangle]
 pub extern "C" fn hd_configure(
     table: &mut [u8],
@@ -48,17 +49,25 @@ pub extern "C" fn hd_configure(
     minimum: u16,
     maximum: u16,
     change: u64,
+    mark: u8,
     accepted: &mut u8,
 ) -> u8
-    ensures { λ r. ⌜ left r (now (table .exit)) (now (accepted .exit)) ≡ configureLeft (now (table .entry)) (keyAs cluster attribute) (configOf minimum maximum change) ⌝ }
+    ensures { λ r. ⌜ left r (now (table .exit)) (now (accepted .exit)) ≡ configureLeft (now (table .entry)) (keyAs cluster attribute) (configOf minimum maximum change mark) mark ⌝ }
 {
     *accepted = 0;
+    if !is_table(table) {
+        return Refusal::NotATable.number();
+    }
+    if 1 < mark {
+        return Refusal::NotASavedForm.number();
+    }
     let config = ReportingConfig {
         min_interval: minimum,
         max_interval: maximum,
         reportable_change: change,
+        unsigned: mark == 1,
     };
-    match configure_lent(table, key_of(cluster, attribute), config) {
+    match configure_in(table, key_of(cluster, attribute), config) {
         Change::Done => {
             *accepted = 1;
             0
@@ -79,7 +88,7 @@ pub extern "C" fn hd_clear(table: &mut [u8], cluster: u16, attribute: u16) -> u8
     Refusal::NotATable.number()
 }
 
-// An attribute's configuration: 1 through `found` where it has one, and its three numbers.
+// An attribute's configuration: 1 through `found` where it has one, its three numbers and its mark.
 #[no_mangle]
 pub extern "C" fn hd_configuration(
     table: &[u8],
@@ -89,19 +98,22 @@ pub extern "C" fn hd_configuration(
     minimum: &mut u16,
     maximum: &mut u16,
     change: &mut u64,
+    mark: &mut u8,
 ) -> u8
-    ensures { λ r. ⌜ left r (now (table .entry)) (configurationAs (now (found .exit)) (now (minimum .exit)) (now (maximum .exit)) (now (change .exit))) ≡ configurationLeft (now (table .entry)) (keyAs cluster attribute) ⌝ }
+    ensures { λ r. ⌜ left r (now (table .entry)) (configurationAs (now (found .exit)) (now (minimum .exit)) (now (maximum .exit)) (now (change .exit)) (now (mark .exit))) ≡ configurationLeft (now (table .entry)) (keyAs cluster attribute) ⌝ }
 {
     *found = 0;
     *minimum = 0;
     *maximum = 0;
     *change = 0;
+    *mark = 0;
     match configuration_lent(table, key_of(cluster, attribute)) {
         Setting::Given(config) => {
             *found = 1;
             *minimum = config.min_interval;
             *maximum = config.max_interval;
             *change = config.reportable_change;
+            *mark = if config.unsigned { 1 } else { 0 };
             0
         }
         Setting::Nothing => 0,

@@ -24,8 +24,8 @@ use Rattle.readers.proofs.Lengths.{advancing, bytes-is, refused-not}
 use Rattle.readers.proofs.Codec.{Codec, Wrote}
 use Rattle.readers.proofs.Fields.{number-back, two-back, two-below, two-there, bytes-take, behind, by-firsts, up-to-bytes, up-to-is}
 
-abbrev config : ℕ → ℕ → ℕ → ReportingConfig
-config min max change = record { «min_interval» = min; «max_interval» = max; «reportable_change» = change }
+abbrev config : ℕ → ℕ → ℕ → Bool → ReportingConfig
+config min max change mark = record { «min_interval» = min; «max_interval» = max; «reportable_change» = change; unsigned = mark }
 
 setting-forth : (r : SettingRecord) (rest : List ℕ) → SettingSendable r → lengthOf Setting (encode r ++ rest) ≡ Bytes (length (encode r))
 unfolding lengthOf encode bytesOf
@@ -49,7 +49,7 @@ setting-back (setting direction id t g) h =
     let i₃ = two-back (g .«max_interval») x (h .2) in
     let i₄ : unsignedAt x 0 w ≡ g .«reportable_change» =
     ap (λ (l : List ℕ). unsignedAt l 0 w) (sym (append-nil x)) ∙ number-back w (g .«reportable_change») [] (h .3) in
-    λ i. setting direction (i₁ i) t (config (i₂ i) (i₃ i) (i₄ i))
+    λ i. setting direction (i₁ i) t (config (i₂ i) (i₃ i) (i₄ i) (sym (h .4) i))
 setting-back (failure status direction id) h = rw (ne-eqb status 0 (h .0)) (ap (λ (n : ℕ). failure status direction n) (two-back id [] (h .1)))
 
 abbrev Is : List ℕ → Type 0
@@ -94,6 +94,7 @@ module _ (b i j t m n p q : ℕ) (rest : List ℕ) (bytes : AllBytes (b ∷ i �
           two-below m n (p ∷ q ∷ x) (bytes 4) (bytes 5),
           two-below p q x (bytes 6) (bytes 7),
           le-below (changeWidth t) x more,
+          refl,
         ),
         (λ k. (0x00 ∷ b ∷ id k) ++ (t ∷ min k) ++ max k ++ change-there k),
       )

@@ -1,4 +1,5 @@
 -- A record of a read configuration reply, from its fields as they are read one by one. Assumes nothing.
+use mathlib.Core.Bool.{false}
 use mathlib.Core.Path.{_≡_, sym, ap, _∙_}
 use mathlib.Core.List.{List}
 use Prim.Native.Nat.{ℕ, min}
@@ -13,7 +14,7 @@ use Rattle.configure.proofs.Widths.{width-least}
 use Rattle.readers.specs.Replies.{settingRecord}
 
 abbrev config : ℕ → ℕ → ℕ → ReportingConfig
-config lo hi n = record { «min_interval» = lo; «max_interval» = hi; «reportable_change» = n }
+config lo hi n = record { «min_interval» = lo; «max_interval» = hi; «reportable_change» = n; unsigned = false }
 
 module _ (b : List ℕ) {status direction id : ℕ} (s : status ≡ getD b 0 0) (d : direction ≡ getD b 1 0) (u : id ≡ unsignedAt b 2 2) where
   pub failed : (status ≡ 0 → ⊥) → failure status direction id ≡ settingRecord b

@@ -1,5 +1,5 @@
 -- Reading the reply to a Read Reporting Configuration gives the records that were made for what was asked. Assumes nothing.
-use mathlib.Core.Path.{_≡_, subst}
+use mathlib.Core.Path.{_≡_, refl, subst}
 use mathlib.Core.Bool.{Bool, true, false, cond}
 use mathlib.Core.List.{List, [], _∷_}
 use mathlib.Core.Option.{Option, none, some}
@@ -66,7 +66,7 @@ lookup-any P k (e ∷ l) h = go (matches k e) (lookup-any P k l (h .1))
 
 setting-good : (r : Asked) (t : ℕ) → Named r → (o : Option Entry) → Any Short o → SettingSendable (settingBy o r t)
 setting-good r t n none w = (λ z. omega arith, n)
-setting-good r t n (some e) w = (n, w .0, w .1, mod-lt (e .config .«reportable_change») (pow-pos (8 * changeWidth t)))
+setting-good r t n (some e) w = (n, w .0, w .1, mod-lt (e .config .«reportable_change») (pow-pos (8 * changeWidth t)), refl)
 
 module _ (l : List Entry) (short : All Short l) (r : Asked) (n : Named r) where
   made-by : (k : Key) (f : Found) → SettingSendable (recordBy l k r f)

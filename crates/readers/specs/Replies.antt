@@ -1,7 +1,7 @@
 -- Definitions. Each reply, and a report frame, read (document 01, "Readers give .."): its records, or why it is refused. The records are those that
 -- the commands' definitions write.
 use Prim.Native.Nat.{ℕ, _+_}
-use mathlib.Core.Bool.{cond, _&&_}
+use mathlib.Core.Bool.{cond, _&&_, false}
 use mathlib.Core.List.{List, []}
 use lib.ListN.{length, getD, drop}
 use lib.Dec.{leb, eqb}
@@ -45,6 +45,7 @@ settingRecord b =
       «min_interval» = unsignedAt b 5 2;
       «max_interval» = unsignedAt b 7 2;
       «reportable_change» = unsignedAt b 9 (changeWidth (getD b 4 0));
+      unsigned = false;
     }))
     (Configuration.failure (getD b 0 0) (getD b 1 0) (unsignedAt b 2 2))
 

@@ -68,6 +68,7 @@ fn setting_in(part: &[u8]) -> ConfigurationReplyRecord
         min_interval: u16_at(part, 5),
         max_interval: u16_at(part, 7),
         reportable_change: unsigned_at(part, 9, change_width(type_id)),
+        unsigned: false,
     };
     ConfigurationReplyRecord::Setting {
         direction,

@@ -1,6 +1,6 @@
 -- Definitions. What ours says to calls on a table by value, one after the other, from an empty table on (kind m).
 use Prim.Native.Nat.{ℕ, zero, suc, _/_, _%_}
-use mathlib.Core.Bool.{Bool, true, cond, _&&_}
+use mathlib.Core.Bool.{Bool, true, cond, _&&_, false}
 use mathlib.Core.Option.{Option, none, some}
 use mathlib.Core.List.{List, [], _∷_, _++_, map}
 use lib.ListN.{length, getD, take, drop}
@@ -20,7 +20,7 @@ keyIn c = record { cluster = record { 0 = unsignedAt c 1 2 }; attribute = record
 
 -- a configuration: minimum (2), maximum (2), change (8)
 unfoldable pub configIn : List ℕ → ReportingConfig
-configIn c = record { «min_interval» = unsignedAt c 5 2; «max_interval» = unsignedAt c 7 2; «reportable_change» = unsignedAt c 9 8 }
+configIn c = record { «min_interval» = unsignedAt c 5 2; «max_interval» = unsignedAt c 7 2; «reportable_change» = unsignedAt c 9 8; unsigned = false }
 
 -- a report: time (4), value (8)
 abbrev pub timeIn : List ℕ → ℕ

@@ -61,6 +61,7 @@ fn config_in(call: &[u8]) -> ReportingConfig
         min_interval: u16_at(call, 5),
         max_interval: u16_at(call, 7),
         reportable_change: unsigned_at(call, 9, 8),
+        unsigned: false,
     }
 }
 
@@ -129,6 +130,7 @@ fn no_config() -> ReportingConfig
         min_interval: 0,
         max_interval: 0,
         reportable_change: 0,
+        unsigned: false,
     }
 }
 

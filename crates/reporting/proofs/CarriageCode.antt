@@ -62,8 +62,9 @@ module _ (bs : List ℕ) (at : ℕ) where
       ∷ unsignedAt bs (at + 6) 2
       ∷ unsignedAt bs (at + 8) 8
       ∷ unsignedAt bs (at + 16) 1
-      ∷ unsignedAt bs (at + 17) 4
-      ∷ unsignedAt bs (at + 21) 8
+      ∷ unsignedAt bs (at + 17) 1
+      ∷ unsignedAt bs (at + 18) 4
+      ∷ unsignedAt bs (at + 22) 8
       ∷ []
   slot-numbers =
       let a : at + 2 + 2 ≡ at + 4 = omega arith in
@@ -71,39 +72,44 @@ module _ (bs : List ℕ) (at : ℕ) where
       let c : at + 6 + 2 ≡ at + 8 = omega arith in
       let d : at + 8 + 8 ≡ at + 16 = omega arith in
       let e : at + 16 + 1 ≡ at + 17 = omega arith in
-      let f : at + 17 + 4 ≡ at + 21 = omega arith in
-      numbers-at widths bs at ∙ rw (a, b, c, d, e, f)
+      let f : at + 17 + 1 ≡ at + 18 = omega arith in
+      let g : at + 18 + 4 ≡ at + 22 = omega arith in
+      numbers-at widths bs at ∙ rw (a, b, c, d, e, f, g)
 
-  -- a slot's form, by its flag, time and value
-  pub form-at : isSlot (numbersIn widths (drop at bs)) ≡ (leb (getD bs (at + 16) 0) 1 && (eqb (getD bs (at + 16) 0) 1 || (eqb (unsignedAt bs (at + 17) 4) 0 && eqb (unsignedAt bs (at + 21) 8) 0)))
+  -- a slot's form, by its mark, flag, time and value
+  pub form-at : isSlot (numbersIn widths (drop at bs)) ≡ (leb (getD bs (at + 16) 0) 1 && (leb (getD bs (at + 17) 0) 1 && (eqb (getD bs (at + 17) 0) 1 || (eqb (unsignedAt bs (at + 18) 4) 0 && eqb (unsignedAt bs (at + 22) 8) 0))))
   unfolding isSlot
-  form-at = ap isSlot slot-numbers ∙ rw (one-byte bs (at + 16))
+  form-at = ap isSlot slot-numbers ∙ rw (one-byte bs (at + 16), one-byte bs (at + 17))
 
-  -- by the code's tests of a flag f
-  module _ (f : ℕ) (ef : f ≡ getD bs (at + 16) 0) where
-    pub form-past : 1 < f → false ≡ isSlot (numbersIn widths (drop at bs))
-    form-past h = sym (form-at ∙ rw (← ef, lt-leb f 1 h))
+  -- by the code's tests of a mark u and a flag f
+  module _ (u : ℕ) (eu : u ≡ getD bs (at + 16) 0) where
+    pub form-marks : 1 < u → false ≡ isSlot (numbersIn widths (drop at bs))
+    form-marks h = sym (form-at ∙ rw (← eu, lt-leb u 1 h))
 
-    pub form-marked : f ≡ 1 → true ≡ isSlot (numbersIn widths (drop at bs))
-    form-marked h = sym (form-at ∙ rw (← ef, h))
+    module _ (k : u ≤ 1) (f : ℕ) (ef : f ≡ getD bs (at + 17) 0) where
+      pub form-past : 1 < f → false ≡ isSlot (numbersIn widths (drop at bs))
+      form-past h = sym (form-at ∙ rw (← eu, le-leb u 1 k, ← ef, lt-leb f 1 h))
 
-    -- under flag 0 the twelve bytes behind it are 0
-    pub form-none : (n : ℕ) → n ≡ 12 → f ≤ 1 → (f ≡ 1 → ⊥) → allZero (take n (drop (at + 17) bs)) ≡ isSlot (numbersIn widths (drop at bs))
-    form-none n w h k =
-        let p : at + 17 + 4 ≡ at + 21 = omega arith in
-        ap (λ (m : ℕ). allZero (take m (drop (at + 17) bs))) w
-        ∙ sym (form-at ∙ rw (← ef, le-leb f 1 h, ne-eqb f 1 k, ← p) (zero-numbers bs (at + 17) 4 8))
+      pub form-marked : f ≡ 1 → true ≡ isSlot (numbersIn widths (drop at bs))
+      form-marked h = sym (form-at ∙ rw (← eu, le-leb u 1 k, ← ef, h))
+
+      -- under flag 0 the twelve bytes behind it are 0
+      pub form-none : (n : ℕ) → n ≡ 12 → f ≤ 1 → (f ≡ 1 → ⊥) → allZero (take n (drop (at + 18) bs)) ≡ isSlot (numbersIn widths (drop at bs))
+      form-none n w h j =
+          let p : at + 18 + 4 ≡ at + 22 = omega arith in
+          ap (λ (m : ℕ). allZero (take m (drop (at + 18) bs))) w
+          ∙ sym (form-at ∙ rw (← eu, le-leb u 1 k, ← ef, le-leb f 1 h, ne-eqb f 1 j, ← p) (zero-numbers bs (at + 18) 4 8))
 
   -- the entry of a slot
   pub entry-at : entryOf (numbersIn widths (drop at bs)) ≡ record {
     key = record { cluster = record { 0 = unsignedAt bs at 2 }; attribute = record { 0 = unsignedAt bs (at + 2) 2 } };
-    config = record { «min_interval» = unsignedAt bs (at + 4) 2; «max_interval» = unsignedAt bs (at + 6) 2; «reportable_change» = unsignedAt bs (at + 8) 8 };
-    marked = eqb (getD bs (at + 16) 0) 1;
-    «last_time» = unsignedAt bs (at + 17) 4;
-    «last_value» = signedAt bs (at + 21) 8;
+    config = record { «min_interval» = unsignedAt bs (at + 4) 2; «max_interval» = unsignedAt bs (at + 6) 2; «reportable_change» = unsignedAt bs (at + 8) 8; unsigned = eqb (getD bs (at + 16) 0) 1 };
+    marked = eqb (getD bs (at + 17) 0) 1;
+    «last_time» = unsignedAt bs (at + 18) 4;
+    «last_value» = signedAt bs (at + 22) 8;
   }
   unfolding entryOf signedAt
-  entry-at = ap entryOf slot-numbers ∙ rw (one-byte bs (at + 16))
+  entry-at = ap entryOf slot-numbers ∙ rw (one-byte bs (at + 16), one-byte bs (at + 17))
 
 -- numbers written one behind the other
 abbrev pub puts : List ℕ → List ℕ → List ℕ → ℕ → List ℕ
@@ -118,40 +124,44 @@ puts-laid (w ∷ ws) ns l at =
     ∙ ap (λ (k : ℕ). sets (sets l at (bytesOf w (getD ns 0 0))) (at + k) (laid ws (drop 1 ns))) (sym (length-bytes w (getD ns 0 0)))
     ∙ sets-append (bytesOf w (getD ns 0 0)) (laid ws (drop 1 ns)) l at
 
--- what the eight writes of a slot leave
-pub slot-put : (l : List ℕ) (at c a m x d f t v : ℕ)
-    → sets (sets (sets (sets (sets (sets (sets (sets l at (bytesOf 2 c)) (at + 2) (bytesOf 2 a)) (at + 4) (bytesOf 2 m)) (at + 6) (bytesOf 2 x)) (at + 8) (bytesOf 8 d)) (at + 16) (bytesOf 1 f)) (at + 17) (bytesOf 4 t)) (at + 21) (bytesOf 8 v)
-    ≡ sets l at (laid widths (c ∷ a ∷ m ∷ x ∷ d ∷ f ∷ t ∷ v ∷ []))
-slot-put l at c a m x d f t v =
+-- what the nine writes of a slot leave
+pub slot-put : (l : List ℕ) (at c a m x d u f t v : ℕ)
+    → sets (sets (sets (sets (sets (sets (sets (sets (sets l at (bytesOf 2 c)) (at + 2) (bytesOf 2 a)) (at + 4) (bytesOf 2 m)) (at + 6) (bytesOf 2 x)) (at + 8) (bytesOf 8 d)) (at + 16) (bytesOf 1 u)) (at + 17) (bytesOf 1 f)) (at + 18) (bytesOf 4 t)) (at + 22) (bytesOf 8 v)
+    ≡ sets l at (laid widths (c ∷ a ∷ m ∷ x ∷ d ∷ u ∷ f ∷ t ∷ v ∷ []))
+slot-put l at c a m x d u f t v =
     let p : at + 4 ≡ at + 2 + 2 = omega arith in
     let q : at + 6 ≡ at + 2 + 2 + 2 = omega arith in
     let r : at + 8 ≡ at + 2 + 2 + 2 + 2 = omega arith in
     let s : at + 16 ≡ at + 2 + 2 + 2 + 2 + 8 = omega arith in
-    let u : at + 17 ≡ at + 2 + 2 + 2 + 2 + 8 + 1 = omega arith in
-    let w : at + 21 ≡ at + 2 + 2 + 2 + 2 + 8 + 1 + 4 = omega arith in
-    rw (p, q, r, s, u, w) (puts-laid widths (c ∷ a ∷ m ∷ x ∷ d ∷ f ∷ t ∷ v ∷ []) l at)
+    let w : at + 17 ≡ at + 2 + 2 + 2 + 2 + 8 + 1 = omega arith in
+    let y : at + 18 ≡ at + 2 + 2 + 2 + 2 + 8 + 1 + 1 = omega arith in
+    let z : at + 22 ≡ at + 2 + 2 + 2 + 2 + 8 + 1 + 1 + 4 = omega arith in
+    rw (p, q, r, s, w, y, z) (puts-laid widths (c ∷ a ∷ m ∷ x ∷ d ∷ u ∷ f ∷ t ∷ v ∷ []) l at)
 
 -- the same, write by write
-pub slot-puts : (at c a m x d f t v : ℕ) (l₀ l₁ l₂ l₃ l₄ l₅ l₆ l₇ l₈ : List ℕ)
+pub slot-puts : (at c a m x d u f t v : ℕ) (l₀ l₁ l₂ l₃ l₄ l₅ l₆ l₇ l₈ l₉ : List ℕ)
     → l₁ ≡ sets l₀ at (bytesOf 2 c)
     → l₂ ≡ sets l₁ (at + 2) (bytesOf 2 a)
     → l₃ ≡ sets l₂ (at + 4) (bytesOf 2 m)
     → l₄ ≡ sets l₃ (at + 6) (bytesOf 2 x)
     → l₅ ≡ sets l₄ (at + 8) (bytesOf 8 d)
-    → l₆ ≡ sets l₅ (at + 16) (bytesOf 1 f)
-    → l₇ ≡ sets l₆ (at + 17) (bytesOf 4 t)
-    → l₈ ≡ sets l₇ (at + 21) (bytesOf 8 v)
-    → l₈ ≡ sets l₀ at (laid widths (c ∷ a ∷ m ∷ x ∷ d ∷ f ∷ t ∷ v ∷ []))
-slot-puts at c a m x d f t v l₀ l₁ l₂ l₃ l₄ l₅ l₆ l₇ l₈ e₁ e₂ e₃ e₄ e₅ e₆ e₇ e₈ =
-    e₈
-    ∙ ap (λ (l : List ℕ). sets l (at + 21) (bytesOf 8 v))
+    → l₆ ≡ sets l₅ (at + 16) (bytesOf 1 u)
+    → l₇ ≡ sets l₆ (at + 17) (bytesOf 1 f)
+    → l₈ ≡ sets l₇ (at + 18) (bytesOf 4 t)
+    → l₉ ≡ sets l₈ (at + 22) (bytesOf 8 v)
+    → l₉ ≡ sets l₀ at (laid widths (c ∷ a ∷ m ∷ x ∷ d ∷ u ∷ f ∷ t ∷ v ∷ []))
+slot-puts at c a m x d u f t v l₀ l₁ l₂ l₃ l₄ l₅ l₆ l₇ l₈ l₉ e₁ e₂ e₃ e₄ e₅ e₆ e₇ e₈ e₉ =
+    e₉
+    ∙ ap (λ (l : List ℕ). sets l (at + 22) (bytesOf 8 v))
+    (e₈
+    ∙ ap (λ (l : List ℕ). sets l (at + 18) (bytesOf 4 t))
     (e₇
-    ∙ ap (λ (l : List ℕ). sets l (at + 17) (bytesOf 4 t))
+    ∙ ap (λ (l : List ℕ). sets l (at + 17) (bytesOf 1 f))
     (e₆
-    ∙ ap (λ (l : List ℕ). sets l (at + 16) (bytesOf 1 f))
+    ∙ ap (λ (l : List ℕ). sets l (at + 16) (bytesOf 1 u))
     (e₅
     ∙ ap (λ (l : List ℕ). sets l (at + 8) (bytesOf 8 d))
     (e₄
     ∙ ap (λ (l : List ℕ). sets l (at + 6) (bytesOf 2 x))
-    (e₃ ∙ ap (λ (l : List ℕ). sets l (at + 4) (bytesOf 2 m)) (e₂ ∙ ap (λ (l : List ℕ). sets l (at + 2) (bytesOf 2 a)) e₁))))))
-    ∙ slot-put l₀ at c a m x d f t v
+    (e₃ ∙ ap (λ (l : List ℕ). sets l (at + 4) (bytesOf 2 m)) (e₂ ∙ ap (λ (l : List ℕ). sets l (at + 2) (bytesOf 2 a)) e₁)))))))
+    ∙ slot-put l₀ at c a m x d u f t v

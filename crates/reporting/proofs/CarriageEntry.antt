@@ -33,21 +33,26 @@ told-below false n m h = omega arith
 pub entry-within : (e : Entry) → Clean e → Within widths (numbersOf e)
 unfolding numbersOf
 entry-within e h =
+    let u = told-below (e .config .unsigned) 1 (2 ^ 8) (omega arith) in
     let f = told-below (e .marked) 1 (2 ^ 8) (omega arith) in
     let t = told-below (e .marked) (e .«last_time») (2 ^ 32) (h .time) in
     let v = told-below (e .marked) (residue (2 ^ 64) (e .«last_value»)) (2 ^ 64) (residue-below (e .«last_value»)) in
-    (h .cluster, (h .attribute, (h .minimum, (h .maximum, (h .change, (f, (t, (v, refl))))))))
+    (h .cluster, (h .attribute, (h .minimum, (h .maximum, (h .change, (u, (f, (t, (v, refl)))))))))
 
 pub entry-in-form : (e : Entry) → isSlot (numbersOf e) ≡ true
 unfolding numbersOf isSlot
-entry-in-form e = go (e .marked) (e .«last_time») (residue (2 ^ 64) (e .«last_value»))
+entry-in-form e = λ i. mark-ok (e .config .unsigned) i && go (e .marked) (e .«last_time») (residue (2 ^ 64) (e .«last_value»)) i
   where
+    mark-ok : (u : Bool) → leb (ifMarked u 1) 1 ≡ true
+    mark-ok true = refl
+    mark-ok false = refl
+
     go : (b : Bool) (t v : ℕ) → (leb (ifMarked b 1) 1 && (eqb (ifMarked b 1) 1 || (eqb (ifMarked b t) 0 && eqb (ifMarked b v) 0))) ≡ true
     go true t v = refl
     go false t v = refl
 
 -- ENTRY TO NUMBERS AND BACK
-flag-back : (b : Bool) → eqb (ifMarked b 1) 1 ≡ b
+pub flag-back : (b : Bool) → eqb (ifMarked b 1) 1 ≡ b
 flag-back true = refl
 flag-back false = refl
 
@@ -63,7 +68,12 @@ pub entry-back : (e : Entry) → Clean e → entryOf (numbersOf e) ≡ e
 unfolding numbersOf entryOf
 entry-back e h = λ i. record {
   key = e .key;
-  config = e .config;
+  config = record {
+    «min_interval» = e .config .«min_interval»;
+    «max_interval» = e .config .«max_interval»;
+    «reportable_change» = e .config .«reportable_change»;
+    unsigned = flag-back (e .config .unsigned) i;
+  };
   marked = flag-back (e .marked) i;
   «last_time» = time-back (e .marked) (e .«last_time») (λ q. h .quiet q .0) i;
   «last_value» = value-back (e .marked) (e .«last_value») (h .value) (λ q. h .quiet q .1) i;
@@ -98,29 +108,45 @@ module _ (f t v : ℕ) where
       let n = none-told e (subst FormOf e h) .1 in
       (n .0, ap (signedOf 8) (n .1) ∙ signed-low 8 0 (omega arith))
 
+-- a mark of 0 or 1 is told as it was
+pub mark-told : (u : ℕ) → leb u 1 ≡ true → ifMarked (eqb u 1) 1 ≡ u
+mark-told u h = go (eqb u 1) refl
+  where
+    go : (b : Bool) → eqb u 1 ≡ b → ifMarked b 1 ≡ u
+    go true e = sym (eqb-true u 1 e)
+    go false e = omega (arith, leb-true u 1 h, eqb-false u 1 e)
+
 -- NUMBERS TO ENTRY AND BACK, for a slot in form
 pub slot-back : (bs : List ℕ) → AllBytes bs → isSlot (numbersIn widths bs) ≡ true → numbersOf (entryOf (numbersIn widths bs)) ≡ numbersIn widths bs
 unfolding numbersOf entryOf isSlot numbersIn
 slot-back bs h p =
     let ns : List ℕ = numbersIn widths bs in
-    let f : ℕ = getD ns 5 0 in
-    let t : ℕ = getD ns 6 0 in
-    let v : ℕ = getD ns 7 0 in
-    let b : v < 2 ^ 64 = within-numbers widths bs h .1 .1 .1 .1 .1 .1 .1 .0 in
+    let u : ℕ = getD ns 5 0 in
+    let f : ℕ = getD ns 6 0 in
+    let t : ℕ = getD ns 7 0 in
+    let v : ℕ = getD ns 8 0 in
+    let b : v < 2 ^ 64 = within-numbers widths bs h .1 .1 .1 .1 .1 .1 .1 .1 .0 in
+    let q = both (leb u 1) (leb f 1 && (eqb f 1 || (eqb t 0 && eqb v 0))) p in
     λ i.
     getD ns 0 0
     ∷ getD ns 1 0
     ∷ getD ns 2 0
     ∷ getD ns 3 0
     ∷ getD ns 4 0
-    ∷ flag-told f t v (eqb f 1) refl p i
-    ∷ time-told f t v (eqb f 1) refl p i
-    ∷ value-told f t v (eqb f 1) b refl p i
+    ∷ mark-told u (q .0) i
+    ∷ flag-told f t v (eqb f 1) refl (q .1) i
+    ∷ time-told f t v (eqb f 1) refl (q .1) i
+    ∷ value-told f t v (eqb f 1) b refl (q .1) i
     ∷ []
+
+-- what a slot's form says beside its mark
+flag-form : (ns : List ℕ) → isSlot ns ≡ true → FormOf (getD ns 6 0) (getD ns 7 0) (getD ns 8 0) (eqb (getD ns 6 0) 1)
+unfolding isSlot
+flag-form ns p = both (leb (getD ns 5 0) 1) (leb (getD ns 6 0) 1 && (eqb (getD ns 6 0) 1 || (eqb (getD ns 7 0) 0 && eqb (getD ns 8 0) 0))) p .1
 
 -- such an entry has one form
 pub slot-clean : (bs : List ℕ) → AllBytes bs → isSlot (numbersIn widths bs) ≡ true → Clean (entryOf (numbersIn widths bs))
-unfolding entryOf isSlot numbersIn
+unfolding entryOf numbersIn
 slot-clean bs h p =
     let ns : List ℕ = numbersIn widths bs in
     let w = within-numbers widths bs h in
@@ -130,9 +156,9 @@ slot-clean bs h p =
       minimum = w .1 .1 .0;
       maximum = w .1 .1 .1 .0;
       change = w .1 .1 .1 .1 .0;
-      time = w .1 .1 .1 .1 .1 .1 .0;
-      value = signed-in 8 (getD ns 7 0) (w .1 .1 .1 .1 .1 .1 .1 .0);
-      quiet = still (getD ns 5 0) (getD ns 6 0) (getD ns 7 0) p;
+      time = w .1 .1 .1 .1 .1 .1 .1 .0;
+      value = signed-in 8 (getD ns 8 0) (w .1 .1 .1 .1 .1 .1 .1 .1 .0);
+      quiet = still (getD ns 6 0) (getD ns 7 0) (getD ns 8 0) (flag-form ns p);
     }
 
 -- ---- an entry as its bytes tell it
@@ -165,5 +191,5 @@ quieted-same e h = go (e .marked) refl
 
 -- as in a slot in form
 pub slot-quiet : (ns : List ℕ) → isSlot ns ≡ true → quieted (entryOf ns) ≡ entryOf ns
-unfolding entryOf isSlot
-slot-quiet ns p = quieted-same (entryOf ns) (still (getD ns 5 0) (getD ns 6 0) (getD ns 7 0) p)
+unfolding entryOf
+slot-quiet ns p = quieted-same (entryOf ns) (still (getD ns 6 0) (getD ns 7 0) (getD ns 8 0) (flag-form ns p))

@@ -15,14 +15,14 @@ use Rattle.reporting.specs.Carried.{laid, numbersIn, rowsLaid, rowsIn, n
 entry : Entry
 entry = record {
   key = record { cluster = record { 0 = 1026 }; attribute = record { 0 = 0 } };
-  config = record { «min_interval» = 10; «max_interval» = 300; «reportable_change» = 50 };
+  config = record { «min_interval» = 10; «max_interval» = 300; «reportable_change» = 50; unsigned = false };
   marked = true;
   «last_time» = 100000;
   «last_value» = negsuc 4;
 }
 
 head : List ℕ
-head = 1 ∷ 2 ∷ 4 ∷ 0 ∷ 0 ∷ 10 ∷ 0 ∷ 44 ∷ 1 ∷ 50 ∷ 0 ∷ 0 ∷ 0 ∷ 0 ∷ 0 ∷ 0 ∷ 0 ∷ 1 ∷ 160 ∷ 134 ∷ 1 ∷ 0 ∷ 251 ∷ 255 ∷ 255 ∷ 255 ∷ 255 ∷ 255 ∷ 255 ∷ 255 ∷ []
+head = 1 ∷ 2 ∷ 4 ∷ 0 ∷ 0 ∷ 10 ∷ 0 ∷ 44 ∷ 1 ∷ 50 ∷ 0 ∷ 0 ∷ 0 ∷ 0 ∷ 0 ∷ 0 ∷ 0 ∷ 0 ∷ 1 ∷ 160 ∷ 134 ∷ 1 ∷ 0 ∷ 251 ∷ 255 ∷ 255 ∷ 255 ∷ 255 ∷ 255 ∷ 255 ∷ 255 ∷ []
 
 bytes : List ℕ
 bytes = padded tableLength head
@@ -43,7 +43,7 @@ is-one : with 0 1 ≡ true
 unfolding with isTable slotsIn areSlots isSlot allZero rowsIn numbersIn le bytes head padded
 is-one = refl
 
--- a count of 17; a count of 2, an empty slot being one; flag 2; a time under flag 0; a stray byte behind
+-- a count of 17; a count of 2, an empty slot being one; mark 1, and mark 2; flag 2; a time under flag 0; a stray byte behind
 count-17 : with 0 17 ≡ false
 unfolding with isTable slotsIn areSlots isSlot allZero rowsIn numbersIn le bytes head padded
 count-17 = refl
@@ -52,11 +52,19 @@ count-2 : with 0 2 ≡ true
 unfolding with isTable slotsIn areSlots isSlot allZero rowsIn numbersIn le bytes head padded
 count-2 = refl
 
-flag-2 : with 17 2 ≡ false
+mark-1 : with 17 1 ≡ true
+unfolding with isTable slotsIn areSlots isSlot allZero rowsIn numbersIn le bytes head padded
+mark-1 = refl
+
+mark-2 : with 17 2 ≡ false
+unfolding with isTable slotsIn areSlots isSlot allZero rowsIn numbersIn le bytes head padded
+mark-2 = refl
+
+flag-2 : with 18 2 ≡ false
 unfolding with isTable slotsIn areSlots isSlot allZero rowsIn numbersIn le bytes head padded
 flag-2 = refl
 
-flag-0 : with 17 0 ≡ false
+flag-0 : with 18 0 ≡ false
 unfolding with isTable slotsIn areSlots isSlot allZero rowsIn numbersIn le bytes head padded
 flag-0 = refl
 

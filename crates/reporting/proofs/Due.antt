@@ -1,5 +1,5 @@
 -- When a report is due: the rule by its cases. Assumes nothing.
-use mathlib.Core.Path.{_≡_, ap, _∙_}
+use mathlib.Core.Path.{_≡_, _∙_}
 use mathlib.Core.Bool.{Bool, true, false, not, _&&_, and-false}
 use mathlib.Core.Logic.{_⊎_, inl, inr}
 use Prim.Native.Nat.{ℕ, _-_, _<_, _≤_}
@@ -8,7 +8,7 @@ use lib.IntN.{ℤ}
 use borrow.Author.Tests.{lt-ltb, le-ltb, le-leb, lt-leb, eq-eqb, ne-eqb}
 use Rattle.reporting.specs.declared.entry.ReportingConfig.{ReportingConfig}
 use Rattle.reporting.specs.declared.entry.Entry.{Entry}
-use Rattle.reporting.specs.Due.{dist, movedBy, ripe, dueE}
+use Rattle.reporting.specs.Due.{distBy, movedBy, ripe, dueE}
 
 -- under the minimum
 pub ripe-early : (g : ReportingConfig) (s m : ℕ) → s < g .«min_interval» → ripe g s m ≡ false
@@ -42,7 +42,7 @@ pub due-code : (e : Entry) (now : ℕ) (v v′ w′ : ℤ) (s m : ℕ) (r : Bool
     → s ≡ now - e .«last_time» → m ≡ movedBy (e .config) w′ v′ → v′ ≡ v → w′ ≡ e .«last_value» → r ≡ ripe (e .config) s m → r ≡ dueE e now v
 due-code e now v v′ w′ s m r h k es em ev ew er = rw (due-marked e now v h k, ← es, ← ew, ← ev, ← em) er
 
--- how far a value moved is a distance, for any configuration
-pub moved-code : (g : ReportingConfig) (from to from′ to′ : ℤ) (r : ℕ) → from′ ≡ from → to′ ≡ to → r ≡ dist to′ from′ → r ≡ movedBy g from to
+-- how far a value moved is a distance, as the configuration's mark says
+pub moved-code : (g : ReportingConfig) (from to from′ to′ : ℤ) (r : ℕ) → from′ ≡ from → to′ ≡ to → r ≡ distBy (g .unsigned) to′ from′ → r ≡ movedBy g from to
 unfolding movedBy
-moved-code g from to from′ to′ r p q h = h ∙ ap (λ x. dist x from′) q ∙ ap (dist to) p
+moved-code g from to from′ to′ r p q h = h ∙ (λ i. distBy (g .unsigned) (q i) (p i))

@@ -26,11 +26,11 @@ abbrev i : Key
 i = record { cluster = record { 0 = 0x405 }; attribute = record { 0 = 0 } }
 
 abbrev g : ReportingConfig
-g = record { «min_interval» = 5; «max_interval» = 30; «reportable_change» = 25 }
+g = record { «min_interval» = 5; «max_interval» = 30; «reportable_change» = 25; unsigned = false }
 
 -- what a direct call takes, and a record is refused for
 abbrev crossed : ReportingConfig
-crossed = record { «min_interval» = 60; «max_interval» = 20; «reportable_change» = 0 }
+crossed = record { «min_interval» = 60; «max_interval» = 20; «reportable_change» = 0; unsigned = false }
 
 -- j and i stand before k, so that clearing j moves k's entry
 abbrev before : List Call

@@ -42,13 +42,13 @@ rowsIn ws (suc n) bs = numbersIn ws bs ∷ rowsIn ws n (drop (total ws) bs)
 
 -- ---- an entry as numbers
 
--- a slot: cluster, attribute, minimum, maximum, change, reported flag, time, value
+-- a slot: cluster, attribute, minimum, maximum, change, mark, reported flag, time, value
 abbrev pub widths : List ℕ
-widths = 2 ∷ 2 ∷ 2 ∷ 2 ∷ 8 ∷ 1 ∷ 4 ∷ 8 ∷ []
+widths = 2 ∷ 2 ∷ 2 ∷ 2 ∷ 8 ∷ 1 ∷ 1 ∷ 4 ∷ 8 ∷ []
 
--- what is told of an entry that is marked, and 0 of another
+-- what is told where there is something to tell, and else 0
 abbrev pub ifMarked : Bool → ℕ → ℕ
-ifMarked marked n = cond marked n 0
+ifMarked told n = cond told n 0
 
 unfoldable pub numbersOf : Entry → List ℕ
 numbersOf e =
@@ -57,6 +57,7 @@ numbersOf e =
     ∷ e .config .«min_interval»
     ∷ e .config .«max_interval»
     ∷ e .config .«reportable_change»
+    ∷ ifMarked (e .config .unsigned) 1
     ∷ ifMarked (e .marked) 1
     ∷ ifMarked (e .marked) (e .«last_time»)
     ∷ ifMarked (e .marked) (residue (2 ^ 64) (e .«last_value»))
@@ -65,15 +66,15 @@ numbersOf e =
 unfoldable pub entryOf : List ℕ → Entry
 entryOf ns = record {
   key = record { cluster = record { 0 = getD ns 0 0 }; attribute = record { 0 = getD ns 1 0 } };
-  config = record { «min_interval» = getD ns 2 0; «max_interval» = getD ns 3 0; «reportable_change» = getD ns 4 0 };
-  marked = eqb (getD ns 5 0) 1;
-  «last_time» = getD ns 6 0;
-  «last_value» = signedOf 8 (getD ns 7 0);
+  config = record { «min_interval» = getD ns 2 0; «max_interval» = getD ns 3 0; «reportable_change» = getD ns 4 0; unsigned = eqb (getD ns 5 0) 1 };
+  marked = eqb (getD ns 6 0) 1;
+  «last_time» = getD ns 7 0;
+  «last_value» = signedOf 8 (getD ns 8 0);
 }
 
--- a slot's numbers are in their one form: the flag is 0 or 1, and under 0 there is no time and no value
+-- a slot's numbers are in their one form: mark and flag are 0 or 1, and under flag 0 there is no time and no value
 unfoldable pub isSlot : List ℕ → Bool
-isSlot ns = leb (getD ns 5 0) 1 && (eqb (getD ns 5 0) 1 || (eqb (getD ns 6 0) 0 && eqb (getD ns 7 0) 0))
+isSlot ns = leb (getD ns 5 0) 1 && (leb (getD ns 6 0) 1 && (eqb (getD ns 6 0) 1 || (eqb (getD ns 7 0) 0 && eqb (getD ns 8 0) 0)))
 
 -- ---- the table
 

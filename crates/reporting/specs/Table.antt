@@ -83,7 +83,7 @@ pub record SettingTold : Type 0 where
   pub configuration : ReportingConfig
 
 abbrev pub zeroConfig : ReportingConfig
-zeroConfig = record { «min_interval» = 0; «max_interval» = 0; «reportable_change» = 0 }
+zeroConfig = record { «min_interval» = 0; «max_interval» = 0; «reportable_change» = 0; unsigned = false }
 
 abbrev pub settingTold : Setting → SettingTold
 settingTold (SettingV.Given g) = record { number = 0; found = true; configuration = g }

@@ -28,7 +28,7 @@ use types::number::all_zero;
 use types::number::bits_i64;
 
 // The bytes of one entry.
-pub const SLOT: usize = 29;
+pub const SLOT: usize = 30;
 
 // The count's byte, and the slots.
 pub const TABLE_BYTES: usize = 1 + LIMIT * SLOT;
@@ -39,11 +39,11 @@ pub struct ReadTable {
     pub known: bool,
 }
 
-// What is written of an entry's last report: 0 where there was none.
-fn told_if(marked: bool, n: u64) -> u64
-    ensures { λ r. ⌜ r ≡ ifMarked marked n ⌝ }
+// What is written of an entry's last report, or of its mark: 0 where there is none.
+fn told_if(told: bool, n: u64) -> u64
+    ensures { λ r. ⌜ r ≡ ifMarked told n ⌝ }
 {
-    if marked {
+    if told {
         return n;
     }
     0
@@ -64,14 +64,17 @@ fn slot_in_form(bytes: &[u8], at: usize) -> bool
     requires { ⌜ at + slotBytes ≤ length (now bytes) ⌝ }
     ensures { λ r. ⌜ r ≡ isSlot (numbersIn widths (drop at (now (bytes .entry)))) ⌝ }
 {
-    let flag = bytes[at + 16];
+    if 1 < bytes[at + 16] {
+        return false;
+    }
+    let flag = bytes[at + 17];
     if 1 < flag {
         return false;
     }
     if flag == 1 {
         return true;
     }
-    all_zero(&bytes[at + 17..at + 29])
+    all_zero(&bytes[at + 18..at + 30])
 }
 
 // Whether the first `count` slots are in their one form.
@@ -116,9 +119,10 @@ pub fn read_slot(bytes: &[u8], at: usize) -> Entry
     let min_interval = u16_in(bytes, at + 4);
     let max_interval = u16_in(bytes, at + 6);
     let reportable_change = u64_in(bytes, at + 8);
-    let flag = bytes[at + 16];
-    let last_time = u32_in(bytes, at + 17);
-    let last_value = bits_i64(u64_in(bytes, at + 21));
+    let mark = bytes[at + 16];
+    let flag = bytes[at + 17];
+    let last_time = u32_in(bytes, at + 18);
+    let last_value = bits_i64(u64_in(bytes, at + 22));
     Entry {
         key: Key {
             cluster: ClusterId(cluster),
@@ -128,6 +132,7 @@ pub fn read_slot(bytes: &[u8], at: usize) -> Entry
             min_interval,
             max_interval,
             reportable_change,
+            unsigned: mark == 1,
         },
         marked: flag == 1,
         last_time,
@@ -152,9 +157,10 @@ pub fn write_slot(bytes: &mut [u8], at: usize, e: Entry)
     put_u16_in(bytes, at + 4, config.min_interval);
     put_u16_in(bytes, at + 6, config.max_interval);
     put_u64_in(bytes, at + 8, config.reportable_change);
-    bytes[at + 16] = told_if(e.marked, 1) as u8;
-    put_u32_in(bytes, at + 17, told_if(e.marked, e.last_time as u64) as u32);
-    put_u64_in(bytes, at + 21, told_if(e.marked, bits_u64(last_value)));
+    bytes[at + 16] = told_if(config.unsigned, 1) as u8;
+    bytes[at + 17] = told_if(e.marked, 1) as u8;
+    put_u32_in(bytes, at + 18, told_if(e.marked, e.last_time as u64) as u32);
+    put_u64_in(bytes, at + 22, told_if(e.marked, bits_u64(last_value)));
 }
 
 // What is handed back for bytes that are no table.

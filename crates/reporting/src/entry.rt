@@ -4,7 +4,7 @@ ghost use Prim.Native.Nat.{_-_};
 ghost use Rattle.reporting.specs.Entries.{same, matches, fresh, markE};
 ghost use Rattle.reporting.specs.Due.{movedBy, ripe, dueE};
 ghost use Rattle.reporting.specs.Wish.{wish};
-use super::distance::distance;
+use super::distance::distance_by;
 use types::ids::AttributeId;
 use types::ids::ClusterId;
 
@@ -20,11 +20,13 @@ pub struct Key {
     pub attribute: AttributeId,
 }
 
-// The reporting configuration of one attribute (2.5.7.1): seconds, seconds, and the least change to report.
+// The reporting configuration of one attribute (2.5.7.1): seconds, seconds, and the least change to report. `unsigned` is its mark: whether its
+// numbers compare by their 64 bits, without a sign.
 pub struct ReportingConfig {
     pub min_interval: u16,
     pub max_interval: u16,
     pub reportable_change: u64,
+    pub unsigned: bool,
 }
 
 // What a configuration asks for by its intervals: that the key's entry is cleared, that nothing is done, or that the entry is set.
@@ -84,7 +86,7 @@ impl ReportingConfig {
     pub fn moved_by(self, from: i64, to: i64) -> u64
         ensures { λ r. ⌜ r ≡ movedBy self from to ⌝ }
     {
-        distance(to, from)
+        distance_by(self.unsigned, to, from)
     }
 
     // Whether a report is due that many seconds after the last one, the value having moved so far.

@@ -119,8 +119,8 @@ pub fn mark_lent(bytes: &mut [u8], key: Key, now: u32, value: i64) -> bool
     true
 }
 
-// Sets the key's configuration, and forgets its last report. A new key takes the slot behind the last one. Public for crate
-// `configure` alone, no entry point: the bytes must be a table.
+// Sets the key's configuration, and forgets its last report. A new key takes the slot behind the last one. Public for crates
+// `configure` and `hingedrift` alone, no entry point: the bytes must be a table.
 pub fn configure_in(bytes: &mut [u8], key: Key, config: ReportingConfig) -> Change
     requires { ⌜ isTable capacity (now bytes) ≡ true ⌝ }
     ensures { λ r. ⌜ keptAs r (now (bytes .exit)) ≡ configureIn key config (tableIn (now (bytes .entry))) ⌝ }

@@ -67,6 +67,7 @@ impl ReportingTable {
                 min_interval: 0,
                 max_interval: 0,
                 reportable_change: 0,
+                unsigned: false,
             },
         );
         ReportingTable {

@@ -7,7 +7,7 @@ use mathlib.Core.List.{List, [], _∷_, map}
 use native.Mathlib.Omega.{arith}
 use lib.ListN.{length}
 use lib.Dec.{leb, eqb}
-use borrow.Author.Tests.{leb-true, le-leb}
+use borrow.Author.Tests.{le-leb}
 use Rattle.reporting.specs.declared.entry.Key.{Key}
 use Rattle.reporting.specs.declared.entry.Entry.{Entry}
 use Rattle.reporting.specs.declared.entry.Wish.{Wish}
@@ -20,9 +20,9 @@ use Rattle.reporting.proofs.Carriage.{both}
 use Rattle.reporting.proofs.Histories.{history-is}
 use Rattle.reporting.proofs.Promise.{demand-3-standing}
 use Rattle.reporting.proofs.Restored.{distinct-so}
-use Rattle.saved.specs.Saved.{plain, savedSize, isSet, allSet, isSavable, rowsOf, entryFrom, entriesFrom, savedIn, followOn, isLaid, isSaved}
+use Rattle.saved.specs.Saved.{marked, savedSize, isSet, allSet, isSavable, entryFrom, entriesFrom, savedIn, isLaid, isSaved, formIn}
 use Rattle.saved.specs.Claims.Demand3.{ReadIsCall, Demand3Restored, Demand3OfCallsRestored}
-use Rattle.saved.proofs.Forms.{saved-count}
+use Rattle.saved.proofs.Forms.{laid-so, saved-count}
 
 -- ---- the entries of a saved form
 
@@ -33,38 +33,38 @@ entries-fresh [] bs = refl
 entries-fresh (k ∷ ks) [] = refl
 entries-fresh (k ∷ ks) (b ∷ bs) = ap (λ (m : List Entry). entryFrom k b ∷ m) (entries-fresh ks bs)
 
-saved-fresh : (bs : List ℕ) → map unreported (savedIn plain bs) ≡ savedIn plain bs
+saved-fresh : (bs : List ℕ) → map unreported (savedIn (formIn bs) bs) ≡ savedIn (formIn bs) bs
 unfolding savedIn
 saved-fresh bs = entries-fresh _ _
 
-module _ (limit : ℕ) (bs : List ℕ) (is : isSaved plain limit bs ≡ true) where
+module _ (limit : ℕ) (bs : List ℕ) (is : isSaved (formIn bs) limit bs ≡ true) where
   -- distinct keys, and each configuration one that a record sets
-  savable : (distinct (savedIn plain bs) ≡ true) × (allSet (savedIn plain bs) ≡ true)
+  savable : (distinct (savedIn (formIn bs) bs) ≡ true) × (allSet (savedIn (formIn bs) bs) ≡ true)
   unfolding isSaved
-  savable = both (distinct (savedIn plain bs)) (allSet (savedIn plain bs)) (both (isLaid plain limit bs) (isSavable (savedIn plain bs)) is .1)
+  savable = both (distinct (savedIn (formIn bs) bs)) (allSet (savedIn (formIn bs) bs)) (both (isLaid (formIn bs) limit bs) (isSavable (savedIn (formIn bs) bs)) is .1)
 
   -- no more than a table may have
-  saved-small : length (savedIn plain bs) ≤ limit
-  unfolding isSaved isLaid
+  pub saved-small : length (savedIn (formIn bs) bs) ≤ limit
+  unfolding isSaved
   saved-small =
-      let laid = both (isLaid plain limit bs) (isSavable (savedIn plain bs)) is .0 in
-      let count = both (leb (countIn bs) limit) (eqb (length bs) (savedSize plain (countIn bs)) && followOn plain (countIn bs) 0 (rowsOf plain bs)) laid .0 in
-      omega (arith, saved-count bs, leb-true (countIn bs) limit count)
+      let m : Bool = eqb (length bs) (savedSize marked (countIn bs)) in
+      let laid = both (isLaid (formIn bs) limit bs) (isSavable (savedIn (formIn bs) bs)) is .0 in
+      omega (arith, saved-count m bs, laid-so m bs limit laid .count)
 
 -- ---- a read is a call
 
 pub read-is-call : ReadIsCall
 unfolding distinct
-read-is-call limit bs l = go (isSaved plain limit bs) refl
+read-is-call limit bs l = go (isSaved (formIn bs) limit bs) refl
   where
     none : (b : Bool) → cond b (map unreported []) [] ≡ []
     none true = refl
     none false = refl
 
-    go : (b : Bool) → isSaved plain limit bs ≡ b → readIn limit (cond b (savedIn plain bs) []) ≡ cond b (savedIn plain bs) []
+    go : (b : Bool) → isSaved (formIn bs) limit bs ≡ b → readIn limit (cond b (savedIn (formIn bs) bs) []) ≡ cond b (savedIn (formIn bs) bs) []
     go true is =
         let d = savable limit bs is .0 in
-        let s = le-leb (length (savedIn plain bs)) limit (saved-small limit bs is) in
+        let s = le-leb (length (savedIn (formIn bs) bs)) limit (saved-small limit bs is) in
         λ i. cond (d i && s i) (saved-fresh bs i) []
     go false is = none (leb 0 limit)
 
@@ -89,9 +89,9 @@ set-at k (x ∷ l) e s h = go (matches k x) h (set-at k l e (both (isSet (wish (
 pub demand-3-restored : Demand3Restored
 demand-3-restored limit form k g G later stands honest s =
     let good = savable limit form (stands .saved) in
-    demand-3-standing limit (savedIn plain form) k g G later (distinct-so (savedIn plain form) (good .0)) (stands .entry) honest
-    (record { rule = set-at k (savedIn plain form) _ (good .1) (stands .entry); one = stands .maximum }) s
+    demand-3-standing limit (savedIn (formIn form) form) k g G later (distinct-so (savedIn (formIn form) form) (good .0)) (stands .entry) honest
+    (record { rule = set-at k (savedIn (formIn form) form) _ (good .1) (stands .entry); one = stands .maximum }) s
 
 pub demand-3-of-calls-restored : Demand3OfCallsRestored
 demand-3-of-calls-restored limit form k g G after stands s =
-    demand-3-restored limit form k g G (history limit after (savedIn plain form)) stands (history-is limit after (savedIn plain form) .honest) s
+    demand-3-restored limit form k g G (history limit after (savedIn (formIn form) form)) stands (history-is limit after (savedIn (formIn form) form) .honest) s

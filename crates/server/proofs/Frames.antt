@@ -23,7 +23,7 @@ use Rattle.reporting.specs.Wish.{wish}
 use Rattle.reporting.specs.Claims.Events.{Event, configured, cleared, asked, marked, Honest, eventsW}
 use Rattle.reporting.proofs.Histories.{leads-then}
 use Rattle.reporting.proofs.Promise.{demand-3}
-use Rattle.saved.specs.Saved.{plain, savedIn}
+use Rattle.saved.specs.Saved.{savedIn, formIn}
 use Rattle.saved.proofs.Demand3.{demand-3-restored}
 use Rattle.configure.specs.Request.{keyFor, ConfigureRecord, received, reported, configures}
 use Rattle.configure.specs.Claims.History.{doneEvents}
@@ -110,4 +110,4 @@ demand-3-of-frames limit before r k g earlier rest G after p low high s =
 -- from a table just read in
 pub demand-3-of-frames-restored : Demand3OfFramesRestored
 demand-3-of-frames-restored limit form k g G after stands s =
-    demand-3-restored limit form k g G (usesEvents limit after (savedIn plain form)) stands (uses-are-events limit after (savedIn plain form) .honest) s
+    demand-3-restored limit form k g G (usesEvents limit after (savedIn (formIn form) form)) stands (uses-are-events limit after (savedIn (formIn form) form) .honest) s

@@ -104,7 +104,7 @@ fn serve_frame(
 }
 
 // A request over bytes of which it is known whether they are a table: 7, 8, 1, 2, and then the frame. The table has been asked before the store, which
-// is refused first: in the other order the compiler keeps less in registers, and a discover takes two instructions more an attribute.
+// is refused first: in the other order the compiler keeps less in registers, and a read and a discover take more instructions.
 fn serve_known(
     store: &mut [u8],
     table: &mut [u8],

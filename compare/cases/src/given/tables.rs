@@ -2,7 +2,7 @@
 //! without last reports, and damaged ones.
 
 use reading::store::Attribute;
-use reading::table::{Config, Entry, Key, SIZE, SLOT, to_bytes};
+use reading::table::{Config, Entry, Key, SIGNED, SIZE, SLOT, UNSIGNED, to_bytes};
 
 use super::stores::CLUSTERS;
 use crate::random::Random;
@@ -54,6 +54,7 @@ fn entry(random: &mut Random, cluster: u16, attributes: &[Attribute]) -> Entry {
         minimum: random.of(&INTERVALS),
         maximum: random.of(&INTERVALS),
         change,
+        mark: random.of(&[SIGNED, UNSIGNED]),
     };
     let last = match random.below(3) {
         0 => None,
@@ -65,11 +66,13 @@ fn entry(random: &mut Random, cluster: u16, attributes: &[Attribute]) -> Entry {
 
 fn damaged(random: &mut Random, mut table: Vec<u8>) -> Vec<u8> {
     let count = usize::from(table[0]).min(15);
-    match random.below(6) {
+    match random.below(7) {
         0 => table[0] = random.of(&[17, 18, 0x80, 0xff]),
         1 => table.truncate(random.below(SIZE)),
         2 => table.push(0),
+        // a mark or a flag
         3 => table[1 + SLOT * count + 16] = random.of(&[1, 2, 0xff]),
+        4 => table[1 + SLOT * count + 17] = random.of(&[1, 2, 0xff]),
         _ => {
             let at = random.below(SIZE);
             table[at] ^= 1 << random.below(8);

@@ -1,24 +1,28 @@
 //! Calls by kind and answer, and how often each came.
 
-use reading::table::{Broken, Entry, Reason, ask, moved, place};
+use reading::table::{Broken, Entry, Reason, SIGNED, ask, moved, place};
 
 use super::call::{Answer, Call};
+use super::middle::deciding;
 
 /// The calls on a table.
 pub const CALLS: [&str; 5] = ["configure", "clear", "configuration", "mark", "ask"];
 
 /// All that is done to a table's bytes.
-pub const ALL: [&str; 6] = [
+pub const ALL: [&str; 9] = [
     "configure",
     "clear",
     "configuration",
     "mark",
     "ask",
+    "refused",
+    "signed",
+    "unsigned",
     "damaged",
 ];
 
 /// All kinds; a run that does not reach each of them has failed.
-const KINDS: [&str; 34] = [
+const KINDS: [&str; 46] = [
     "configure accepted, new key",
     "configure accepted, key again",
     "configure not accepted",
@@ -47,9 +51,21 @@ const KINDS: [&str; 34] = [
     "ask no: clock back, moved too little",
     "ask no: not moved",
     "ask no: clock back, not moved",
+    "refused, 13: configure with a mark above 1",
+    "signed: ask that the values do not decide, and the Rust says the same",
+    "signed: ask, both values below 0 or neither, and the Rust says the same",
+    "signed: ask, one value below 0 and one not, and the Rust says the same",
+    "unsigned: ask that the values do not decide, and the Rust says the same",
+    "unsigned: ask, both values below 2^63, and the Rust says the same",
+    "unsigned: ask, both values from 2^63 on, and the Rust says the same",
+    "unsigned: ask across the middle, change 0 or 1, and the Rust says the same",
+    "unsigned: ask across the middle, and the Rust says the same",
+    "unsigned: ask across the middle, where the Rust says no: a listed difference",
+    "unsigned: ask across the middle, where the Rust says yes: a listed difference",
     "damaged: length",
     "damaged: count",
     "damaged: slot past the count",
+    "damaged: mark",
     "damaged: flag",
     "damaged: time or value under flag 0",
     "damaged: another table",
@@ -88,11 +104,13 @@ impl Kinds {
     }
 }
 
-/// The kind of a call on a table of these entries, which was answered so. An
-/// ask's answer is the reason's: `Table::give` has seen to that.
+/// The kind of a call on a table of these entries, which was answered so.
 pub fn of(entries: &[Entry], call: &Call, answer: &Answer) -> &'static str {
     let yes = answer.written[0] == 1;
     match *call {
+        Call::Configure(..) if *answer == Answer::NO_MARK => {
+            "refused, 13: configure with a mark above 1"
+        }
         Call::Configure(..) if !yes => "configure not accepted",
         Call::Configure(key, _) => match place(entries, key) {
             Some(_) => "configure accepted, key again",
@@ -130,7 +148,7 @@ fn of_ask(reason: Reason, entry: Option<Entry>, now: u32, value: i64) -> &'stati
     };
     let maximum = entry.config.maximum;
     let crossed = 0 < maximum && maximum < entry.config.minimum;
-    let far = moved(value, reported) >= 1 << 63;
+    let far = moved(entry.config.mark, value, reported) >= 1 << 63;
     let back = now < time;
     match reason {
         Reason::NoEntry => "ask no: no entry",
@@ -155,14 +173,73 @@ fn of_ask(reason: Reason, entry: Option<Entry>, now: u32, value: i64) -> &'stati
     }
 }
 
+/// The kind of an ask of a key that stands, by its mark and by how the Rust stands
+/// to it. Where the Rust says otherwise, it is under the listed difference:
+/// `Table::give` has seen to that.
+pub fn of_marked(
+    entries: &[Entry],
+    call: &Call,
+    document: &Answer,
+    rust: &Answer,
+) -> Option<&'static str> {
+    let Call::Ask(key, ..) = *call else {
+        return None;
+    };
+    let signed = entries[place(entries, key)?].config.mark == SIGNED;
+    if document != rust {
+        return Some(if *rust == Answer::yes(false) {
+            "unsigned: ask across the middle, where the Rust says no: a listed difference"
+        } else {
+            "unsigned: ask across the middle, where the Rust says yes: a listed difference"
+        });
+    }
+    let Some((config, reported, value)) = deciding(entries, call) else {
+        return Some(if signed {
+            "signed: ask that the values do not decide, and the Rust says the same"
+        } else {
+            "unsigned: ask that the values do not decide, and the Rust says the same"
+        });
+    };
+    Some(match (signed, reported < 0, value < 0) {
+        (true, true, true) | (true, false, false) => {
+            "signed: ask, both values below 0 or neither, and the Rust says the same"
+        }
+        (true, ..) => "signed: ask, one value below 0 and one not, and the Rust says the same",
+        (_, false, false) => "unsigned: ask, both values below 2^63, and the Rust says the same",
+        (_, true, true) => "unsigned: ask, both values from 2^63 on, and the Rust says the same",
+        _ if config.change < 2 => {
+            "unsigned: ask across the middle, change 0 or 1, and the Rust says the same"
+        }
+        _ => "unsigned: ask across the middle, and the Rust says the same",
+    })
+}
+
 /// The kind of a damaged table.
 pub fn of_damaged(read: &Result<Vec<Entry>, Broken>) -> &'static str {
     match read {
         Err(Broken::Length) => "damaged: length",
         Err(Broken::Count) => "damaged: count",
         Err(Broken::Unused) => "damaged: slot past the count",
+        Err(Broken::Mark) => "damaged: mark",
         Err(Broken::Flag) => "damaged: flag",
         Err(Broken::Unreported) => "damaged: time or value under flag 0",
         Ok(_) => "damaged: another table",
+    }
+}
+
+#[cfg(test)]
+mod tests {
+    use super::*;
+
+    /// A kind of a call that is not named would never be missed.
+    #[test]
+    fn all_are_missed() {
+        let none = Kinds::default();
+        assert_eq!(none.missing(&ALL), KINDS);
+        let mut all = Kinds::default();
+        for kind in KINDS {
+            all.count(kind);
+        }
+        assert_eq!(all.missing(&ALL), [""; 0]);
     }
 }

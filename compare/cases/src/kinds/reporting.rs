@@ -1,6 +1,7 @@
 //! The kinds of what the two reporting commands answer.
 
 use reading::is_analog;
+use reading::table::{SIGNED, place};
 
 use super::Detail::{self, Alone, Said};
 use super::bodies::stopped_or_not;
@@ -21,6 +22,7 @@ pub fn configure(call: &Call<'_>, body: &[u8]) -> Vec<Detail> {
     }
     if call.answer.number == 0 {
         details.extend(changed(call));
+        details.extend(marked(call));
         if done && details[0] != Alone(0x00) {
             details.push(Said("with failures, others done"));
         }
@@ -50,6 +52,26 @@ fn changed(call: &Call<'_>) -> Option<Detail> {
     } else {
         None
     }
+}
+
+/// The mark of each entry that is not as it was.
+fn marked(call: &Call<'_>) -> Vec<Detail> {
+    let mut details = Vec::new();
+    for entry in call.table_after {
+        if call.table.contains(entry) {
+            continue;
+        }
+        let mark = entry.config.mark;
+        details.push(Said(if mark == SIGNED {
+            "an entry that compares as signed"
+        } else {
+            "an entry that compares as unsigned"
+        }));
+        if place(call.table, entry.key).is_some_and(|place| call.table[place].config.mark != mark) {
+            details.push(Said("an entry of another mark than before"));
+        }
+    }
+    details
 }
 
 pub fn read(call: &Call<'_>, body: &[u8]) -> Vec<Detail> {

@@ -5,7 +5,7 @@ use super::reply::{Reply, id_bytes};
 use crate::body::Body;
 use crate::number::{is_int, widened};
 use crate::store::find;
-use crate::table::{Config, Entry, Key, clear, configure as set};
+use crate::table::{Config, Entry, Key, SIGNED, UNSIGNED, clear, configure as set};
 use crate::types::change_width;
 
 /// What a record of direction 0 asks for.
@@ -27,9 +27,15 @@ impl Asked {
                 minimum,
                 maximum,
                 change,
+                mark: mark(type_code),
             },
         })
     }
+}
+
+/// How numbers of a type compare.
+fn mark(type_code: u8) -> u8 {
+    if is_int(type_code) { SIGNED } else { UNSIGNED }
 }
 
 /// Int changes are sign-extended and lose their sign; float changes become 0.

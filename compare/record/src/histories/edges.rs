@@ -1,7 +1,7 @@
 //! Histories made by hand, each around one sentence of document 01.
 
 use cases::histories::Call::{Ask, Clear, Configuration, Configure, Mark};
-use reading::table::{Config, Key};
+use reading::table::{Config, Key, SIGNED};
 
 use super::Step::{self, Call, Len};
 
@@ -29,6 +29,8 @@ fn configure(key: Key, minimum: u16, maximum: u16, change: u64) -> Step {
         minimum,
         maximum,
         change,
+        // as the Rust compares
+        mark: SIGNED,
     };
     Call(Configure(key, config))
 }

@@ -3,7 +3,7 @@
 
 use cases::Case;
 use cases::stores::bench;
-use reading::table::{Config, Entry, Key};
+use reading::table::{Config, Entry, Key, SIGNED, UNSIGNED};
 
 use super::{CONFIGURE, READ, RECEIVED, over};
 
@@ -58,13 +58,14 @@ fn asked(table: &[Entry], command: u8, body: &[u8], room: usize) -> Case {
     over(&bench(), table, &frame, room)
 }
 
-/// Empty; one entry, reported and not; half full; full, with an own key among
-/// the others and with none; a key twice.
+/// Empty; one entry, reported, and not and with another mark than its type's;
+/// half full; full, with an own key among the others and with none; a key twice.
 fn tables() -> Vec<Vec<Entry>> {
     let others: Vec<u16> = (100..116).collect();
     let mut own = of(&others);
     own[7] = entry(5, Some((0, 0)));
-    let quiet = vec![entry(5, None)];
+    let mut quiet = vec![entry(5, None)];
+    quiet[0].config.mark = UNSIGNED;
     let twice = vec![entry(5, Some((7, -7))), entry(0, None), entry(5, None)];
     vec![
         Vec::new(),
@@ -100,6 +101,11 @@ fn entry(attribute: u16, last: Option<(u32, i64)>) -> Entry {
             minimum: attribute,
             maximum: 0xff00 + attribute,
             change: u64::MAX - u64::from(attribute),
+            mark: if attribute.is_multiple_of(3) {
+                UNSIGNED
+            } else {
+                SIGNED
+            },
         },
         last,
     }

@@ -19,8 +19,10 @@ pub fn section() -> Vec<Block> {
             "An undivided write is done whole or not at all: every record is checked first, and none can fail once the first is written.",
             "A chain of replies ends: whatever boxes hand each other their replies, over any stores and tables, no more than two replies are sent, since a Default \
              Response gets nothing.",
-            "A reporting table that is saved has one saved form, and a form is of one table: restored, it is the same table without its last reports, and saved \
+            "A reporting table that is saved has one saved form, and such a form is of one table: restored, it is the same table without its last reports, and saved \
              again, the same bytes. What is read in counts as configured, and demand 3, what document 01 promises of reports, starts from it.",
+            "How far a value has moved is measured as its type asks: with a sign for the Int types, without one for all others, never in 64 bits alone. So a 64-bit \
+             meter that goes from 0 to its top is reported; the old server takes that for a move of 1. A form that was saved before tells nothing of it: it is read as signed, as it was then.",
         ]),
         text("Shown by runs, not proved:"),
         list(&[

@@ -4,7 +4,7 @@
 use mathlib.Core.Path.{_≡_}
 use mathlib.Core.Bool.{true, false, cond}
 use mathlib.Core.List.{List, []}
-use Prim.Native.Nat.{ℕ}
+use Prim.Native.Nat.{ℕ, _<_}
 use lib.ListN.{length}
 use Rattle.types.specs.Number.{AllBytes}
 use Rattle.frame.specs.declared.header.ZclHeader.{ZclHeader}
@@ -16,12 +16,14 @@ use Rattle.frame.specs.Header.{frameTypeOf, headerOf}
 use Rattle.frame.specs.Answer.{refusalNumber, Outcome}
 use Rattle.store.specs.Layout.{isStore}
 use Rattle.store.specs.Claims.Stays.{StoreLike}
+use Rattle.reporting.specs.declared.entry.Key.{Key}
+use Rattle.reporting.specs.declared.entry.ReportingConfig.{ReportingConfig}
 use Rattle.reporting.specs.Table.{capacity}
 use Rattle.reporting.specs.Carried.{sizeOk, isTable, tableBytes}
 use Rattle.server.specs.Lent.{Lent, lent}
 use Rattle.server.specs.Claims.Left.{Clears, ThenZeros, AsLong, Early}
 use Rattle.server.specs.Claims.Starts.{Starts, answering}
-use Rattle.hingedrift.specs.Tables.{left, noResult}
+use Rattle.hingedrift.specs.Tables.{left, noResult, configureLeft}
 use Rattle.hingedrift.specs.Saving.{saveLeft, restoreLeft}
 use Rattle.hingedrift.specs.Serving.{unsupportedLeft, reportLeft, handleLeft}
 
@@ -111,6 +113,17 @@ HdReportLength = OfEveryReport (λ size o. AsLong size o)
 
 abbrev pub HdReportStarts : Type 0
 HdReportStarts = (s : List ℕ) (sequence : ℕ) (ids : List ℕ) (size : ℕ) → Starts sequence ReportAttributes (reportLeft s sequence ids size)
+
+-- ---- hd_configure
+
+-- 8 for bytes that are no table, then 13 for a mark other than 0 or 1: the bytes stay, and nothing is accepted
+abbrev pub HdConfigureNoTable : Type 0
+HdConfigureNoTable =
+    (bs : List ℕ) (k : Key) (g : ReportingConfig) (mark : ℕ) → isTable capacity bs ≡ false → configureLeft bs k g mark ≡ left (refusalNumber NotATable) bs 0
+
+abbrev pub HdConfigureNoMark : Type 0
+HdConfigureNoMark =
+    (bs : List ℕ) (k : Key) (g : ReportingConfig) (mark : ℕ) → isTable capacity bs ≡ true → 1 < mark → configureLeft bs k g mark ≡ left (refusalNumber NotASavedForm) bs 0
 
 -- ---- hd_save and hd_restore
 

@@ -20,7 +20,7 @@ use Rattle.reporting.specs.Table.{capacity}
 use Rattle.reporting.specs.Carried.{tableIn}
 use Rattle.reporting.specs.Claims.Events.{Event, configured, cleared, asked, marked, clearings, settings}
 use Rattle.reporting.specs.Demand3.{Supposed, Promised, asksOf}
-use Rattle.saved.specs.Saved.{plain, savedIn}
+use Rattle.saved.specs.Saved.{savedIn, formIn}
 use Rattle.server.specs.Claims.History.{Request, requestEvents}
 use Rattle.hingedrift.specs.Tables.{keyAs, configOf, left, noResult, Configuration, newLeft, configureLeft, clearLeft, markLeft, askLeft, configurationLeft}
 use Rattle.server.specs.Lent.{lent}
@@ -38,6 +38,7 @@ pub record Intervals : Type 0 where
   pub minimum : ℕ
   pub maximum : ℕ
   pub change : ℕ
+  pub mark : ℕ
 
 -- a value at a time
 pub record Sample : Type 0 where
@@ -58,7 +59,7 @@ pub record Handled : Type 0 where
   pub store-after : List ℕ
   pub table-after : List ℕ
 
--- a call with its arguments, the number that it gave back, what it put through `accepted`, `due` or the four of a configuration, and the table's bytes
+-- a call with its arguments, the number that it gave back, what it put through `accepted`, `due` or the five of a configuration, and the table's bytes
 -- afterwards where it may change them; of hd_save the size of the buffer, the number, `saved_used` and the buffer, of hd_restore the bytes that were to be
 -- read, the number and the table. hd_table_new is none of them: a log may begin with it.
 pub data Made : Type 0 where
@@ -75,11 +76,11 @@ abbrev pub keyAt : Target → Key
 keyAt a = keyAs (a .cluster) (a .attribute)
 
 abbrev pub configAs : Intervals → ReportingConfig
-configAs g = configOf (g .minimum) (g .maximum) (g .change)
+configAs g = configOf (g .minimum) (g .maximum) (g .change) (g .mark)
 
 -- what the contract says of a call, for the bytes that it was called on: the `ensures` of src/table.rt, src/serving.rt and src/saving.rt
 abbrev pub Contract : Made → List ℕ → Type 0
-Contract (configure a g number accepted table) bs = left number table accepted ≡ configureLeft bs (keyAt a) (configAs g)
+Contract (configure a g number accepted table) bs = left number table accepted ≡ configureLeft bs (keyAt a) (configAs g) (g .mark)
 Contract (clear a number table) bs = left number table noResult ≡ clearLeft bs (keyAt a)
 Contract (mark a x number table) bs = left number table noResult ≡ markLeft bs (keyAt a) (x .now) (x .value)
 Contract (ask a x number due) bs = left number bs due ≡ askLeft bs (keyAt a) (x .now) (x .value)
@@ -129,7 +130,7 @@ requestOf h = record { store = h .store; cluster = h .cluster; unicast = isUnica
 
 -- what hd_restore read in, by its number
 abbrev pub come : List ℕ → ℕ → List Entry
-come form number = cond (eqb number 0) (savedIn plain form) []
+come form number = cond (eqb number 0) (savedIn (formIn form) form) []
 
 -- by what a call gave back: what was not accepted, or refused with a number, is none; the answer of an ask is its `due`. A request's are by the table that
 -- it was called on. A read, refused or not, clears what stood and configures what it read.
@@ -182,7 +183,7 @@ Demand3OfRestored =
     (was form bs : List ℕ) (after : List Made) (k : Key) (g : ReportingConfig) (G : ℕ)
     → Begins (read form 0) was bs
     → Log bs after
-    → lookupL k (savedIn plain form) ≡ some (fresh k g)
+    → lookupL k (savedIn (formIn form) form) ≡ some (fresh k g)
     → 1 ≤ g .«max_interval»
     → Supposed k G (allEventsOf after bs)
     → Promised g G (asksOf k (allEventsOf after bs))

@@ -4,17 +4,17 @@ use mathlib.Core.Path.{_≡_}
 use mathlib.Core.Bool.{true, false}
 use mathlib.Core.Option.{some}
 use mathlib.Core.List.{List, [], _∷_}
-use Prim.Native.Nat.{ℕ, _≤_}
+use Prim.Native.Nat.{ℕ, _-_, _≤_}
 use lib.IntN.{negsuc}
 use Rattle.types.specs.Number.{zeros}
 use Rattle.frame.specs.Reply.{padded}
 use Rattle.reporting.specs.declared.entry.Entry.{Entry}
 use Rattle.reporting.specs.Entries.{lookupL, fresh}
 use Rattle.reporting.specs.Table.{capacity}
-use Rattle.reporting.specs.Carried.{tableBytes, isTable}
+use Rattle.reporting.specs.Carried.{tableLength, tableBytes, isTable}
 use Rattle.reporting.specs.Claims.Events.{Event, asked, marked}
 use Rattle.reporting.specs.Demand3.{Supposed}
-use Rattle.saved.specs.Saved.{plain, savedIn}
+use Rattle.saved.specs.Saved.{savedIn, formIn}
 use Rattle.server.specs.Claims.Bench.{key, unmarked}
 use Rattle.server.specs.Claims.ServedHistory.{g}
 use Rattle.server.specs.Claims.LogExample.{reported}
@@ -23,9 +23,9 @@ use Rattle.hingedrift.specs.Claims.LogExample.{was, new, fifth, at, firs
 
 -- ---- before the cut
 
--- cluster fc21, attribute 5, 10 to 60 seconds, change 50: 19 bytes, and no last report
+-- cluster fc21, attribute 5, 10 to 60 seconds, change 50, signed: 20 bytes, and no last report
 abbrev pub form : List ℕ
-form = 0x01 ∷ 0x21 ∷ 0xfc ∷ 0x05 ∷ 0x00 ∷ 0x07 ∷ 0x00 ∷ 0x0a ∷ 0x00 ∷ 0x3c ∷ 0x00 ∷ 0x32 ∷ 0x00 ∷ 0x00 ∷ 0x00 ∷ 0x00 ∷ 0x00 ∷ 0x00 ∷ 0x00 ∷ []
+form = 0x01 ∷ 0x21 ∷ 0xfc ∷ 0x05 ∷ 0x00 ∷ 0x07 ∷ 0x00 ∷ 0x0a ∷ 0x00 ∷ 0x3c ∷ 0x00 ∷ 0x32 ∷ 0x00 ∷ 0x00 ∷ 0x00 ∷ 0x00 ∷ 0x00 ∷ 0x00 ∷ 0x00 ∷ 0x00 ∷ []
 
 -- configured, asked, marked; hd_save with a buffer of 32 bytes
 abbrev pub lived : List Made
@@ -33,14 +33,14 @@ lived =
     handle first
     ∷ ask fifth (at 100) 0 1
     ∷ mark fifth (at 100) 0 (tableBytes capacity (reported ∷ []))
-    ∷ save 32 0 19 (padded 32 form)
+    ∷ save 32 0 20 (padded 32 form)
     ∷ []
 
 -- ---- after it
 
 -- a count of 255: as long as a table, and none
 abbrev pub memory : List ℕ
-memory = 0xff ∷ zeros 464
+memory = 0xff ∷ zeros (tableLength - 1)
 
 abbrev pub back : List ℕ
 back = tableBytes capacity (unmarked g ∷ [])
@@ -73,5 +73,5 @@ RestoreStands = (isTable capacity memory ≡ false) × (Begins (read form 0) mem
 -- attribute 5 stands in the form, and the events are as supposed, with asks at most 59 seconds apart
 abbrev pub RestoreSupposed : Type 0
 RestoreSupposed =
-    (lookupL key (savedIn plain form) ≡ some (fresh key g))
+    (lookupL key (savedIn (formIn form) form) ≡ some (fresh key g))
     × ((1 ≤ g .«max_interval») × ((allEventsOf after back ≡ told) × Supposed key 59 told))

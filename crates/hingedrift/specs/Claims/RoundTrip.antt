@@ -10,7 +10,8 @@ use Rattle.frame.specs.Reply.{padded}
 use Rattle.frame.specs.Answer.{noState}
 use Rattle.reporting.specs.Entries.{unreported}
 use Rattle.reporting.specs.Table.{capacity}
-use Rattle.reporting.specs.Carried.{sizeOk, tableIn, tableBytes}
+use Rattle.reporting.specs.Carried.{countIn, sizeOk, tableIn, tableBytes}
+use Rattle.saved.specs.Saved.{marked, plain, savedSize, savedBytes, savedIn, formIn}
 use Rattle.hingedrift.specs.Tables.{left, noResult}
 use Rattle.hingedrift.specs.Serving.{handed}
 use Rattle.hingedrift.specs.Saving.{saveLeft, restoreLeft}
@@ -24,11 +25,22 @@ HdSaveRestore =
     → sizeOk capacity was ≡ true
     → restoreLeft was (take used buffer) ≡ left 0 (tableBytes capacity (map unreported (tableIn bs))) noResult
 
--- what hd_restore read, hd_save writes into any buffer that is long enough: 0, the same bytes and then zeros
+-- what hd_restore read, hd_save writes into any buffer that is long enough: 0, of a form with marks the same bytes, and then zeros
 abbrev pub HdRestoreSave : Type 0
 HdRestoreSave =
     (was form table : List ℕ) (room : ℕ)
     → AllBytes form
+    → formIn form ≡ marked
     → left 0 table noResult ≡ restoreLeft was form
     → length form ≤ room
     → handed 0 (length form) (padded room form) noState ≡ saveLeft table room
+
+-- of one without, its entries with marks; each is signed (crate `saved`, `OldFormBack`)
+abbrev pub HdRestoreSaveOld : Type 0
+HdRestoreSaveOld =
+    (was form table : List ℕ) (room : ℕ)
+    → AllBytes form
+    → formIn form ≡ plain
+    → left 0 table noResult ≡ restoreLeft was form
+    → savedSize marked (countIn form) ≤ room
+    → handed 0 (savedSize marked (countIn form)) (padded room (savedBytes marked (savedIn plain form))) noState ≡ saveLeft table room

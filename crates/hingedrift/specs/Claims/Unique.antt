@@ -49,9 +49,9 @@ HdTableNewOnce = (table : List ℕ) (r q : ℕ) (bs cs : List ℕ) → left r bs
 
 abbrev pub HdConfigureOnce : Type 0
 HdConfigureOnce =
-    (table : List ℕ) (cluster attribute minimum maximum change r q : ℕ) (bs cs : List ℕ) (x y : ℕ)
-    → left r bs x ≡ configureLeft table (keyAs cluster attribute) (configOf minimum maximum change)
-    → left q cs y ≡ configureLeft table (keyAs cluster attribute) (configOf minimum maximum change)
+    (table : List ℕ) (cluster attribute minimum maximum change mark r q : ℕ) (bs cs : List ℕ) (x y : ℕ)
+    → left r bs x ≡ configureLeft table (keyAs cluster attribute) (configOf minimum maximum change mark) mark
+    → left q cs y ≡ configureLeft table (keyAs cluster attribute) (configOf minimum maximum change mark) mark
     → (r ≡ q) × ((bs ≡ cs) × (x ≡ y))
 
 abbrev pub HdClearOnce : Type 0
@@ -63,10 +63,10 @@ HdClearOnce =
 
 abbrev pub HdConfigurationOnce : Type 0
 HdConfigurationOnce =
-    (table : List ℕ) (cluster attribute r q a b k l m n x y : ℕ)
-    → left r table (configurationAs a k m x) ≡ configurationLeft table (keyAs cluster attribute)
-    → left q table (configurationAs b l n y) ≡ configurationLeft table (keyAs cluster attribute)
-    → (r ≡ q) × ((a ≡ b) × ((k ≡ l) × ((m ≡ n) × (x ≡ y))))
+    (table : List ℕ) (cluster attribute r q a b k l m n x y u v : ℕ)
+    → left r table (configurationAs a k m x u) ≡ configurationLeft table (keyAs cluster attribute)
+    → left q table (configurationAs b l n y v) ≡ configurationLeft table (keyAs cluster attribute)
+    → (r ≡ q) × ((a ≡ b) × ((k ≡ l) × ((m ≡ n) × ((x ≡ y) × (u ≡ v)))))
 
 abbrev pub HdAskOnce : Type 0
 HdAskOnce =

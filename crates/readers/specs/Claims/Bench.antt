@@ -1,5 +1,6 @@
 -- Claims. BENCH REPLIES, READ: the replies of document 01's bench frames 1, 2, 3, 5, 6, 7, 9, 10 and 11, and the points that it leaves open, as one
 -- list under one claim.
+use mathlib.Core.Bool.{false}
 use mathlib.Core.Path.{_≡_}
 use mathlib.Core.List.{List, [], _∷_}
 use mathlib.Core.Option.{none, some}
@@ -64,7 +65,7 @@ abbrev pub valueAt : ℕ → ℕ → ℕ → Number → ValueIn
 valueAt t start len number = record { «type_id» = record { 0 = t }; start = start; len = len; number = number }
 
 abbrev pub config : ℕ → ℕ → ℕ → ReportingConfig
-config least most change = record { «min_interval» = least; «max_interval» = most; «reportable_change» = change }
+config least most change = record { «min_interval» = least; «max_interval» = most; «reportable_change» = change; unsigned = false }
 
 abbrev pub discovered : ℕ → ℕ → Discovered
 discovered id t = record { id = id; type = t }

@@ -1,5 +1,6 @@
 -- Claims. The records that a reply can hold: their numbers fit their fields, and a value is a whole value of its type.
 use mathlib.Core.Path.{_≡_}
+use mathlib.Core.Bool.{false}
 use Prim.Native.Nat.{ℕ, _*_, _^_, _≤_, _<_}
 use mathlib.Core.List.{List}
 use lib.ListN.{length}
@@ -32,9 +33,10 @@ WriteSendable f = Failed (f .status) × (f .id < 2 ^ 16)
 abbrev pub ConfigureSendable : Configure.Failure → Type 0
 ConfigureSendable f = Failed (f .status) × (f .id < 2 ^ 16)
 
+-- a frame has no field for the mark
 abbrev pub SettingSendable : Configuration.SettingRecord → Type 0
 SettingSendable (Configuration.setting direction id t g) =
-    (id < 2 ^ 16) × (g .«min_interval» < 2 ^ 16) × (g .«max_interval» < 2 ^ 16) × (g .«reportable_change» < 2 ^ (8 * changeWidth t))
+    (id < 2 ^ 16) × (g .«min_interval» < 2 ^ 16) × (g .«max_interval» < 2 ^ 16) × (g .«reportable_change» < 2 ^ (8 * changeWidth t)) × (g .unsigned ≡ false)
 SettingSendable (Configuration.failure status direction id) = Failed status × (id < 2 ^ 16)
 
 abbrev pub ReportSendable : ReportRecord → Type 0

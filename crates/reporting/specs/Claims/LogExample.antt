@@ -43,7 +43,7 @@ abbrev pub j : Key
 j = keyAt 0x402 3
 
 abbrev pub g : ReportingConfig
-g = record { «min_interval» = 5; «max_interval» = 30; «reportable_change» = 25 }
+g = record { «min_interval» = 5; «max_interval» = 30; «reportable_change» = 25; unsigned = false }
 
 -- k's entry, marked at second 1000
 abbrev pub reported : Entry

@@ -12,11 +12,11 @@ use Rattle.reporting.specs.declared.entry.Entry.{Entry}
 use Rattle.reporting.specs.Entries.{lookupL, fresh}
 use Rattle.reporting.specs.Claims.Events.{Event, Honest, Call, restore, call, history}
 use Rattle.reporting.specs.Demand3.{Supposed, Promised, asksOf}
-use Rattle.saved.specs.Saved.{plain, savedIn, isSaved}
+use Rattle.saved.specs.Saved.{savedIn, isSaved, formIn}
 
 -- what a read takes from bytes: the entries of a saved form, and none of other bytes
 abbrev pub taken : ℕ → List ℕ → List Entry
-taken limit bs = cond (isSaved plain limit bs) (savedIn plain bs) []
+taken limit bs = cond (isSaved (formIn bs) limit bs) (savedIn (formIn bs) bs) []
 
 -- A read is a call: what was taken stands afterwards, whatever stood before.
 abbrev pub ReadIsCall : Type 0
@@ -24,8 +24,8 @@ ReadIsCall = (limit : ℕ) (bs : List ℕ) (l : List Entry) → call limit (rest
 
 -- Key k has the configuration g in a saved form, with a maximum that is not 0. That m ≤ M and M ≤ 65534 is no supposition: a saved form has no other.
 pub record Stands (limit : ℕ) (form : List ℕ) (k : Key) (g : ReportingConfig) : Type 0 where
-  pub saved : isSaved plain limit form ≡ true
-  pub entry : lookupL k (savedIn plain form) ≡ some (fresh k g)
+  pub saved : isSaved (formIn form) limit form ≡ true
+  pub entry : lookupL k (savedIn (formIn form) form) ≡ some (fresh k g)
   pub maximum : 1 ≤ g .«max_interval»
 
 -- Of events: those that tell the truth from the table just read in.
@@ -33,7 +33,7 @@ abbrev pub Demand3Restored : Type 0
 Demand3Restored =
     (limit : ℕ) (form : List ℕ) (k : Key) (g : ReportingConfig) (G : ℕ) (later : List Event)
     → Stands limit form k g
-    → Honest limit later (savedIn plain form)
+    → Honest limit later (savedIn (formIn form) form)
     → Supposed k G later
     → Promised g G (asksOf k later)
 
@@ -42,5 +42,5 @@ abbrev pub Demand3OfCallsRestored : Type 0
 Demand3OfCallsRestored =
     (limit : ℕ) (form : List ℕ) (k : Key) (g : ReportingConfig) (G : ℕ) (after : List Call)
     → Stands limit form k g
-    → Supposed k G (history limit after (savedIn plain form))
-    → Promised g G (asksOf k (history limit after (savedIn plain form)))
+    → Supposed k G (history limit after (savedIn (formIn form) form))
+    → Promised g G (asksOf k (history limit after (savedIn (formIn form) form)))

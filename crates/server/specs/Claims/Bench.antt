@@ -94,7 +94,7 @@ asks =
 
 -- minimum 10, maximum 60, change 50
 abbrev pub configuration : ReportingConfig
-configuration = record { «min_interval» = 10; «max_interval» = 60; «reportable_change» = 50 }
+configuration = record { «min_interval» = 10; «max_interval» = 60; «reportable_change» = 50; unsigned = false }
 
 abbrev pub starred : List Claim
 starred =

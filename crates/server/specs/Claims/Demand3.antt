@@ -10,7 +10,7 @@ use Rattle.reporting.specs.declared.entry.ReportingConfig.{ReportingConfig}
 use Rattle.reporting.specs.declared.entry.Entry.{Entry}
 use Rattle.reporting.specs.Claims.Events.{Event, configured}
 use Rattle.reporting.specs.Demand3.{Supposed, Promised, asksOf}
-use Rattle.saved.specs.Saved.{plain, savedIn}
+use Rattle.saved.specs.Saved.{savedIn, formIn}
 use Rattle.saved.specs.Claims.Demand3.{Stands}
 use Rattle.server.specs.Claims.History.{Request, requestEvents, requested, Use, uses, usesEvents}
 
@@ -34,5 +34,5 @@ abbrev pub Demand3OfFramesRestored : Type 0
 Demand3OfFramesRestored =
     (limit : ℕ) (form : List ℕ) (k : Key) (g : ReportingConfig) (G : ℕ) (after : List Use)
     → Stands limit form k g
-    → Supposed k G (usesEvents limit after (savedIn plain form))
-    → Promised g G (asksOf k (usesEvents limit after (savedIn plain form)))
+    → Supposed k G (usesEvents limit after (savedIn (formIn form) form))
+    → Promised g G (asksOf k (usesEvents limit after (savedIn (formIn form) form)))

@@ -27,10 +27,10 @@ abbrev pub elsewhere : Key
 elsewhere = record { cluster = record { 0 = 0x402 }; attribute = record { 0 = 5 } }
 
 abbrev pub g : ReportingConfig
-g = record { «min_interval» = 10; «max_interval» = 60; «reportable_change» = 50 }
+g = record { «min_interval» = 10; «max_interval» = 60; «reportable_change» = 50; unsigned = false }
 
 abbrev pub f : ReportingConfig
-f = record { «min_interval» = 1; «max_interval» = 300; «reportable_change» = 5 }
+f = record { «min_interval» = 1; «max_interval» = 300; «reportable_change» = 5; unsigned = true }
 
 abbrev pub zerothRecord : List ℕ
 zerothRecord = 0x00 ∷ 0x00 ∷ 0x00 ∷ 0x23 ∷ 0x01 ∷ 0x00 ∷ 0x2c ∷ 0x01 ∷ 0x05 ∷ 0x00 ∷ 0x00 ∷ 0x00 ∷ []

@@ -1,4 +1,5 @@
--- Each field is read where the definition reads it. Assumes nothing.
+-- Each field is read where the definition reads it; the mark is by the type. Assumes nothing.
+use mathlib.Core.Bool.{not}
 use borrow.Author.Needs.{needs}
 use Rattle.configure.proofs.record.config_at.Statement.{statement}
 use Rattle.configure.proofs.record.config_at.Tie as tie
@@ -18,8 +19,18 @@ add-change-of c = search needs
 change-of-requires : tie.Need-change-of-requires
 change-of-requires c κs = search needs
 
+is-signed-requires : tie.Need-is-signed-requires
+is-signed-requires c κs = search needs
+
 returns : tie.Need-returns
-returns c = λ i. record { «min_interval» = c .before .before .u16-at .ensures i; «max_interval» = c .before .u16-at2 .ensures i; «reportable_change» = c .change-of .ensures i }
+returns c =
+    λ i.
+    record {
+      «min_interval» = c .before .before .before .u16-at .ensures i;
+      «max_interval» = c .before .before .u16-at2 .ensures i;
+      «reportable_change» = c .before .change-of .ensures i;
+      unsigned = not (c .is-signed .ensures i);
+    }
 
 pub config-at-spec : {M : Type 1} → statement M
 config-at-spec =
@@ -30,4 +41,5 @@ config-at-spec =
     u16-at-requires-2
     add-change-of
     change-of-requires
+    is-signed-requires
     returns)

@@ -1,4 +1,5 @@
--- Three numbers of the call. Assumes nothing.
+-- Three numbers of the call, and no mark. Assumes nothing.
+use mathlib.Core.Bool.{false}
 use Rattle.replay.specs.Methods.{configIn}
 use borrow.Author.Needs.{needs}
 use Rattle.replay.proofs.methods.config_in.Statement.{statement}
@@ -16,7 +17,7 @@ unsigned-at-requires c κs = search needs
 returns : tie.Need-returns
 unfolding configIn
 returns c =
-    λ i. record { «min_interval» = c .before .before .u16-at .ensures i; «max_interval» = c .before .u16-at2 .ensures i; «reportable_change» = c .unsigned-at .ensures i }
+    λ i. record { «min_interval» = c .before .before .u16-at .ensures i; «max_interval» = c .before .u16-at2 .ensures i; «reportable_change» = c .unsigned-at .ensures i; unsigned = false }
 
 pub config-in-spec : {M : Type 1} → statement M
 config-in-spec =

@@ -1,4 +1,4 @@
--- The eight readings at their places are the entry of the slot's numbers. Assumes nothing.
+-- The nine readings at their places are the entry of the slot's numbers. Assumes nothing.
 use borrow.Author.Needs.{needs}
 use mathlib.Core.Path.{ap, sym, _∙_}
 use Prim.Native.Nat.{_+_}
@@ -38,6 +38,12 @@ add-u64-in c = search needs
 u64-in-requires : tie.Need-u64-in-requires
 u64-in-requires c κs = search needs
 
+add-mark : tie.Need-add-mark
+add-mark c = search needs
+
+shared-slice-read-mark : tie.Need-shared-slice-read-mark
+shared-slice-read-mark c = search needs
+
 add-flag : tie.Need-add-flag
 add-flag c = search needs
 
@@ -62,12 +68,12 @@ bits-i64-requires c κs = search needs
 returns : tie.Need-returns
 unfolding signedAt
 returns c =
-    let bs = now (c .before .before .before .before .before .before .before .before .before .before .args .bytes) in
-    let at = c .before .before .before .before .before .before .before .before .before .before .args .at in
+    let bs = now (c .before .before .before .before .before .before .before .before .before .before .before .args .bytes) in
+    let at = c .before .before .before .before .before .before .before .before .before .before .before .args .at in
     (λ i. record {
-      key = record { cluster = record { 0 = c .before .before .before .before .before .before .before .before .u16-in .ensures i }; attribute = record { 0 = c .before .before .before .before .before .before .before .u16-in2 .ensures i } };
-      config = record { «min_interval» = c .before .before .before .before .before .before .u16-in3 .ensures i; «max_interval» = c .before .before .before .before .before .u16-in4 .ensures i; «reportable_change» = c .before .before .before .before .u64-in .ensures i };
-      marked = eqb (getD bs (at + 16) 0) 1;
+      key = record { cluster = record { 0 = c .before .before .before .before .before .before .before .before .before .u16-in .ensures i }; attribute = record { 0 = c .before .before .before .before .before .before .before .before .u16-in2 .ensures i } };
+      config = record { «min_interval» = c .before .before .before .before .before .before .before .u16-in3 .ensures i; «max_interval» = c .before .before .before .before .before .before .u16-in4 .ensures i; «reportable_change» = c .before .before .before .before .before .u64-in .ensures i; unsigned = eqb (getD bs (at + 16) 0) 1 };
+      marked = eqb (getD bs (at + 17) 0) 1;
       «last_time» = c .before .before .u32-in .ensures i;
       «last_value» = (came-back _ (c .bits-i64 .ok) ∙ c .bits-i64 .ensures ∙ ap (signedOf 8) (c .before .u64-in2 .ensures)) i;
     })
@@ -86,6 +92,8 @@ read-slot-spec =
     u16-in-requires-4
     add-u64-in
     u64-in-requires
+    add-mark
+    shared-slice-read-mark
     add-flag
     shared-slice-read-flag
     add-u32-in

@@ -1,12 +1,15 @@
 -- The tests in their order, and then the count, the contents and the bodies. Assumes nothing.
 use borrow.Author.Needs.{needs}
 use native.Mathlib.Omega.{arith}
-use mathlib.Core.Path.{sym, _∙_}
+use Prim.Native.Nat.{ℕ}
+use mathlib.Core.Path.{sym, ap, _∙_}
 use lib.ListN.{length, length-set}
 use borrow.Author.Tests.{not-true, not-false}
 use denote.Ref.{now}
+use Rattle.frame.specs.declared.answer.Answer.the-variants.{Reply}
+use Rattle.frame.specs.Answer.{seen, noState}
 use Rattle.reporting.specs.Carried.{countIn}
-use Rattle.reporting.proofs.CarriageLoops.{known-size}
+use Rattle.reporting.proofs.CarriageLoops.{known-size, known-count}
 use Rattle.saved.proofs.Lending.{save-no-table, save-not-written, save-too-long, save-done}
 use Rattle.saved.proofs.save.save.Statement.{statement}
 use Rattle.saved.proofs.save.save.Tie as tie
@@ -41,14 +44,8 @@ shared-slice-read-n c = omega (arith, known-size (now (c .before .before .before
 cast-n : tie.Need-cast-n
 cast-n c = omega (arith, c .shared-slice-known2 .given 0)
 
-add-size : tie.Need-add-size
-add-size c = search needs
-
-mul-size : tie.Need-mul-size
-mul-size c = omega (arith, c .shared-slice-known2 .given 0)
-
-add-size-2 : tie.Need-add-size-2
-add-size-2 c = omega (arith, c .shared-slice-known2 .given 0)
+body-at-requires : tie.Need-body-at-requires
+body-at-requires c κs = let n = known-count (now (c .before .before .before .before .before .before .before .args .table)) (sym (c .before .before .before .before .is-table .ensures) ∙ not-false _ (c .before .before .before .if1 .left)) in (n, n)
 
 refuse-requires-3 : tie.Need-refuse-requires-3
 refuse-requires-3 c κs = search needs
@@ -57,35 +54,31 @@ same-length-3 : tie.Need-same-length-3
 same-length-3 c = search needs
 
 returns-3 : tie.Need-returns-3
-returns-3 c =
-    let is = sym (c .before .before .before .before .before .before .before .before .before .is-table .ensures) ∙ not-false _ (c .before .before .before .before .before .before .before .before .if1 .left) in
-    let p = sym (c .before .before .before .before .before .before .before .is-savable .ensures) ∙ not-false _ (c .before .before .before .before .before .before .if2 .left) in
-    c .before .before .refuse3 .ensures ∙ save-too-long (now (c .before .before .before .before .before .before .before .before .before .before .before .before .args .table)) (length (now (c .before .before .before .before .before .before .before .before .before .before .before .before .args .saved))) is p (c .before .before .before .before .if3 .taken)
+returns-3 c = c .before .before .refuse3 .ensures ∙ save-too-long (now (c .before .before .before .before .before .before .before .before .before .before .before .before .before .args .table)) (length (now (c .before .before .before .before .before .before .before .before .before .before .before .before .before .args .saved))) (sym (c .before .before .before .before .before .before .before .before .before .before .is-table .ensures) ∙ not-false _ (c .before .before .before .before .before .before .before .before .before .if1 .left)) (sym (c .before .before .before .before .before .before .before .before .is-savable .ensures) ∙ not-false _ (c .before .before .before .before .before .before .before .if2 .left)) (omega (arith, c .before .before .before .before .if3 .taken, c .before .before .before .before .before .body-at .ensures))
 
 clear-requires : tie.Need-clear-requires
 clear-requires c κs = search needs
 
 cast-saved : tie.Need-cast-saved
-cast-saved c = omega (arith, c .before .before .before .before .before .shared-slice-known2 .given 0)
+cast-saved c = omega (arith, c .before .before .before .before .before .before .shared-slice-known2 .given 0)
 
 slice-write-saved : tie.Need-slice-write-saved
 slice-write-saved c = search needs
 
 write-rows-requires : tie.Need-write-rows-requires
-write-rows-requires c κs = (sym (c .before .before .before .before .before .before .before .before .before .before .is-table .ensures) ∙ not-false _ (c .before .before .before .before .before .before .before .before .before .if1 .left), omega (arith, c .before .before .before .before .before .if3 .left, c .before .before .before .clear .kept .0, length-set (c .before .before .before .clear .last .0) 0 (countIn (now (c .before .before .before .before .before .before .before .before .before .before .before .before .before .args .table)))))
+write-rows-requires c κs = (sym (c .before .before .before .before .before .before .before .before .before .before .before .is-table .ensures) ∙ not-false _ (c .before .before .before .before .before .before .before .before .before .before .if1 .left), omega (arith, c .before .before .before .before .before .if3 .left, c .before .before .before .before .before .before .body-at .ensures, c .before .before .before .clear .kept .0, length-set (c .before .before .before .clear .last .0) 0 (countIn (now (c .before .before .before .before .before .before .before .before .before .before .before .before .before .before .args .table)))))
 
 write-bodies-requires : tie.Need-write-bodies-requires
-write-bodies-requires c κs = (sym (c .before .before .before .before .before .before .before .before .before .before .before .before .before .before .is-table .ensures) ∙ not-false _ (c .before .before .before .before .before .before .before .before .before .before .before .before .before .if1 .left), omega (arith, c .before .before .before .before .before .before .before .before .before .if3 .left, c .before .before .before .write-rows .kept .0, c .before .before .before .before .before .before .before .clear .kept .0, length-set (c .before .before .before .before .before .before .before .clear .last .0) 0 (countIn (now (c .before .before .before .before .before .before .before .before .before .before .before .before .before .before .before .before .before .args .table)))))
+write-bodies-requires c κs = (sym (c .before .before .before .before .before .before .before .before .before .before .before .before .before .before .before .is-table .ensures) ∙ not-false _ (c .before .before .before .before .before .before .before .before .before .before .before .before .before .before .if1 .left), omega (arith, c .before .before .before .before .before .before .before .before .before .if3 .left, c .before .before .before .before .before .before .before .before .before .before .body-at .ensures, c .before .before .before .write-rows .kept .0, c .before .before .before .before .before .before .before .clear .kept .0, length-set (c .before .before .before .before .before .before .before .clear .last .0) 0 (countIn (now (c .before .before .before .before .before .before .before .before .before .before .before .before .before .before .before .before .before .before .args .table)))))
 
 same-length-4 : tie.Need-same-length-4
-same-length-4 c = c .before .before .write-bodies .kept .0 ∙ c .before .before .before .before .before .before .write-rows .kept .0 ∙ length-set (c .before .before .before .before .before .before .before .before .before .before .clear .last .0) 0 (countIn (now (c .before .before .before .before .before .before .before .before .before .before .before .before .before .before .before .before .before .before .before .before .args .table))) ∙ c .before .before .before .before .before .before .before .before .before .before .clear .kept .0
+same-length-4 c = c .before .before .write-bodies .kept .0 ∙ c .before .before .before .before .before .before .write-rows .kept .0 ∙ length-set (c .before .before .before .before .before .before .before .before .before .before .clear .last .0) 0 (countIn (now (c .before .before .before .before .before .before .before .before .before .before .before .before .before .before .before .before .before .before .before .before .before .args .table))) ∙ c .before .before .before .before .before .before .before .before .before .before .clear .kept .0
 
 returns-4 : tie.Need-returns-4
 returns-4 c =
-    let is = sym (c .before .before .before .before .before .before .before .before .before .before .before .before .before .before .before .before .before .is-table .ensures) ∙ not-false _ (c .before .before .before .before .before .before .before .before .before .before .before .before .before .before .before .before .if1 .left) in
-    let p = sym (c .before .before .before .before .before .before .before .before .before .before .before .before .before .before .before .is-savable .ensures) ∙ not-false _ (c .before .before .before .before .before .before .before .before .before .before .before .before .before .before .if2 .left) in
-    save-done (now (c .before .before .before .before .before .before .before .before .before .before .before .before .before .before .before .before .before .before .before .before .args .table)) (length (now (c .before .before .before .before .before .before .before .before .before .before .before .before .before .before .before .before .before .before .before .before .args .saved))) is p (c .before .before .before .before .before .before .before .before .before .before .clear .last .0) (c .before .before .before .before .before .before .write-rows .last .0) (c .before .before .write-bodies .last .0)
-    (c .before .before .before .before .before .before .before .before .before .before .before .before .if3 .left) (c .before .before .before .before .before .before .before .before .before .before .clear .ensures) (c .before .before .before .before .before .before .write-rows .ensures) (c .before .before .write-bodies .ensures)
+    ap (λ (n : ℕ). seen (Reply n) (c .before .before .write-bodies .last .0) noState) (c .before .before .before .before .before .before .before .before .before .before .before .before .before .body-at .ensures)
+    ∙ save-done (now (c .before .before .before .before .before .before .before .before .before .before .before .before .before .before .before .before .before .before .before .before .before .args .table)) (length (now (c .before .before .before .before .before .before .before .before .before .before .before .before .before .before .before .before .before .before .before .before .before .args .saved))) (sym (c .before .before .before .before .before .before .before .before .before .before .before .before .before .before .before .before .before .before .is-table .ensures) ∙ not-false _ (c .before .before .before .before .before .before .before .before .before .before .before .before .before .before .before .before .before .if1 .left)) (sym (c .before .before .before .before .before .before .before .before .before .before .before .before .before .before .before .before .is-savable .ensures) ∙ not-false _ (c .before .before .before .before .before .before .before .before .before .before .before .before .before .before .before .if2 .left)) (c .before .before .before .before .before .before .before .before .before .before .clear .last .0) (c .before .before .before .before .before .before .write-rows .last .0) (c .before .before .write-bodies .last .0)
+    (omega (arith, c .before .before .before .before .before .before .before .before .before .before .before .before .if3 .left, c .before .before .before .before .before .before .before .before .before .before .before .before .before .body-at .ensures)) (c .before .before .before .before .before .before .before .before .before .before .clear .ensures) (c .before .before .before .before .before .before .write-rows .ensures) (c .before .before .write-bodies .ensures)
 
 pub save-spec : {M : Type 1} → statement M
 save-spec =
@@ -101,9 +94,7 @@ save-spec =
     returns-2
     shared-slice-read-n
     cast-n
-    add-size
-    mul-size
-    add-size-2
+    body-at-requires
     refuse-requires-3
     same-length-3
     returns-3

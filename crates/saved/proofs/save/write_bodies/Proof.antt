@@ -1,21 +1,21 @@
 -- After i turns the bodies of the first i entries stand behind the contents. Assumes nothing.
 use native.Mathlib.Omega.{arith}
-use Prim.Native.Nat.{_+_, _*_, _-_, _≤_}
+use Prim.Native.Nat.{ℕ, _-_, _≤_}
 use mathlib.Core.Path.{_≡_, refl, ap, _∙_}
 use mathlib.Core.List.{List, map}
 use lib.ListN.{length}
 use lib.Seq.{sets}
 use denote.Ref.{now}
 use Rattle.reporting.specs.declared.entry.Entry.{Entry}
-use Rattle.reporting.specs.Carried.{rowsLaid, countIn}
+use Rattle.reporting.specs.Carried.{laid, rowsLaid, countIn}
 use Rattle.reporting.proofs.CarriageLoops.{known-size, known-count}
-use Rattle.saved.specs.Saved.{plain, bodyOf}
+use Rattle.saved.specs.Saved.{marked, bodyOf, offsetAt}
 use Rattle.saved.proofs.Rows.{bodiesTo, bodies-none, bodies-turn, all-taken}
 use Rattle.saved.proofs.save.write_bodies.Statement.{statement}
 use Rattle.saved.proofs.save.write_bodies.Tie as tie
 
 abbrev Inv-loop : tie.InvT-loop
-Inv-loop saved₀ table n i₀ saved i = (i ≤ n) × ((length saved ≡ length saved₀) × (saved ≡ sets saved₀ (1 + 6 * n) (rowsLaid (plain .bodies) (bodiesTo table i))))
+Inv-loop saved₀ table n i₀ saved i = (i ≤ n) × ((length saved ≡ length saved₀) × (saved ≡ sets saved₀ (offsetAt marked n 0) (rowsLaid (marked .bodies) (bodiesTo table i))))
 
 abbrev μ-loop : tie.MeasureT-loop
 μ-loop saved₀ table n i₀ saved i = n - i
@@ -38,34 +38,30 @@ add-read-slot c = omega (arith, known-count (now (c .before .before .before .bef
 read-slot-requires : tie.Need-read-slot-requires Inv-loop μ-loop
 read-slot-requires c κs = omega (arith, known-count (now (c .before .before .before .before .before .args .table)) (c .before .before .before .before .before .pre .0), known-size (now (c .before .before .before .before .before .args .table)) (c .before .before .before .before .before .pre .0))
 
-mul-write-body : tie.Need-mul-write-body Inv-loop μ-loop
-mul-write-body c = omega (arith, known-count (now (c .before .before .before .before .before .before .before .args .table)) (c .before .before .before .before .before .before .before .pre .0))
-
-add-write-body : tie.Need-add-write-body Inv-loop μ-loop
-add-write-body c = omega (arith, known-count (now (c .before .before .before .before .before .before .before .args .table)) (c .before .before .before .before .before .before .before .pre .0))
-
-mul-write-body-2 : tie.Need-mul-write-body-2 Inv-loop μ-loop
-mul-write-body-2 c = omega (arith, known-count (now (c .before .before .before .before .before .before .before .args .table)) (c .before .before .before .before .before .before .before .pre .0))
-
-add-write-body-2 : tie.Need-add-write-body-2 Inv-loop μ-loop
-add-write-body-2 c = omega (arith, known-count (now (c .before .before .before .before .before .before .before .args .table)) (c .before .before .before .before .before .before .before .pre .0))
+body-at-requires : tie.Need-body-at-requires Inv-loop μ-loop
+body-at-requires c κs = let n = known-count (now (c .before .before .before .before .before .before .args .table)) (c .before .before .before .before .before .before .pre .0) in (n, omega (arith, n, c .before .loop-test .taken))
 
 write-body-requires : tie.Need-write-body-requires Inv-loop μ-loop
-write-body-requires c κs = omega (arith, c .before .before .before .before .before .before .before .pre .1, c .before .before .loop-test .taken, c .before .before .before .loop .inv .1 .0)
+write-body-requires c κs = omega (arith, c .before .before .before .before .before .before .before .before .pre .1, c .before .before .before .loop-test .taken, c .before .before .before .before .loop .inv .1 .0, c .before .body-at .ensures)
 
 add-i : tie.Need-add-i Inv-loop μ-loop
-add-i c = omega (arith, known-count (now (c .before .before .before .before .before .before .before .before .before .before .args .table)) (c .before .before .before .before .before .before .before .before .before .before .pre .0))
+add-i c = omega (arith, known-count (now (c .before .before .before .before .before .before .before .before .before .before .before .args .table)) (c .before .before .before .before .before .before .before .before .before .before .before .pre .0))
 
 loop-less : tie.Need-loop-less Inv-loop μ-loop
 loop-less c = omega arith
 
 loop-again : tie.Need-loop-again Inv-loop μ-loop
 loop-again c =
-    let bs = now (c .before .before .before .before .before .before .before .before .before .before .args .table) in
-    let e = c .before .before .before .before .read-slot in
-    let w = c .before .before .write-body in (
+    let bs = now (c .before .before .before .before .before .before .before .before .before .before .before .args .table) in
+    let e = c .before .before .before .before .before .read-slot in
+    let w = c .before .before .write-body in
+    let o = c .before .before .before .before .body-at .ensures in (
       omega arith,
-      (w .kept .0 ∙ c .before .before .before .before .before .before .loop .inv .1 .0, bodies-turn bs (c .before .before .before .before .before .before .loop .i) (now (c .before .before .before .before .before .before .before .before .before .before .args .saved)) (c .before .before .before .before .before .before .loop .saved) (w .last .0) (c .before .before .before .before .before .loop-test .taken) (e .result) (e .ensures) (c .before .before .before .before .before .before .loop .inv .1 .1) (w .ensures)),
+      (
+        w .kept .0 ∙ c .before .before .before .before .before .before .before .loop .inv .1 .0,
+        bodies-turn bs (c .before .before .before .before .before .before .before .loop .i) (now (c .before .before .before .before .before .before .before .before .before .before .before .args .saved)) (c .before .before .before .before .before .before .before .loop .saved) (w .last .0) (c .before .before .before .before .before .before .loop-test .taken) (e .result) (e .ensures) (c .before .before .before .before .before .before .before .loop .inv .1 .1)
+            (w .ensures ∙ ap (λ (x : ℕ). sets (c .before .before .before .before .before .before .before .loop .saved) x (laid (marked .bodies) (bodyOf (e .result)))) o),
+      ),
     )
 
 same-length : tie.Need-same-length Inv-loop μ-loop
@@ -74,7 +70,7 @@ same-length c = c .before .loop .inv .1 .0
 returns : tie.Need-returns Inv-loop μ-loop
 returns c =
     let bs = now (c .before .before .before .before .before .args .table) in
-    c .before .loop .inv .1 .1 ∙ ap (λ (l : List Entry). sets (now (c .before .before .before .before .before .args .saved)) (1 + 6 * countIn bs) (rowsLaid (plain .bodies) (map bodyOf l))) (all-taken bs (c .before .loop .i) (c .loop-test .left))
+    c .before .loop .inv .1 .1 ∙ ap (λ (l : List Entry). sets (now (c .before .before .before .before .before .args .saved)) (offsetAt marked (countIn bs) 0) (rowsLaid (marked .bodies) (map bodyOf l))) (all-taken bs (c .before .loop .i) (c .loop-test .left))
 
 pub write-bodies-spec : {M : Type 1} → statement M
 write-bodies-spec =
@@ -88,10 +84,7 @@ write-bodies-spec =
     mul-read-slot
     add-read-slot
     read-slot-requires
-    mul-write-body
-    add-write-body
-    mul-write-body-2
-    add-write-body-2
+    body-at-requires
     write-body-requires
     add-i
     loop-less
