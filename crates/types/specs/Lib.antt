@@ -7,3 +7,5 @@ pub mod Value  -- the number of a value, and of a change
 pub mod Extent  -- where a value ends
 -- what is claimed of them
 pub mod Claims
+-- what only inner functions say
+pub mod Inside
