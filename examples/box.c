@@ -231,7 +231,7 @@ static void save(void)
 
 /*
  * 'restore HEX', from behind the blank. After a power cut RAM holds anything. So the table is overwritten first with what is no table, a count above
- * 16: whatever is reported then comes from the form alone. Values and clock stay as they are; a form has neither.
+ * 128: whatever is reported then comes from the form alone. Values and clock stay as they are; a form has neither.
  */
 static int restore(const char *text, size_t digits)
 {

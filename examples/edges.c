@@ -9,7 +9,10 @@
 #include "hingedrift.h"
 
 /* docs/TABLE.md: the count, then slots; the places of a slot's mark, flag, time and value. */
-enum { SLOT = 30, MARK = 16, FLAG = 17, TIME = 18, VALUE = 22, ROOM = 16 };
+enum { SLOT = 30, MARK = 16, FLAG = 17, TIME = 18, VALUE = 22, ROOM = (HD_TABLE_BYTES - 1) / SLOT };
+
+/* The entries that there was room for before; a box of then reads no longer form. */
+enum { FORMER_ROOM = 16 };
 
 /* More bytes than a table has, so that a write past the length shows. */
 enum { LENT = HD_TABLE_BYTES + 47 };
@@ -117,12 +120,12 @@ static void damaged(size_t at, uint8_t byte, const char *which)
 
 static void no_tables(void)
 {
-    static const size_t lengths[] = { 0, HD_TABLE_BYTES - 1, HD_TABLE_BYTES + 1 };
-    static const char *const names[] = { "length 0", "length 480", "length 482" };
+    static const size_t lengths[] = { 0, HD_TABLE_BYTES - 1, HD_TABLE_BYTES + 1, 1 + SLOT * FORMER_ROOM };
+    static const char *const names[] = { "length 0", "one byte short", "one byte more", "room for sixteen" };
     uint8_t lent[LENT], before[LENT];
     unsigned i;
 
-    for (i = 0; i < 3; i++) {
+    for (i = 0; i < sizeof lengths / sizeof *lengths; i++) {
         memset(lent, 0, sizeof lent);
         fill(lent, 1);
         refused(lent, lengths[i], names[i]);
@@ -131,7 +134,7 @@ static void no_tables(void)
         check(hd_table_new(lent, lengths[i]) == HD_NOT_A_TABLE, "new gives 8", names[i]);
         check(memcmp(before, lent, sizeof lent) == 0, "new leaves the bytes", names[i]);
     }
-    damaged(0, 17, "count 17");
+    damaged(0, ROOM + 1, "count 129");
     damaged(0, 255, "count 255");
     damaged(0, 1, "a slot past the count");
     damaged(1 + MARK, 2, "mark 2");
@@ -141,6 +144,8 @@ static void no_tables(void)
     damaged(1 + SLOT + TIME, 1, "a time under flag 0");
     damaged(1 + SLOT + VALUE + 7, 1, "a value under flag 0");
     damaged(1 + 2 * SLOT, 1, "a stray byte right behind the used slots");
+    damaged(1 + FORMER_ROOM * SLOT - 1, 1, "a stray byte at the end of the sixteenth slot");
+    damaged(1 + FORMER_ROOM * SLOT, 1, "a stray byte right behind the sixteenth slot");
     damaged(HD_TABLE_BYTES - 1, 1, "a stray byte at the end");
 }
 
@@ -156,24 +161,44 @@ static void new_table(void)
     check(memcmp(expected, lent, sizeof lent) == 0, "new table", "zeros, and only there");
 }
 
-/* Sixteen are accepted; a seventeenth is not, and changes nothing; one of the sixteen can still be configured again. */
+/* 128 are accepted; one more is not, and changes nothing; one of them can still be configured again, and a cleared one makes room. */
 static void full(void)
 {
     uint8_t table[HD_TABLE_BYTES], before[HD_TABLE_BYTES], accepted = 77, due = 77;
     unsigned i;
 
+    check(ROOM == 128, "full", "there is room for 128");
     fill(table, ROOM);
     memcpy(before, table, sizeof table);
-    check(hd_configure(table, sizeof table, 0x0402, 17, 10, 300, 50, HD_SIGNED, &accepted) == HD_OK, "the seventeenth", "its number");
-    check(accepted == 0, "the seventeenth", "it is not accepted");
-    check(memcmp(before, table, sizeof table) == 0, "the seventeenth", "the bytes stay");
-    check(hd_ask(table, sizeof table, 0x0402, 17, 1000, 0, &due) == HD_OK && due == 0, "the seventeenth", "it has no report");
+    check(hd_configure(table, sizeof table, 0x0402, ROOM + 1, 10, 300, 50, HD_SIGNED, &accepted) == HD_OK, "one more", "its number");
+    check(accepted == 0, "one more", "it is not accepted");
+    check(memcmp(before, table, sizeof table) == 0, "one more", "the bytes stay");
+    check(hd_ask(table, sizeof table, 0x0402, ROOM + 1, 1000, 0, &due) == HD_OK && due == 0, "one more", "it has no report");
     for (i = 0; i < ROOM; i++)
-        check(attribute_in(table, i) == i + 1, "sixteen", "in the order of their configuration");
-    check(hd_configure(table, sizeof table, 0x0402, 16, 1, 2, 3, HD_UNSIGNED, &accepted) == HD_OK && accepted == 1, "configured again", "accepted");
-    check(table[0] == ROOM && attribute_in(table, 15) == 16, "configured again", "in its place");
-    check(slot(table, 15)[MARK] == HD_UNSIGNED, "configured again", "with another mark");
-    check(slot(table, 15)[FLAG] == 0 && slot(table, 15)[TIME] == 0, "configured again", "the last report is forgotten");
+        check(attribute_in(table, i) == i + 1, "full", "in the order of their configuration");
+    check(hd_configure(table, sizeof table, 0x0402, ROOM, 1, 2, 3, HD_UNSIGNED, &accepted) == HD_OK && accepted == 1, "configured again", "accepted");
+    check(table[0] == ROOM && attribute_in(table, ROOM - 1) == ROOM, "configured again", "in its place");
+    check(slot(table, ROOM - 1)[MARK] == HD_UNSIGNED, "configured again", "with another mark");
+    check(slot(table, ROOM - 1)[FLAG] == 0 && slot(table, ROOM - 1)[TIME] == 0, "configured again", "the last report is forgotten");
+    check(hd_clear(table, sizeof table, 0x0402, 17) == HD_OK && table[0] == ROOM - 1, "cleared", "the count");
+    check(attribute_in(table, 16) == ROOM, "cleared", "the last in the hole");
+    check(hd_configure(table, sizeof table, 0x0402, ROOM + 1, 10, 300, 50, HD_SIGNED, &accepted) == HD_OK && accepted == 1, "cleared", "there is room for one");
+    check(table[0] == ROOM && attribute_in(table, ROOM - 1) == ROOM + 1, "cleared", "it stands last");
+    check(hd_configure(table, sizeof table, 0x0402, 17, 10, 300, 50, HD_SIGNED, &accepted) == HD_OK && accepted == 0, "cleared", "and for no other");
+}
+
+/* Where sixteen stand the next ones are accepted, and the sixteen stay as they were. */
+static void past_sixteen(void)
+{
+    uint8_t table[HD_TABLE_BYTES], before[HD_TABLE_BYTES], accepted = 77, due = 77;
+
+    fill(table, FORMER_ROOM);
+    memcpy(before, table, sizeof table);
+    check(hd_configure(table, sizeof table, 0x0402, 17, 10, 300, 50, HD_SIGNED, &accepted) == HD_OK && accepted == 1, "the seventeenth", "accepted");
+    check(table[0] == 17 && attribute_in(table, 16) == 17, "the seventeenth", "behind the others");
+    check(memcmp(before + 1, table + 1, SLOT * FORMER_ROOM) == 0, "the seventeenth", "the others stay");
+    check(hd_ask(table, sizeof table, 0x0402, 17, 1000, 0, &due) == HD_OK && due == 1, "the seventeenth", "it has a report");
+    check(hd_clear(table, sizeof table, 0x0402, 17) == HD_OK && memcmp(before, table, sizeof table) == 0, "the seventeenth", "cleared again");
 }
 
 /* A clear moves the last entry, with its report, into the hole, and leaves zeros where it stood. */
@@ -257,7 +282,7 @@ static void by_mark(void)
 static void marks(void)
 {
     static const uint8_t none[] = { 2, 3, 127, 128, 255 };
-    static const uint16_t keys[] = { 3, 16, 17 };
+    static const uint16_t keys[] = { 3, ROOM, ROOM + 1 };
     uint8_t lent[LENT], before[LENT], accepted, found, mark;
     uint16_t minimum, maximum;
     uint64_t change;
@@ -272,7 +297,7 @@ static void marks(void)
         check(hd_configuration(lent, HD_TABLE_BYTES, 0x0402, (uint16_t)i, &found, &minimum, &maximum, &change, &mark) == HD_OK, "marks", "its number");
         check(found == 1 && mark == mark_of(i), "marks", "as configured");
     }
-    check(hd_configuration(lent, HD_TABLE_BYTES, 0x0402, 17, &found, &minimum, &maximum, &change, &mark) == HD_OK, "marks", "its number");
+    check(hd_configuration(lent, HD_TABLE_BYTES, 0x0402, ROOM + 1, &found, &minimum, &maximum, &change, &mark) == HD_OK, "marks", "its number");
     check(found == 0 && minimum == 0 && maximum == 0 && change == 0 && mark == 0, "marks", "five zeros where nothing is configured");
     for (i = 0; i < sizeof none; i++)
         for (k = 0; k < 3; k++) {
@@ -281,6 +306,16 @@ static void marks(void)
             check(accepted == 0, "marks", "13 writes 0");
             check(memcmp(before, lent, sizeof lent) == 0, "marks", "13 leaves the table");
         }
+}
+
+/* Whether a buffer of so many bytes is tried for a form: each where the form is short, and around the lengths that matter where it is long. */
+static int tried(size_t room, size_t form)
+{
+    const size_t former = 1 + 19 * FORMER_ROOM;
+
+    if (form <= former)
+        return room <= former + 47 || room >= HD_SAVED_BYTES;
+    return room < 48 || (room + 3 > form && room < form + 4) || room % 97 == 0 || room >= HD_SAVED_BYTES;
 }
 
 /* A table of n entries is saved in its form's length and in any longer buffer, zeros behind it, and in no shorter one. */
@@ -294,8 +329,11 @@ static void saved_in(unsigned n, const char *which)
     fill(lent, n);
     memcpy(before, lent, sizeof lent);
     for (room = 0; room < form; room++)
-        not_saved(lent, HD_TABLE_BYTES, room, HD_TOO_LONG, which);
+        if (tried(room, form))
+            not_saved(lent, HD_TABLE_BYTES, room, HD_TOO_LONG, which);
     for (room = form; room <= sizeof saved; room++) {
+        if (!tried(room, form))
+            continue;
         used = 7777;
         memset(saved, 0xa5, sizeof saved);
         check(hd_save(lent, HD_TABLE_BYTES, saved, room, &used) == HD_OK && used == form, "save", which);
@@ -326,14 +364,16 @@ static void saves(void)
     saved_in(0, "no entry");
     saved_in(1, "one entry");
     saved_in(2, "two entries");
-    saved_in(ROOM, "sixteen entries");
+    saved_in(FORMER_ROOM, "sixteen entries");
+    saved_in(FORMER_ROOM + 1, "seventeen entries");
+    saved_in(ROOM, "128 entries");
     not_written(0, 0xffff, "maximum ffff");
     not_written(0xffff, 0, "maximum 0 with minimum ffff");
     not_written(11, 10, "maximum below minimum");
     not_written(0xffff, 0xfffe, "maximum fffe below minimum ffff");
     memset(lent, 0xa5, sizeof lent);
     fill(lent, ROOM);
-    memcpy(slot(lent, 15), slot(lent, 0), 4);
+    memcpy(slot(lent, ROOM - 1), slot(lent, 0), 4);
     not_saved(lent, HD_TABLE_BYTES, HD_SAVED_BYTES, HD_NOT_A_SAVED_FORM, "a key twice");
 }
 
@@ -362,7 +402,7 @@ static void restored_from(unsigned n, const char *which)
     memset(saved, 0, sizeof saved);
     check(hd_save(table, sizeof table, saved, HD_SAVED_BYTES, &used) == HD_OK, "save", which);
     for (len = 0; len <= sizeof saved; len++)
-        if (len != used && !(n == 1 && len + 1 == used))
+        if (tried(len, used) && len != used && !(n == 1 && len + 1 == used))
             not_restored(saved, len, which);
     memset(expected, 0xa5, sizeof expected);
     memcpy(expected, table, sizeof table);
@@ -405,7 +445,7 @@ static void restored_from_old(unsigned n, const char *which)
     unsigned i;
 
     for (len = 0; len <= sizeof saved; len++)
-        if (len != form && !(n == 1 && len == form + 1))
+        if (tried(len, form) && len != form && !(n == 1 && len == form + 1))
             not_restored(saved, len, which);
     fill(table, n);
     memset(expected, 0xa5, sizeof expected);
@@ -455,6 +495,28 @@ static void with_intervals(uint16_t minimum, uint16_t maximum, const char *which
     not_restored(saved, sizeof saved, which);
 }
 
+/* A form in all but that it has one entry more than there is room for. */
+static void too_many(void)
+{
+    uint8_t saved[1 + 19 * (ROOM + 1)];
+    size_t i;
+
+    memset(saved, 0, sizeof saved);
+    saved[0] = ROOM + 1;
+    for (i = 0; i <= ROOM; i++) {
+        uint8_t *row = saved + 1 + 6 * i;
+        const size_t at = 1 + 6 * (ROOM + 1) + BODY * i;
+
+        row[0] = 0x02;
+        row[1] = 0x04;
+        row[2] = (uint8_t)i;
+        row[4] = (uint8_t)at;
+        row[5] = (uint8_t)(at >> 8);
+        saved[at + 2] = 60;
+    }
+    not_restored(saved, sizeof saved, "count 129");
+}
+
 static void restores(void)
 {
     static const size_t lengths[] = { 0, HD_TABLE_BYTES - 1, HD_TABLE_BYTES + 1 };
@@ -465,7 +527,9 @@ static void restores(void)
     restored_from(0, "no entry");
     restored_from(1, "one entry");
     restored_from(2, "two entries");
-    restored_from(ROOM, "sixteen entries");
+    restored_from(FORMER_ROOM, "sixteen entries");
+    restored_from(FORMER_ROOM + 1, "seventeen entries");
+    restored_from(ROOM, "128 entries");
     changed(0, 0, "count 0, bytes behind");
     changed(0, 2, "count 2, bytes missing");
     changed(0, 255, "count 255");
@@ -476,7 +540,9 @@ static void restores(void)
     changed(SAVED_MARK, 255, "mark 255");
     restored_from_old(1, "one entry without marks");
     restored_from_old(2, "two entries without marks");
-    restored_from_old(ROOM, "sixteen entries without marks");
+    restored_from_old(FORMER_ROOM, "sixteen entries without marks");
+    restored_from_old(ROOM, "128 entries without marks");
+    too_many();
     with_intervals(0, 0xffff, "maximum ffff");
     with_intervals(0xffff, 0, "maximum 0 with minimum ffff");
     with_intervals(11, 10, "maximum below minimum");
@@ -502,6 +568,7 @@ int main(void)
     no_tables();
     new_table();
     full();
+    past_sixteen();
     hole();
     far_apart();
     by_mark();

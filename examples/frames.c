@@ -155,7 +155,7 @@ static void damages(void)
         if (kind == 2)
             store[2] = 65;
         if (kind >= 3)
-            table[0] = 17;
+            table[0] = 129;
         if (kind == 5)
             store[12] = 0;
         memset(reply, 0xaa, sizeof reply);

@@ -42,12 +42,12 @@ int main(void)
     size_t used;
 
     expect(hd_table_new(table, sizeof table) == HD_OK, "no new table");
-    printf("new table: %u of 16 configured\n", table[0]);
+    printf("new table: %u of 128 configured\n", table[0]);
 
     /* At least 10 seconds apart, at most 60, and in between when the value has moved by 50 or more; the value is an Int, and so has a sign. */
     expect(hd_configure(table, sizeof table, CLUSTER, ATTRIBUTE, 10, 60, 50, HD_SIGNED, &accepted) == HD_OK, "configure was refused");
     expect(accepted == 1, "there was no room");
-    printf("configured: %u of 16\n", table[0]);
+    printf("configured: %u of 128\n", table[0]);
 
     expect(hd_configuration(table, sizeof table, CLUSTER, ATTRIBUTE, &found, &minimum, &maximum, &change, &mark) == HD_OK, "configuration was refused");
     expect(found == 1 && minimum == 10 && maximum == 60 && change == 50 && mark == HD_SIGNED, "another configuration");
@@ -70,13 +70,13 @@ int main(void)
     printf("saved: %u bytes\n", (unsigned)used);
     memset(table, 0xa5, sizeof table);
     expect(hd_restore(table, sizeof table, saved, used) == HD_OK, "restore was refused");
-    printf("restored: %u of 16 configured\n", table[0]);
+    printf("restored: %u of 128 configured\n", table[0]);
     ask(3, -200, 1);    /* configured, and not reported yet */
     expect(hd_mark(table, sizeof table, CLUSTER, ATTRIBUTE, 3, -200) == HD_OK, "mark was refused");
     ask(12, 0, 0);      /* the minimum is 10 again */
 
     expect(hd_clear(table, sizeof table, CLUSTER, ATTRIBUTE) == HD_OK, "clear was refused");
-    printf("cleared: %u of 16 configured\n", table[0]);
+    printf("cleared: %u of 128 configured\n", table[0]);
     ask(1000, 0, 0);
     return 0;
 }

@@ -26,11 +26,11 @@
 extern "C" {
 #endif
 
-/* The bytes of a table. It has room for 16 attributes. */
-#define HD_TABLE_BYTES 481
+/* The bytes of a table. It has room for 128 attributes. */
+#define HD_TABLE_BYTES 3841
 
-/* The bytes of the longest saved form of a table: one byte, and 19 for each of 16 attributes. */
-#define HD_SAVED_BYTES 305
+/* The bytes of the longest saved form of a table: one byte, and 19 for each of 128 attributes. */
+#define HD_SAVED_BYTES 2433
 
 /* What a call returns: that it was done, */
 #define HD_OK 0
@@ -105,7 +105,7 @@ uint8_t hd_table_new(uint8_t *table, size_t table_len);
  * `minimum` seconds have passed since the last one and the value has moved, by `change` or more; or when `maximum` seconds have
  * passed too, whatever the value (0: never for the time alone; ffff: no reports at all). How far a value has moved is measured as `mark` says:
  * HD_SIGNED, as for the Int types, or HD_UNSIGNED, as for all others, by the 64 bits of the value; any other mark gets HD_NOT_A_MARK. A request
- * that configures sets the mark of its type. Writes 1 to *accepted, or 0 where 16 other attributes are configured: the table is then as it was,
+ * that configures sets the mark of its type. Writes 1 to *accepted, or 0 where 128 other attributes are configured: the table is then as it was,
  * and HD_OK is returned.
  */
 uint8_t hd_configure(uint8_t *table, size_t table_len, uint16_t cluster, uint16_t attribute, uint16_t minimum, uint16_t maximum, uint64_t change, uint8_t mark, uint8_t *accepted);

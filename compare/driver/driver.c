@@ -4,13 +4,15 @@
  *
  * Every number on the pipe has 8 bytes, the lowest first, as it lies in the memory of an x86-64.
  *
- * A call: eleven numbers (its function, as in `answer` below; 6 arguments; the lengths of 4 buffers), then the bytes of the buffers, one behind
- * the other. What a function does not have is 0.
+ * A call: fifteen numbers (its function, as in `answer` below; 6 arguments; the lengths of 4 buffers, and how many bytes of each are told), then
+ * these bytes of the buffers, one behind the other: all that follow in a buffer are as the last that is told, so that a table's blank slots cost
+ * nothing. What a function does not have is 0.
  *
  * Function 0 is no call: it ends a batch. The answers are kept until then, so that the other end can write a whole batch before it reads.
  *
- * An answer: six numbers (what the function returned; 5 results), then each buffer as it is afterwards, between two walls of 16 bytes. The
- * wall behind has up to 7 more, so that all buffers start at multiples of 8, as lists of numbers must. Results and walls were all a5.
+ * An answer: six numbers (what the function returned; 5 results), then each buffer as it is afterwards: how many bytes are told, and these between
+ * two walls of 16 bytes. The wall behind has up to 7 more, so that all buffers start at multiples of 8, as lists of numbers must. Results and
+ * walls were all a5.
  */
 #include <stdio.h>
 #include <stdlib.h>
@@ -22,11 +24,11 @@ enum { ARGUMENTS = 6, RESULTS = 5, BUFFERS = 4 };
 
 enum { WALL = 16 };
 
-/* The most bytes that a batch's answers may have. */
+/* The most bytes that a batch's answers may have, and that a call may be lent. */
 enum { MOST = 1 << 24 };
 
 struct call {
-    uint64_t function, arguments[ARGUMENTS], lengths[BUFFERS];
+    uint64_t function, arguments[ARGUMENTS], lengths[BUFFERS], told[BUFFERS];
 };
 
 struct answer {
@@ -34,9 +36,9 @@ struct answer {
     union result results[RESULTS];
 };
 
-/* The answers of this batch. Buffers are lent where they stand in them: nothing needs to be copied to show what became of one. */
-static uint8_t *answers;
-static size_t answered;
+/* The answers of this batch, and what its last call was lent. */
+static uint8_t *answers, *memory;
+static size_t answered, taken;
 
 void end(const char *trouble)
 {
@@ -44,28 +46,58 @@ void end(const char *trouble)
     exit(1);
 }
 
-/* The next bytes of the answers, all a5. */
-static void *room(size_t length)
+/* Puts the bytes behind the answers. */
+static void put(const void *bytes, size_t length)
 {
-    uint8_t *start = answers + answered;
-
     if (length > MOST - answered)
         end("a batch is too long");
+    memcpy(answers + answered, bytes, length);
     answered += length;
-    return memset(start, BEFORE, length);
 }
 
-/* A buffer in the answers, between its walls, with the bytes that come next. */
-static uint8_t *lent(uint64_t length)
+/* The bytes of a wall behind a buffer. */
+static size_t behind(uint64_t length)
 {
-    uint8_t *buffer;
+    return (length + 7) / 8 * 8 - length + WALL;
+}
 
-    if (length > MOST)
-        end("a buffer is too long");
-    buffer = (uint8_t *)room(WALL + (length + 7) / 8 * 8 + WALL) + WALL;
-    if (fread(buffer, 1, length, stdin) != length)
+/* A buffer between its walls, of which so many bytes come next. */
+static uint8_t *lent(uint64_t length, uint64_t told)
+{
+    uint8_t *buffer = memory + taken + WALL;
+
+    if (length > MOST || told > length || (told == 0 && length != 0) || WALL + length + behind(length) > MOST - taken)
+        end("no such buffer");
+    taken += WALL + length + behind(length);
+    memset(buffer - WALL, BEFORE, WALL);
+    if (fread(buffer, 1, told, stdin) != told)
         end("a call is cut");
+    if (told != 0)
+        memset(buffer + told, buffer[told - 1], length - told);
+    memset(buffer + length, BEFORE, behind(length));
     return buffer;
+}
+
+/* How many bytes tell the buffer: all that follow are as the last of them. */
+static uint64_t told(const uint8_t *buffer, uint64_t length)
+{
+    enum { STRIDE = 256 };
+
+    while (length > STRIDE && memcmp(buffer + length - 1 - STRIDE, buffer + length - STRIDE, STRIDE) == 0)
+        length -= STRIDE;
+    while (length > 1 && buffer[length - 2] == buffer[length - 1])
+        length--;
+    return length;
+}
+
+/* What became of a buffer and its walls. */
+static void show(const uint8_t *buffer, uint64_t length)
+{
+    uint64_t some = told(buffer, length);
+
+    put(&some, sizeof some);
+    put(buffer - WALL, WALL + some);
+    put(buffer + length, behind(length));
 }
 
 /* Makes the call. Lists of 16-bit numbers have lengths in bytes on the pipe. */
@@ -113,19 +145,24 @@ static uint8_t answer(uint64_t function, const uint64_t *a, uint8_t *const *b, c
 int main(void)
 {
     struct call call;
-    struct answer *to;
+    struct answer to;
     uint8_t *buffers[BUFFERS];
     unsigned i;
 
     answers = malloc(MOST);
-    if (answers == NULL || setvbuf(stdin, NULL, _IOFBF, 1 << 16) != 0)
+    memory = malloc(MOST);
+    if (answers == NULL || memory == NULL || setvbuf(stdin, NULL, _IOFBF, 1 << 16) != 0)
         end("there is no memory");
     while (fread(&call, sizeof call, 1, stdin) == 1) {
         if (call.function != 0) {
-            to = room(sizeof *to);
+            taken = 0;
             for (i = 0; i < BUFFERS; i++)
-                buffers[i] = lent(call.lengths[i]);
-            to->number = answer(call.function, call.arguments, buffers, call.lengths, to->results);
+                buffers[i] = lent(call.lengths[i], call.told[i]);
+            memset(&to, BEFORE, sizeof to);
+            to.number = answer(call.function, call.arguments, buffers, call.lengths, to.results);
+            put(&to, sizeof to);
+            for (i = 0; i < BUFFERS; i++)
+                show(buffers[i], call.lengths[i]);
         } else {
             if (fwrite(answers, 1, answered, stdout) != answered || fflush(stdout) != 0)
                 end("the answers cannot be written");

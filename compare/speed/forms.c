@@ -14,7 +14,7 @@ static uint8_t store[] = {
     0x21, 0xfc, 4, 0, 0, 0, 0x23, 2, 36, 0, 4, 0, 1, 0, 0x20, 1, 40, 0, 1, 0, 5, 0, 0x29, 3, 41, 0, 2, 0, 7, 0, 0x42, 1, 43, 0, 5, 0,
     0, 0, 0, 0x80, 7, 0x38, 0xff, 2, 'T', 'V', 0, 0
 };
-static uint8_t table[481];
+static uint8_t table[3841];
 static uint8_t reply[64];
 
 struct row {

@@ -11,7 +11,7 @@
 #include "hingedrift.h"
 
 /* The most that is read: bytes of a line, of a store and of a frame, of a reply buffer; attributes to report; calls of a row. */
-enum { LINE = 1 << 14, BYTES = 1 << 12, ROOM = 1 << 12, IDS = 64, CALLS = 64 };
+enum { LINE = 1 << 15, BYTES = 1 << 12, ROOM = 1 << 12, IDS = 64, CALLS = 128 };
 
 enum kind { REQUEST, REPORT, ASK, MARK, KINDS };
 

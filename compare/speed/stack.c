@@ -5,13 +5,16 @@
  *
  * Arguments and return address count; what else a call of an empty function takes is subtracted. Every function is called on every row: the server's
  * with its requests, the readers with what was asked and what was said, the table's with the attributes of its store and with its asks. A table is saved
- * and restored as it stands in a row, and first a full one.
+ * and restored as it stands in a row, and first one of 16 entries and a full one.
  *
  * Prints a line a function: its name, bytes, and the row and frame. Exits with 1 where one was never called, never said HD_OK or took no stack.
  */
 #define _XOPEN_SOURCE 700
 #include "painted.h"
 #include "rows.h"
+
+/* The entries of a full table: each has a row and a body in the saved form. */
+enum { ENTRIES = (HD_SAVED_BYTES - 1) / (6 + 13) };
 
 /* What the calls below are given: a row, one of its calls, a copy of its table, a frame to serve or to read, a record's number; */
 static struct row row;
@@ -199,15 +202,15 @@ static void save_and_restore(void)
     }
 }
 
-/* The same with a table of 16 entries. */
-static void full(void)
+/* The same with a table of so many entries. */
+static void filled(unsigned many)
 {
     uint16_t i;
 
-    strcpy(name, "a full table");
-    strcpy(what, "of 16 entries");
+    strcpy(name, "a table");
+    sprintf(what, "of %u entries", many);
     hd_table_new(table, sizeof table);
-    for (i = 0; i < 16; i++) {
+    for (i = 0; i < many; i++) {
         hd_configure(table, sizeof table, 0x0402, i, 10, 300, 50, HD_SIGNED, &b1);
         hd_mark(table, sizeof table, 0x0402, i, 100000, -5);
     }
@@ -279,7 +282,8 @@ int main(void)
     int status = 0;
 
     base = stack_of(call_empty) - sizeof(void *);
-    full();
+    filled(16);
+    filled(ENTRIES);
     each_line(take);
     for (function = functions; function < functions + MANY; function++) {
         printf("%s %lu %s\n", function->name, (unsigned long)function->most, function->on);

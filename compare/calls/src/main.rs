@@ -2,7 +2,9 @@
 //! after every one the answer and the whole table. The Rust compares all numbers
 //! with their sign: where a key is marked to compare without one, ours is held to
 //! the reading of the documents, and what the Rust says otherwise is a listed
-//! difference, which must come. Two runs make the same calls.
+//! difference, which must come. A history whose entries never pass 16 at once is
+//! given to a table of 16 as well, which is to answer alike. Two runs make the
+//! same calls.
 //!
 //! It prints how often each kind of call came, and fails at the first
 //! disagreement, with the shortest history that it finds to lead there, and
@@ -10,6 +12,7 @@
 
 mod call;
 mod damaged;
+mod former;
 mod table;
 
 use std::fmt::Write;
@@ -29,6 +32,9 @@ const CALLS: usize = 1_000_000;
 
 /// Of the marks that a configuration is given, two are none.
 pub const MARKS: [u8; 8] = [0, 0, 0, 1, 1, 1, 2, 255];
+
+/// Ours is called over a pipe: so many calls are made at a time.
+const BATCH: usize = 10;
 
 /// One table in so many is kept, to try damaged copies of it.
 const KEPT: usize = 200;
@@ -59,7 +65,7 @@ fn run() -> Result<(), String> {
         histories += 1;
     }
     for table in &kept {
-        driver.agree(&damaged::calls(table, random, kinds)?)?;
+        damaged::compare(driver, table, random, kinds)?;
     }
     let seconds = start.elapsed().as_secs_f64();
     println!("calls: {calls} in {histories} histories agree, {seconds:.1} s");
@@ -109,7 +115,7 @@ fn history(
     let length = 1 + random.below(most);
     let mut history = History::marked(random, &MARKS);
     let mut calls = Vec::with_capacity(length);
-    let mut held = Vec::with_capacity(length);
+    let mut held = Vec::with_capacity(BATCH);
     let mut table = Table::new();
     for _ in 0..length {
         let call = history.call(random, table.entries());
@@ -123,14 +129,22 @@ fn history(
         {
             kinds.count(kind);
         }
+        kinds.count(kinds::of_left(table.entries()));
+        if given.former {
+            kinds.count(kinds::of_former(table.entries()));
+        }
         held.push(given.held);
         if random.one_in(KEPT) {
             kept.push(table.bytes().to_vec());
         }
+        if held.len() == BATCH || calls.len() == length {
+            if driver.first_wrong(&held)?.is_some() {
+                return Err(disagreement(driver, &calls));
+            }
+            held.clear();
+        }
     }
-    if driver.first_wrong(&held)?.is_some() {
-        return Err(disagreement(driver, &calls));
-    }
+    kinds.count(kinds::of_history(table.passed()));
     Ok(length)
 }
 

@@ -9,9 +9,12 @@ use ours::Held;
 use reading::table::{Entry, to_bytes};
 
 use crate::call::{leaving, on};
+use crate::former::Former;
 
 pub struct Table {
     rust: oracle::Table,
+    /// The Rust's with the limit of before.
+    former: Former,
     /// By the documents. They are the Rust's but for the marks, which it does not
     /// have.
     entries: Vec<Entry>,
@@ -26,6 +29,8 @@ pub struct Given {
     pub answer: Answer,
     /// The Rust's; nothing to a mark that it cannot be given.
     pub rust: Option<Answer>,
+    /// Whether the Rust's table with the limit of before was given it too.
+    pub former: bool,
     pub held: Held,
 }
 
@@ -33,6 +38,7 @@ impl Table {
     pub fn new() -> Self {
         Self {
             rust: oracle::Table::default(),
+            former: Former::new(),
             entries: Vec::new(),
             bytes: to_bytes(&[]),
         }
@@ -42,6 +48,7 @@ impl Table {
     pub fn of(bytes: &[u8], entries: Vec<Entry>) -> Self {
         Self {
             rust: oracle::Table::of(&entries),
+            former: Former::none(),
             entries,
             bytes: bytes.to_vec(),
         }
@@ -55,6 +62,11 @@ impl Table {
         &self.bytes
     }
 
+    /// Whether it had more entries at once than there was room for before.
+    pub fn passed(&self) -> bool {
+        self.former.passed()
+    }
+
     /// Gives the Rust the call: ours is to say what the documents say, and to
     /// leave the bytes of their table. An error where the Rust says or leaves
     /// otherwise, but for the listed difference.
@@ -64,8 +76,10 @@ impl Table {
         let answer = call.document(&mut self.entries);
         self.bytes = to_bytes(&self.entries);
         let rust = (answer != Answer::NO_MARK).then(|| self.rust.call(call));
+        let mut former = false;
         if let Some(rust) = &rust {
             self.stands(&before, call, &answer, rust)?;
+            former = self.former.give(call, rust, || self.rust.entries())?;
         }
         let held = Held {
             call: on(call, &lent),
@@ -75,6 +89,7 @@ impl Table {
             before,
             answer,
             rust,
+            former,
             held,
         })
     }

@@ -4,7 +4,7 @@ mod call;
 pub mod kinds;
 pub mod middle;
 
-use reading::table::{Config, Entry, Key, SIGNED};
+use reading::table::{Config, ENTRIES, Entry, Key, SIGNED};
 
 use crate::random::Random;
 
@@ -62,9 +62,25 @@ const MIXES: [[usize; 5]; 5] = [
     [5, 5, 2, 5, 5],
 ];
 
+/// How many keys a history has: about as many as tables had room for before
+/// document 02's request 7;
+const FEW: [usize; 7] = [1, 3, 8, 16, 17, 20, 40];
+
+/// and about as many as they have room for now.
+const MANY: [usize; 6] = [
+    ENTRIES / 2,
+    ENTRIES - 1,
+    ENTRIES,
+    ENTRIES + 1,
+    ENTRIES + 2,
+    2 * ENTRIES,
+];
+
 /// One history's keys and calls, and a clock and a value that walk.
 pub struct History {
     keys: Vec<Key>,
+    /// So many of them are configured first.
+    first: usize,
     /// Those that a configuration is given.
     marks: &'static [u8],
     mix: [usize; 5],
@@ -75,9 +91,10 @@ pub struct History {
 impl History {
     /// All that it configures compares with the sign, as the Rust does.
     pub fn new(random: &mut Random) -> Self {
-        let many = random.of(&[1, 3, 8, 16, 17, 20, 40]);
+        let many = random.of(&FEW);
         Self {
             keys: (0..many).map(|_| key(random)).collect(),
+            first: 0,
             marks: &[SIGNED],
             mix: random.of(&MIXES),
             now: random.of(&TIMES),
@@ -85,16 +102,27 @@ impl History {
         }
     }
 
-    /// With these marks.
+    /// With these marks; and one in four has so many keys that the table is soon
+    /// full.
     pub fn marked(random: &mut Random, marks: &'static [u8]) -> Self {
-        Self {
+        let mut history = Self {
             marks,
             ..Self::new(random)
+        };
+        if random.one_in(4) {
+            let many = random.of(&MANY);
+            history.keys = (0..many).map(|_| far_key(random)).collect();
+            history.first = many;
         }
+        history
     }
 
     /// The next call on a table of these entries.
     pub fn call(&mut self, random: &mut Random, entries: &[Entry]) -> Call {
+        if self.first > 0 {
+            self.first -= 1;
+            return Call::Configure(self.keys[self.first], config(random, self.marks));
+        }
         let mut ticket = random.below(self.mix.iter().sum());
         let mut kind = 0;
         while ticket >= self.mix[kind] {
@@ -193,6 +221,14 @@ fn key(random: &mut Random) -> Key {
     Key {
         cluster: random.of(&CLUSTERS),
         attribute: random.of(&ATTRIBUTES),
+    }
+}
+
+/// Of more than a table has room for.
+fn far_key(random: &mut Random) -> Key {
+    Key {
+        attribute: random.short(),
+        ..key(random)
     }
 }
 

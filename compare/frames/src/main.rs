@@ -30,8 +30,8 @@ use counted::Counted;
 const FRAMES: usize = BATCHES * BATCH;
 
 /// so many of them at a time by ours, which is called over a pipe.
-const BATCH: usize = 1000;
-const BATCHES: usize = 1150;
+const BATCH: usize = 10;
+const BATCHES: usize = 115_000;
 
 fn main() -> ExitCode {
     match run() {

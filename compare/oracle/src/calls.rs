@@ -1,22 +1,23 @@
-//! Calls on the held `ReportingTable<16>`.
+//! Calls on the held `ReportingTable`.
 
 use cases::histories::{Answer, Call};
-use reading::table::{Config, Entry, Key, SIGNED};
+use reading::table::{Config, ENTRIES, Entry, Key, SIGNED};
 use zigbee_cluster_library::reporting::{AttributeReporting, ReportingConfig, ReportingTable};
 use zigbee_cluster_library::types::ids::{AttributeId, ClusterId};
 
 use crate::tables;
 
-pub struct Table(ReportingTable<16>);
+/// With room for so many entries.
+pub struct Table<const N: usize = ENTRIES>(ReportingTable<N>);
 
 /// A table without entries.
-impl Default for Table {
+impl<const N: usize> Default for Table<N> {
     fn default() -> Self {
         Self(ReportingTable::new())
     }
 }
 
-impl Table {
+impl<const N: usize> Table<N> {
     /// A table of these entries, however they came about.
     pub fn of(entries: &[Entry]) -> Self {
         Self(tables::of(entries))

@@ -1,5 +1,6 @@
 //! The oracle: the held Rust's `ClusterServer` over a store that keeps
-//! document 01's store rules, and its `ReportingTable<16>`. The Rust has no
+//! document 01's store rules, and its `ReportingTable`, with room for as many
+//! entries as a table has by document 02's request 7. The Rust has no
 //! store, so `reading`'s is taken, and its extents where a value is stored;
 //! nothing else of it.
 
@@ -44,7 +45,7 @@ pub struct Outcome {
 pub struct Oracle(Lists);
 
 impl Oracle {
-    /// One request, over a sound store and a table of at most sixteen. An
+    /// One request, over a sound store and a table. An
     /// error where the Rust panics.
     pub fn handle(
         &mut self,

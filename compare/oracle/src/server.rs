@@ -3,7 +3,7 @@
 use std::cell::{Ref, RefCell};
 
 use reading::store::{check, cluster_of, find};
-use reading::table::Entry;
+use reading::table::{ENTRIES, Entry};
 use reading::{Extent, extent};
 use zigbee_cluster_library::frame::Status;
 use zigbee_cluster_library::reporting::{AttributeReporting, ReportingTable};
@@ -18,14 +18,14 @@ pub struct Server {
     /// The Rust lends the server unchangeably, also for a write.
     store: RefCell<Vec<u8>>,
     attributes: &'static [AttrInfo],
-    table: ReportingTable<16>,
+    table: ReportingTable<ENTRIES>,
 }
 
 impl Server {
     pub(crate) fn new(
         store: &[u8],
         attributes: &'static [AttrInfo],
-        table: ReportingTable<16>,
+        table: ReportingTable<ENTRIES>,
     ) -> Self {
         Self {
             store: RefCell::new(store.to_vec()),
@@ -43,11 +43,11 @@ impl Server {
         self.store.borrow()
     }
 
-    pub fn table(&self) -> &ReportingTable<16> {
+    pub fn table(&self) -> &ReportingTable<ENTRIES> {
         &self.table
     }
 
-    pub(crate) fn into_parts(self) -> (Vec<u8>, ReportingTable<16>) {
+    pub(crate) fn into_parts(self) -> (Vec<u8>, ReportingTable<ENTRIES>) {
         (self.store.into_inner(), self.table)
     }
 }

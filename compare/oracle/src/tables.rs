@@ -7,13 +7,13 @@ use zigbee_cluster_library::reporting::{ReportingConfig, ReportingTable};
 use zigbee_cluster_library::types::ids::{AttributeId, ClusterId};
 
 /// A table of these entries, however they came about.
-pub fn of(entries: &[Entry]) -> ReportingTable<16> {
+pub fn of<const N: usize>(entries: &[Entry]) -> ReportingTable<N> {
     let shown: Vec<Shown> = entries.iter().map(to_rust).collect();
     ReportingTable::of(&shown)
 }
 
 /// The entries, in their order.
-pub fn entries(table: &ReportingTable<16>) -> Vec<Entry> {
+pub fn entries<const N: usize>(table: &ReportingTable<N>) -> Vec<Entry> {
     table.shown().into_iter().map(from_rust).collect()
 }
 

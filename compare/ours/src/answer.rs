@@ -39,10 +39,9 @@ impl Answer {
         for number in &mut head {
             pipe.read_exact(number)?;
         }
-        let mut walled = [const { Vec::new() }; BUFFERS];
+        let mut walled: [Walled; BUFFERS] = Default::default();
         for (walled, lent) in walled.iter_mut().zip(&call.lent) {
-            walled.resize(WALL + lent.bytes.len().next_multiple_of(8) + WALL, 0);
-            pipe.read_exact(walled)?;
+            walled.read(pipe, lent.bytes.len())?;
         }
         Ok(Self::of(call, head, walled))
     }
@@ -50,20 +49,20 @@ impl Answer {
     fn of(
         call: &Call,
         head: [[u8; 8]; 1 + RESULTS],
-        walled: [Vec<u8>; BUFFERS],
+        walled: [Walled; BUFFERS],
     ) -> Result<Self, String> {
         let [number, results @ ..] = head;
         let number = u64::from_le_bytes(number);
         let mut answer = Self {
             number: u8::try_from(number).map_err(|_| format!("no answer: {number:x}"))?,
             results: [0; RESULTS],
-            lent: walled,
+            lent: Default::default(),
         };
         for (at, bytes) in results.into_iter().enumerate() {
             answer.results[at] = result(bytes, call.results[at])?;
         }
-        for (bytes, lent) in answer.lent.iter_mut().zip(&call.lent) {
-            unwall(bytes, lent)?;
+        for (at, walled) in walled.into_iter().enumerate() {
+            answer.lent[at] = walled.unwall(&call.lent[at])?;
         }
         Ok(answer)
     }
@@ -78,25 +77,51 @@ fn result(mut bytes: [u8; 8], width: usize) -> Result<u64, String> {
     Ok(u64::from_le_bytes(bytes))
 }
 
-/// Takes a buffer out of its walls, which stand as they did.
-fn unwall(bytes: &mut Vec<u8>, lent: &Lent) -> Result<(), String> {
-    let behind = bytes.split_off(WALL + lent.bytes.len());
-    let before: Vec<u8> = bytes.drain(..WALL).collect();
-    if [&before, &behind]
-        .into_iter()
-        .flatten()
-        .any(|&byte| byte != BEFORE)
-    {
-        let (before, inside, behind) = (hex(&before), hex(bytes), hex(&behind));
-        return Err(format!(
-            "ours wrote outside of what it was lent: {before} {inside} {behind}"
-        ));
+/// A buffer as it comes back.
+#[derive(Default)]
+struct Walled {
+    before: [u8; WALL],
+    bytes: Vec<u8>,
+    /// Some of it stands there so that the next buffer starts at a multiple of 8.
+    behind: Vec<u8>,
+}
+
+impl Walled {
+    /// Of the bytes some are told: all that follow are as the last of them.
+    fn read(&mut self, pipe: &mut impl Read, length: usize) -> io::Result<()> {
+        let mut told = [0; 8];
+        pipe.read_exact(&mut told)?;
+        let told = usize::try_from(u64::from_le_bytes(told)).unwrap_or(usize::MAX);
+        if told > length || (told == 0) != (length == 0) {
+            return Err(io::Error::other(format!("{told} bytes tell {length}")));
+        }
+        self.bytes.resize(told, 0);
+        let behind = length.next_multiple_of(8) - length + WALL;
+        self.behind.resize(behind, 0);
+        pipe.read_exact(&mut self.before)?;
+        pipe.read_exact(&mut self.bytes)?;
+        pipe.read_exact(&mut self.behind)?;
+        let last = self.bytes.last().copied().unwrap_or(0);
+        self.bytes.resize(length, last);
+        Ok(())
     }
-    if !lent.open && *bytes != lent.bytes {
-        let left = hex(bytes);
-        return Err(format!("ours wrote to what it may only read: {left}"));
+
+    /// Takes the buffer out of its walls, which stand as they did.
+    fn unwall(self, lent: &Lent) -> Result<Vec<u8>, String> {
+        let mut walls = self.before.iter().chain(&self.behind);
+        if walls.any(|&byte| byte != BEFORE) {
+            let (before, inside) = (hex(&self.before), hex(&self.bytes));
+            let behind = hex(&self.behind);
+            return Err(format!(
+                "ours wrote outside of what it was lent: {before} {inside} {behind}"
+            ));
+        }
+        if !lent.open && self.bytes != lent.bytes {
+            let left = hex(&self.bytes);
+            return Err(format!("ours wrote to what it may only read: {left}"));
+        }
+        Ok(self.bytes)
     }
-    Ok(())
 }
 
 impl fmt::Display for Answer {
@@ -119,12 +144,22 @@ mod tests {
         let call = Call::number(&[1, 2, 3], 5);
         let mut bytes = vec![9, 0, 0, 0, 0, 0, 0, 0];
         bytes.extend([0; 8]);
-        bytes.extend([BEFORE; 32 + 16]);
+        bytes.extend([BEFORE; 32]);
+        bytes.extend([3, 0, 0, 0, 0, 0, 0, 0]);
+        bytes.extend([BEFORE; 16]);
         bytes.extend([1, 2, 3]);
-        bytes.extend([BEFORE; 5 + 16 + 3 * 32]);
+        bytes.extend([BEFORE; 5 + 16]);
+        for _ in 0..3 {
+            bytes.extend([0; 8]);
+            bytes.extend([BEFORE; 32]);
+        }
         change(&mut bytes);
-        Answer::read(&call, &mut bytes.as_slice()).expect("it is whole")
+        let answer = Answer::read(&call, &mut bytes.as_slice());
+        answer.unwrap_or_else(|trouble| Err(trouble.to_string()))
     }
+
+    /// The bytes of such an answer.
+    const ANSWERED: usize = 6 * 8 + (8 + 16 + 8 + 16) + 3 * (8 + 32);
 
     #[test]
     fn whole() {
@@ -136,7 +171,7 @@ mod tests {
     fn every_write_shows() {
         let whole = answered(|_| ());
         // past the result's eight bytes there is not one that may change
-        for at in 0..6 * 8 + (16 + 8 + 16) + 3 * 32 {
+        for at in 0..ANSWERED {
             let changed = answered(|bytes| bytes[at] ^= 1);
             assert_ne!(changed, whole, "at {at}");
             assert_eq!(

@@ -1,6 +1,7 @@
 //! The calls: include/hingedrift.h, function by function.
 
 use std::fmt;
+use std::io::{self, Write};
 
 use cases::hex;
 use reading::table::{Config, Key};
@@ -134,20 +135,40 @@ impl Call {
         }
     }
 
-    /// As it goes over the pipe.
-    pub(crate) fn bytes(&self) -> Vec<u8> {
-        let lengths = self.lent.iter().map(|lent| lent.bytes.len() as u64);
-        let head = [self.function].into_iter().chain(self.arguments);
-        let mut bytes: Vec<u8> = head.chain(lengths).flat_map(u64::to_le_bytes).collect();
-        for lent in &self.lent {
-            bytes.extend(&lent.bytes);
+    /// Gives it to the pipe; says how many bytes it lends.
+    pub(crate) fn write(&self, pipe: &mut impl Write) -> io::Result<usize> {
+        let told = self.lent.each_ref().map(|lent| told(&lent.bytes));
+        let lengths = self.lent.each_ref().map(|lent| lent.bytes.len());
+        let buffers = lengths.into_iter().chain(told.map(<[u8]>::len));
+        let numbers = [self.function].into_iter().chain(self.arguments);
+        let numbers = numbers.chain(buffers.map(|length| length as u64));
+        let head: Vec<u8> = numbers.flat_map(u64::to_le_bytes).collect();
+        pipe.write_all(&head)?;
+        for told in told {
+            pipe.write_all(told)?;
         }
-        bytes
+        Ok(lengths.iter().sum())
     }
 }
 
 /// What stands for the end of a batch.
-pub(crate) const END: [u8; 8 * (1 + ARGUMENTS + BUFFERS)] = [0; 8 * (1 + ARGUMENTS + BUFFERS)];
+pub(crate) const END: [u8; HEAD] = [0; HEAD];
+
+/// The bytes of a call's numbers.
+const HEAD: usize = 8 * (1 + ARGUMENTS + 2 * BUFFERS);
+
+/// The bytes that tell a buffer: all that follow are as the last of them.
+fn told(bytes: &[u8]) -> &[u8] {
+    const STRIDE: usize = 256;
+    let mut end = bytes.len();
+    while end > STRIDE && bytes[end - 1 - STRIDE..end - 1] == bytes[end - STRIDE..end] {
+        end -= STRIDE;
+    }
+    while end > 1 && bytes[end - 2] == bytes[end - 1] {
+        end -= 1;
+    }
+    &bytes[..end]
+}
 
 fn open(bytes: &[u8]) -> Lent {
     let bytes = bytes.to_vec();
@@ -179,5 +200,27 @@ impl fmt::Display for Call {
             writeln!(f, "  lent     {}", hex(&lent.bytes))?;
         }
         Ok(())
+    }
+}
+
+#[cfg(test)]
+mod tests {
+    use super::*;
+
+    #[test]
+    fn what_follows_is_as_the_last() {
+        for length in (0..600).chain([3841]) {
+            for run in [0, 1, 2, 255, 256, 257, 258, length] {
+                let mut bytes = vec![7; length];
+                let start = length.saturating_sub(run);
+                bytes[start..].fill(0);
+                let told = told(&bytes);
+                let last = told.last().copied().unwrap_or(0);
+                assert_eq!([told, &vec![last; length - told.len()]].concat(), bytes);
+                let one_run = run == 0 || start == 0;
+                let expected = if one_run { length.min(1) } else { start + 1 };
+                assert_eq!(told.len(), expected, "{length} {run}");
+            }
+        }
     }
 }

@@ -15,6 +15,9 @@ const VARIABLE: &str = "HINGEDRIFT_DRIVER";
 /// more than the driver can keep.
 const BATCH: usize = 1 << 20;
 
+/// A call with a table is longer than what is buffered by default.
+const BUFFERED: usize = 1 << 16;
+
 pub struct Driver {
     process: Child,
     calls: BufWriter<ChildStdin>,
@@ -45,8 +48,8 @@ impl Driver {
         let answers = process.stdout.take().expect("it is piped");
         Ok(Self {
             process,
-            calls: BufWriter::new(calls),
-            answers: BufReader::new(answers),
+            calls: BufWriter::with_capacity(BUFFERED, calls),
+            answers: BufReader::with_capacity(BUFFERED, answers),
             made: 0,
         })
     }
@@ -112,9 +115,7 @@ impl Driver {
         while written < BATCH
             && let Some(call) = calls.next()
         {
-            let bytes = call.bytes();
-            written += bytes.len();
-            self.calls.write_all(&bytes)?;
+            written += call.write(&mut self.calls)?;
             waiting.push(call);
         }
         self.calls.write_all(&END)?;
@@ -138,6 +139,8 @@ impl Driver {
 
 #[cfg(test)]
 mod tests {
+    use reading::table::SIZE;
+
     use super::*;
 
     #[test]
@@ -150,7 +153,7 @@ mod tests {
     #[test]
     fn no_answer() {
         let mut driver = Driver::of("true").expect("it starts");
-        let trouble = driver.answer(&Call::table_new(&[0; 481]));
+        let trouble = driver.answer(&Call::table_new(&[0; SIZE]));
         let trouble = trouble.expect_err("nothing came");
         assert!(trouble.contains("does not answer"), "{trouble}");
     }

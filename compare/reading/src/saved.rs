@@ -46,9 +46,14 @@ impl From<Cut> for Fault {
 
 /// The entries of a saved form, none of them reported.
 pub fn read(saved: &[u8]) -> Result<Vec<Entry>, Fault> {
+    read_within(ENTRIES, saved)
+}
+
+/// As a box reads it whose tables have room for so many.
+pub fn read_within(limit: usize, saved: &[u8]) -> Result<Vec<Entry>, Fault> {
     let mut bytes = Body::new(saved);
     let count = usize::from(bytes.byte()?);
-    if count > ENTRIES {
+    if count > limit {
         return Err(Fault::Count);
     }
     let marked = !is_old(count, saved.len());

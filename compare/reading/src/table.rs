@@ -1,7 +1,10 @@
 //! The reporting table: its bytes towards C, its changes, and what an ask says.
 
-/// A table has room for this many entries.
-pub const ENTRIES: usize = 16;
+/// A table has room for this many entries,
+pub const ENTRIES: usize = 128;
+
+/// and had for this many before document 02's request 7.
+pub const FORMER_ENTRIES: usize = 16;
 
 /// An entry's bytes.
 pub const SLOT: usize = 30;
@@ -64,7 +67,8 @@ pub fn entries(bytes: &[u8]) -> Result<Vec<Entry>, Broken> {
         return Err(Broken::Count);
     }
     let (used, unused) = bytes[1..].split_at(count * SLOT);
-    if unused.iter().any(|&byte| byte != 0) {
+    // as one comparison: it is most of a table's bytes
+    if *unused != [0; SIZE][..unused.len()] {
         return Err(Broken::Unused);
     }
     used.chunks(SLOT).map(entry).collect()
@@ -116,27 +120,35 @@ fn field<const N: usize>(slot: &[u8], at: usize) -> [u8; N] {
 
 /// The bytes of a table of these entries, which are no more than it holds.
 pub fn to_bytes(entries: &[Entry]) -> Vec<u8> {
-    let count = u8::try_from(entries.len()).expect("a table is short");
-    let mut bytes = vec![count];
-    for entry in entries {
-        let (time, value) = entry.last.unwrap_or((0, 0));
-        bytes.extend(entry.key.cluster.to_le_bytes());
-        bytes.extend(entry.key.attribute.to_le_bytes());
-        bytes.extend(entry.config.minimum.to_le_bytes());
-        bytes.extend(entry.config.maximum.to_le_bytes());
-        bytes.extend(entry.config.change.to_le_bytes());
-        bytes.push(entry.config.mark);
-        bytes.push(entry.last.is_some().into());
-        bytes.extend(time.to_le_bytes());
-        bytes.extend(value.to_le_bytes());
+    assert!(entries.len() <= ENTRIES, "there is no room for so many");
+    let mut bytes = vec![0; SIZE];
+    bytes[0] = u8::try_from(entries.len()).expect("a table is short");
+    for (slot, entry) in bytes[1..].chunks_mut(SLOT).zip(entries) {
+        write_slot(slot, entry);
     }
-    assert!(bytes.len() <= SIZE, "at most sixteen entries");
-    bytes.resize(SIZE, 0);
     bytes
+}
+
+fn write_slot(slot: &mut [u8], entry: &Entry) {
+    let (time, value) = entry.last.unwrap_or((0, 0));
+    slot[0..2].copy_from_slice(&entry.key.cluster.to_le_bytes());
+    slot[2..4].copy_from_slice(&entry.key.attribute.to_le_bytes());
+    slot[4..6].copy_from_slice(&entry.config.minimum.to_le_bytes());
+    slot[6..8].copy_from_slice(&entry.config.maximum.to_le_bytes());
+    slot[8..16].copy_from_slice(&entry.config.change.to_le_bytes());
+    slot[16] = entry.config.mark;
+    slot[17] = entry.last.is_some().into();
+    slot[18..22].copy_from_slice(&time.to_le_bytes());
+    slot[22..30].copy_from_slice(&value.to_le_bytes());
 }
 
 /// Whether there was room. Configuring again forgets the last report.
 pub fn configure(entries: &mut Vec<Entry>, key: Key, config: Config) -> bool {
+    configure_within(ENTRIES, entries, key, config)
+}
+
+/// In a table with room for so many.
+pub fn configure_within(limit: usize, entries: &mut Vec<Entry>, key: Key, config: Config) -> bool {
     let entry = Entry {
         key,
         config,
@@ -144,7 +156,7 @@ pub fn configure(entries: &mut Vec<Entry>, key: Key, config: Config) -> bool {
     };
     match place(entries, key) {
         Some(place) => entries[place] = entry,
-        None if entries.len() < ENTRIES => entries.push(entry),
+        None if entries.len() < limit => entries.push(entry),
         None => return false,
     }
     true

@@ -3,7 +3,7 @@
 mod common;
 
 use common::{CLUSTER, Served, bytes, reply, says};
-use reading::table::{Config, Entry, Key, SIGNED, UNSIGNED};
+use reading::table::{Config, ENTRIES, Entry, Key, SIGNED, UNSIGNED};
 
 fn entry(cluster: u16, attribute: u16, config: (u16, u16, u64)) -> Entry {
     let (minimum, maximum, change) = config;
@@ -89,7 +89,7 @@ fn what_clears() {
 
 #[test]
 fn a_full_table() {
-    let full: Vec<Entry> = (0..16)
+    let full: Vec<Entry> = (0..ENTRIES as u16)
         .map(|id| entry(CLUSTER, 8 + id, (0, 0, 0)))
         .collect();
     let mut served = over(full.clone());

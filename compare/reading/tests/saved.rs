@@ -5,8 +5,10 @@ mod common;
 
 use common::{bytes, hex};
 use reading::saved::Fault::{Count, Crossed, Length, Mark, Neither, NoReports, Offset, Repeated};
-use reading::saved::{length, old_length, read, restore, save, write};
-use reading::table::{Config, Entry, Key, SIGNED, SIZE, UNSIGNED, to_bytes};
+use reading::saved::{length, old_length, read, read_within, restore, save, write};
+use reading::table::{
+    Config, ENTRIES, Entry, FORMER_ENTRIES, Key, SIGNED, SIZE, SLOT, UNSIGNED, to_bytes,
+};
 
 const ONE: &str = "01 0204 0000 0700 0a00 2c01 3200000000000000 00";
 
@@ -50,14 +52,14 @@ fn with(minimum: u16, maximum: u16) -> Entry {
 }
 
 /// So many entries, all with other keys.
-fn many(count: u16) -> Vec<Entry> {
-    let key = |attribute| Key {
-        attribute,
+fn many(count: usize) -> Vec<Entry> {
+    let key = |place: usize| Key {
+        attribute: place.try_into().expect("short"),
         ..FIRST.key
     };
     (0..count)
-        .map(|attribute| Entry {
-            key: key(attribute),
+        .map(|place| Entry {
+            key: key(place),
             ..REPORTED
         })
         .collect()
@@ -71,7 +73,7 @@ fn saves(table: &[u8], room: usize) -> (u8, usize, String) {
 
 /// The number and the table, which was full of reports before.
 fn restores(saved: &[u8]) -> (u8, Vec<u8>) {
-    let mut table = to_bytes(&many(16));
+    let mut table = to_bytes(&many(ENTRIES));
     (restore(&mut table, saved), table)
 }
 
@@ -122,7 +124,7 @@ fn two_in_order() {
 
 #[test]
 fn there_and_back() {
-    for count in 0..=16 {
+    for count in 0..=ENTRIES {
         let entries = many(count);
         let form = write(&entries).expect("it has one");
         assert_eq!(form.len(), length(entries.len()));
@@ -134,8 +136,30 @@ fn there_and_back() {
         assert_eq!(read(&form), Ok(expected.clone()));
         assert_eq!(write(&expected), Ok(form));
     }
-    assert_eq!(length(16), 305);
-    assert_eq!(old_length(16), 289);
+    assert_eq!((length(16), length(ENTRIES)), (305, 2433));
+    assert_eq!((old_length(16), old_length(ENTRIES)), (289, 2305));
+}
+
+/// A form tells nothing of the limit: what a box with less room has saved and
+/// can read has the same bytes here, and the same entries.
+#[test]
+fn of_a_box_with_less_room() {
+    for count in 0..=ENTRIES {
+        let form = write(&many(count)).expect("it has one");
+        for form in [old(&many(count)), form] {
+            let expected = if count <= FORMER_ENTRIES {
+                read(&form)
+            } else {
+                Err(Count)
+            };
+            assert_eq!(read_within(FORMER_ENTRIES, &form), expected, "{count}");
+        }
+    }
+    // sixteen, the last body at 1 + 6 * 16 + 13 * 15
+    let sixteen = write(&many(FORMER_ENTRIES)).expect("it has one");
+    assert_eq!(hex(&sixteen[..7]), "10020400006100");
+    assert_eq!(hex(&sixteen[91..97]), "02040f002401");
+    assert_eq!(hex(&sixteen[292..]), "0a002c01320000000000000000");
 }
 
 /// A form without its marks, as it was written before there were any.
@@ -164,15 +188,15 @@ fn without_marks() {
     let mut marked = bytes(TWO);
     *marked.last_mut().expect("a mark") = SIGNED;
     assert_eq!(write(&entries), Ok(marked));
-    for count in 0..=16 {
+    for count in 0..=ENTRIES {
         let form = old(&many(count));
-        assert_eq!(form.len(), old_length(count.into()));
+        assert_eq!(form.len(), old_length(count));
         let entries = read(&form).expect("a saved form");
-        assert_eq!(entries.len(), usize::from(count));
+        assert_eq!(entries.len(), count);
         assert_eq!(old(&entries), form);
     }
     // a length is told with its count: one entry more or less is none
-    for count in 1..16 {
+    for count in 1..ENTRIES {
         for other in [count - 1, count + 1] {
             let mut form = old(&many(count));
             form[0] = other.try_into().expect("short");
@@ -227,9 +251,19 @@ fn other_lengths() {
 
 #[test]
 fn counts() {
-    let seventeen = [vec![17], vec![0; 17 * 19]].concat();
-    assert_eq!(read(&seventeen), Err(Count));
-    assert_eq!(read(&[0xff]), Err(Count));
+    for limit in [FORMER_ENTRIES, ENTRIES] {
+        let counting = |count: usize| {
+            let form = [vec![count as u8], vec![0; 19 * count]].concat();
+            read_within(limit, &form)
+        };
+        assert_eq!(counting(limit), Err(Offset));
+        for count in limit + 1..=255 {
+            assert_eq!(counting(count), Err(Count), "{count}");
+        }
+        assert_eq!(read_within(limit, &[0xff]), Err(Count));
+    }
+    assert_eq!(read(&[129]), Err(Count));
+    assert_eq!(read(&[128]), Err(Length));
 }
 
 #[test]
@@ -257,9 +291,11 @@ fn keys() {
         beside[at] ^= 1;
         assert!(read(&beside).is_ok(), "{at}");
     }
-    let mut entries = many(16);
-    entries[15] = entries[0];
-    assert_eq!(write(&entries), Err(Repeated));
+    for (one, other) in [(0, 15), (0, 16), (16, 127), (126, 127)] {
+        let mut entries = many(ENTRIES);
+        entries[other] = entries[one];
+        assert_eq!(write(&entries), Err(Repeated), "{one} {other}");
+    }
 }
 
 #[test]
@@ -297,28 +333,30 @@ fn intervals() {
 #[test]
 fn what_a_refused_save_leaves() {
     let zeros = |number, room| (number, 0, "00".repeat(room));
-    let full = to_bytes(&many(16));
-    for room in [0, 1, 19, 304] {
+    let full = to_bytes(&many(ENTRIES));
+    let ample = length(ENTRIES);
+    for room in [0, 1, 19, length(16), ample - 1] {
         assert_eq!(saves(&full, room), zeros(5, room));
     }
-    assert_eq!(saves(&full, 305).0, 0);
+    assert_eq!(saves(&full, ample).0, 0);
     let off = to_bytes(&[with(0, 0xffff)]);
     let twice = to_bytes(&[FIRST, REPORTED]);
     // 13 comes before 5
-    for room in [0, 1, 39, 305] {
+    for room in [0, 1, 39, ample] {
         assert_eq!(saves(&off, room), zeros(13, room));
         assert_eq!(saves(&twice, room), zeros(13, room));
     }
     // and 8 before both
-    for at in [0, 1 + 16, 1 + 17, 1 + 30 + 16, 1 + 30 + 17, SIZE - 1] {
+    let slots = [16, 17, SLOT + 16, SLOT + 17, 16 * SLOT].map(|at| 1 + at);
+    for at in [0, SIZE - 1].into_iter().chain(slots) {
         let mut broken = twice.clone();
         broken[at] = 0xff;
-        assert_eq!(saves(&broken, 305), zeros(8, 305), "{at}");
+        assert_eq!(saves(&broken, ample), zeros(8, ample), "{at}");
         assert_eq!(saves(&broken, 0), zeros(8, 0), "{at}");
     }
-    assert_eq!(saves(&full[..SIZE - 1], 305), zeros(8, 305));
-    assert_eq!(saves(&[&full[..], &[0]].concat(), 305), zeros(8, 305));
-    assert_eq!(saves(&[], 305), zeros(8, 305));
+    for other in [&full[..SIZE - 1], &[&full[..], &[0]].concat(), &[]] {
+        assert_eq!(saves(other, ample), zeros(8, ample));
+    }
 }
 
 #[test]

@@ -2,7 +2,8 @@
 
 use reading::table::Broken::{Count, Flag, Length, Mark, Unreported, Unused};
 use reading::table::{
-    Config, Entry, Key, Reason, SIGNED, UNSIGNED, ask, entries, is_table, moved, place,
+    Config, ENTRIES, Entry, FORMER_ENTRIES, Key, Reason, SIGNED, SIZE, SLOT, UNSIGNED, ask, clear,
+    configure, configure_within, entries, is_table, moved, place, to_bytes,
 };
 
 const FIRST: Entry = Entry {
@@ -40,15 +41,18 @@ fn bytes(hex: &str) -> Vec<u8> {
         .collect()
 }
 
-/// `FIRST` and `SECOND`, and fourteen slots that are not in use.
+/// The bytes of the used slots of `two`.
+const USED: usize = 1 + 2 * SLOT;
+
+/// `FIRST` and `SECOND`, and the slots that are not in use.
 fn two() -> Vec<u8> {
     let used = bytes(
         "02
          21fc 0500 0a00 3c00 3200000000000000 00 01 64000000 38ffffffffffffff
          0201 0403 0605 0807 100f0e0d0c0b0a09 01 00 00000000 0000000000000000",
     );
-    assert_eq!(used.len(), 61);
-    [used, vec![0; 420]].concat()
+    assert_eq!(used.len(), USED);
+    [used, vec![0; SIZE - USED]].concat()
 }
 
 /// Two entries with the byte at `at` set.
@@ -66,28 +70,41 @@ fn two_entries_in_order() {
 }
 
 #[test]
-fn none_and_sixteen() {
-    assert_eq!(entries(&[0; 481]), Ok(vec![]));
-    let slot = two()[1..31].to_vec();
-    let full = [vec![16], slot.repeat(16)].concat();
-    assert_eq!(entries(&full), Ok(vec![FIRST; 16]));
-    let blank = [vec![16], vec![0; 480]].concat();
-    assert_eq!(entries(&blank).map(|entries| entries.len()), Ok(16));
-    for count in 0..16 {
-        let mut fewer = full.clone();
-        fewer[0] = count;
-        assert_eq!(entries(&fewer), Err(Unused), "{count}");
+fn the_sizes() {
+    assert_eq!((ENTRIES, FORMER_ENTRIES), (128, 16));
+    assert_eq!((SLOT, SIZE), (30, 3841));
+}
+
+/// A table with this count and `FIRST` in its first slots.
+fn counting(count: u8, used: usize) -> Vec<u8> {
+    let slots = two()[1..=SLOT].repeat(used);
+    let blank = vec![0; SIZE - 1 - slots.len()];
+    [vec![count], slots, blank].concat()
+}
+
+#[test]
+fn none_and_all() {
+    assert_eq!(entries(&[0; SIZE]), Ok(vec![]));
+    for count in [1, 15, 16, 17, 127, 128] {
+        let many = usize::from(count);
+        assert_eq!(entries(&counting(count, many)), Ok(vec![FIRST; many]));
+        let blank = entries(&counting(count, 0));
+        assert_eq!(blank.map(|entries| entries.len()), Ok(many));
     }
-    for count in 17..=255 {
-        let mut more = full.clone();
-        more[0] = count;
-        assert_eq!(entries(&more), Err(Count), "{count}");
+    for count in 0..128 {
+        assert_eq!(entries(&counting(count, ENTRIES)), Err(Unused), "{count}");
+    }
+    for count in 129..=255 {
+        assert_eq!(entries(&counting(count, ENTRIES)), Err(Count), "{count}");
+        assert_eq!(entries(&counting(count, 0)), Err(Count), "{count}");
     }
 }
 
 #[test]
 fn other_lengths() {
-    for length in (0..481).chain([482, 511, 962, 3841]) {
+    // that of the tables that had room for sixteen, too
+    assert_eq!(1 + FORMER_ENTRIES * SLOT, 481);
+    for length in (0..SIZE).chain([SIZE + 1, SIZE + SLOT, 2 * SIZE]) {
         let mut table = two();
         table.resize(length, 0);
         assert_eq!(entries(&table), Err(Length), "{length}");
@@ -112,14 +129,64 @@ fn counts() {
         last: None,
     };
     assert_eq!(entries(&with(0, 3)), Ok(vec![FIRST, SECOND, blank]));
-    assert_eq!(entries(&with(0, 17)), Err(Count));
+    let blanks = |count: u8| entries(&with(0, count)).map(|entries| entries.len());
+    assert_eq!((blanks(17), blanks(128)), (Ok(17), Ok(128)));
+    assert_eq!(entries(&with(0, 129)), Err(Count));
     assert_eq!(entries(&with(0, 255)), Err(Count));
 }
 
 #[test]
 fn slots_past_the_count() {
-    for at in 61..481 {
+    for at in USED..SIZE {
         assert_eq!(entries(&with(at, 1)), Err(Unused), "{at}");
+    }
+}
+
+/// Of a slot behind the sixteenth every byte counts as it does in the first.
+#[test]
+fn slots_behind_the_sixteenth() {
+    for place in [FORMER_ENTRIES, ENTRIES - 1] {
+        let table = |at: usize, byte: u8| {
+            let mut table = counting(128, ENTRIES);
+            table[1 + place * SLOT + at] = byte;
+            entries(&table)
+        };
+        assert_eq!(
+            table(0, 0x22).map(|held| held[place].key.cluster),
+            Ok(0xfc22)
+        );
+        assert_eq!(table(16, 2), Err(Mark));
+        assert_eq!(table(17, 2), Err(Flag));
+        assert_eq!(table(17, 0), Err(Unreported));
+    }
+}
+
+/// As many as there is room for, and no more; a cleared one makes room.
+#[test]
+fn full() {
+    let key = |attribute| Key {
+        attribute,
+        ..FIRST.key
+    };
+    for limit in [FORMER_ENTRIES, ENTRIES] {
+        let mut held = Vec::new();
+        let limited = |held: &mut Vec<Entry>, attribute| {
+            configure_within(limit, held, key(attribute), FIRST.config)
+        };
+        for attribute in 0..limit as u16 {
+            assert!(limited(&mut held, attribute));
+        }
+        assert_eq!(held.len(), limit);
+        let before = held.clone();
+        assert!(!limited(&mut held, 0xffff));
+        assert_eq!(held, before);
+        assert!(limited(&mut held, 3), "one that stands");
+        clear(&mut held, key(5));
+        assert_eq!(held[5], before[limit - 1], "the last in the hole");
+        assert!(limited(&mut held, 0xffff) && !limited(&mut held, 5));
+        assert_eq!(entries(&to_bytes(&held)), Ok(held.clone()));
+        let more = configure(&mut held, key(5), FIRST.config);
+        assert_eq!(more, limit < ENTRIES, "the table's own limit");
     }
 }
 

@@ -11,7 +11,7 @@ use cases::{Case, Difference, Random, Seen, hex, unmarked};
 use oracle::{Oracle, Outcome, Request};
 use reading::commands::{Answer, serve_lent};
 use reading::store::{attributes, cluster_of};
-use reading::table::{Entry, SLOT, entries, to_bytes};
+use reading::table::{ENTRIES, Entry, SLOT, entries, to_bytes};
 
 use crate::rust::short;
 
@@ -52,15 +52,17 @@ fn over(store: &[u8], table: &[Entry], frame: &[u8], room: usize) -> Case {
     }
 }
 
-/// Tables from none to sixteen entries, for the store's attributes and others.
+/// Tables from no entries to seventeen, and some full ones, for the store's
+/// attributes and others.
 fn at_random() -> Vec<Case> {
     let random = &mut Random::new(0x7265_7175);
     (0..RANDOM)
-        .map(|_| {
+        .map(|turn| {
             let store = built(&random_parts(random));
             let attributes = attributes(&store).expect("a store");
             let cluster = cluster_of(&store).expect("a store");
-            let many = random.of(&[0, 1, 3, 8, 15, 16]);
+            let some = random.of(&[0, 1, 3, 8, 16, 17]);
+            let many = if turn % 30 == 0 { ENTRIES } else { some };
             let table = tables::sound(random, many, cluster, &attributes);
             let command = random.of(&[CONFIGURE, READ]);
             let frame = request(random, &attributes, command);

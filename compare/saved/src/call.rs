@@ -1,6 +1,7 @@
 //! The two calls, and what the reading of the documents answers to them.
 
 use ours::Answer;
+#[cfg(test)]
 use reading::saved;
 
 #[derive(Debug, Clone)]
@@ -24,6 +25,8 @@ impl Call {
         }
     }
 
+    /// For servers that are no archive.
+    #[cfg(test)]
     pub fn document(&self) -> Answer {
         match self {
             Self::Save { table, room } => saves(table, &saved::save(table, *room), *room),

@@ -3,16 +3,18 @@
 use ours::Answer;
 use reading::saved;
 
-use crate::call::Call;
+use crate::call::{Call, restores, saves};
 use crate::counted::Counted;
 use crate::server::Server;
 
 /// Ours is called over a pipe: so many calls are made at a time.
-const BATCH: usize = 1000;
+const BATCH: usize = 10;
 
 pub struct Compared<'a, S> {
     server: &'a mut S,
     waiting: Vec<Call>,
+    /// What they are to say and leave.
+    expected: Vec<Answer>,
     pub counted: Counted,
 }
 
@@ -21,6 +23,7 @@ impl<'a, S: Server> Compared<'a, S> {
         Self {
             server,
             waiting: Vec::new(),
+            expected: Vec::new(),
             counted: Counted::new(),
         }
     }
@@ -30,8 +33,9 @@ impl<'a, S: Server> Compared<'a, S> {
     pub fn save(&mut self, table: &[u8], room: usize) -> Result<Option<Vec<u8>>, String> {
         let answer = saved::save(table, room);
         self.counted.save(table, room, &answer);
+        let expected = saves(table, &answer, room);
         let table = table.to_vec();
-        self.give(Call::Save { table, room })?;
+        self.give(Call::Save { table, room }, expected)?;
         Ok((answer.number == 0).then_some(answer.reply))
     }
 
@@ -41,13 +45,15 @@ impl<'a, S: Server> Compared<'a, S> {
         let mut left = before.to_vec();
         let number = saved::restore(&mut left, form);
         self.counted.restore(before, form, number);
+        let expected = restores(number, &left, form);
         let (table, saved) = (before.to_vec(), form.to_vec());
-        self.give(Call::Restore { table, saved })?;
+        self.give(Call::Restore { table, saved }, expected)?;
         Ok((number, left))
     }
 
-    fn give(&mut self, call: Call) -> Result<(), String> {
+    fn give(&mut self, call: Call, expected: Answer) -> Result<(), String> {
         self.waiting.push(call);
+        self.expected.push(expected);
         if self.waiting.len() >= BATCH {
             self.compare()?;
         }
@@ -58,8 +64,10 @@ impl<'a, S: Server> Compared<'a, S> {
     /// answers otherwise.
     fn compare(&mut self) -> Result<(), String> {
         let calls = std::mem::take(&mut self.waiting);
-        for (call, answer) in calls.iter().zip(self.server.serve(&calls)?) {
-            agree(call, answer)?;
+        let expected = std::mem::take(&mut self.expected);
+        let answers = self.server.serve(&calls)?;
+        for ((call, expected), answer) in calls.iter().zip(&expected).zip(answers) {
+            agree(call, expected, answer)?;
         }
         Ok(())
     }
@@ -71,10 +79,9 @@ impl<'a, S: Server> Compared<'a, S> {
     }
 }
 
-fn agree(call: &Call, answer: Result<Answer, String>) -> Result<(), String> {
-    let expected = call.document();
+fn agree(call: &Call, expected: &Answer, answer: Result<Answer, String>) -> Result<(), String> {
     let said = match answer {
-        Ok(answer) if answer == expected => return Ok(()),
+        Ok(answer) if answer == *expected => return Ok(()),
         Ok(answer) => format!("ours:\n{answer}"),
         Err(trouble) => trouble,
     };

@@ -4,7 +4,7 @@ use std::collections::{BTreeSet, HashMap};
 
 use reading::commands::Answer;
 use reading::saved::{self, Fault, length, old_length};
-use reading::table::{Broken, ENTRIES, Entry, UNSIGNED, entries};
+use reading::table::{Broken, ENTRIES, Entry, FORMER_ENTRIES, UNSIGNED, entries};
 
 /// What may be wrong with a table that is not written,
 const UNWRITTEN: [Fault; 4] = [
@@ -53,6 +53,12 @@ const MARKED: [&str; 3] = [
     "restore 0: a form with a mark of 1",
     "restore 0: a form with marks of 0 alone",
     "restore 0: a form without marks, read as signed",
+];
+
+/// By what a box says whose tables have room for sixteen: document 02, request 7.
+const FORMER: [&str; 2] = [
+    "restore 0: a form that a box of before reads alike",
+    "restore 0: a form to which a box of before says 13, for its count",
 ];
 
 const OTHER_LENGTH: [&str; 2] = ["restore 8: a saved form", "restore 8: before 13"];
@@ -138,6 +144,7 @@ impl Counted {
                     Ok(held) => RESTORED[usize::from(!reported(&held))],
                 });
                 self.marks(&read, form);
+                self.former(&read, form);
             }
             Err(fault) => {
                 self.count(&not_read(fault));
@@ -158,6 +165,16 @@ impl Counted {
             let unsigned = |entry: &Entry| entry.config.mark == UNSIGNED;
             self.count(MARKED[usize::from(!read.iter().any(unsigned))]);
         }
+    }
+
+    /// Of a form that was read as these entries.
+    fn former(&mut self, read: &[Entry], form: &[u8]) {
+        let line = match saved::read_within(FORMER_ENTRIES, form) {
+            Ok(former) if former == read => FORMER[0],
+            Err(Fault::Count) if read.len() > FORMER_ENTRIES => FORMER[1],
+            other => panic!("a box of before reads {other:?}"),
+        };
+        self.count(line);
     }
 
     /// A line for each kind.
@@ -197,7 +214,7 @@ pub fn reported(held: &[Entry]) -> bool {
 /// All lines, in the order in which they are printed.
 fn lines() -> Vec<String> {
     let owned = |lines: &[&str]| lines.iter().map(|&line| line.to_owned()).collect();
-    let lines: [Vec<String>; 12] = [
+    let lines: [Vec<String>; 13] = [
         owned(&SAVED),
         owned(&TOO_SHORT),
         NO_TABLES.map(no_table).to_vec(),
@@ -206,6 +223,7 @@ fn lines() -> Vec<String> {
         owned(&[FORM_FIRST]),
         owned(&RESTORED),
         owned(&MARKED),
+        owned(&FORMER),
         owned(&OTHER_LENGTH),
         UNREAD.into_iter().chain(UNWRITTEN).map(not_read).collect(),
         owned(&EMPTIED),
@@ -217,7 +235,7 @@ fn lines() -> Vec<String> {
 fn no_table(broken: Broken) -> String {
     let why = match broken {
         Broken::Length => "another length",
-        Broken::Count => "count above 16",
+        Broken::Count => "count above the limit",
         Broken::Unused => "slot past the count",
         Broken::Mark => "mark",
         Broken::Flag => "flag",
@@ -237,7 +255,7 @@ fn not_read(fault: Fault) -> String {
 fn why(fault: Fault) -> &'static str {
     match fault {
         Fault::Length => "another length",
-        Fault::Count => "count above 16",
+        Fault::Count => "count above the limit",
         Fault::Offset => "an offset that does not follow on",
         Fault::Mark => "a mark that is neither 0 nor 1",
         Fault::Repeated => "a key twice",

@@ -1,8 +1,10 @@
 //! Servers that are wrong, each in its way.
 
 use ours::Answer;
-use reading::saved::{Fault, length, read, save, write};
-use reading::table::{ENTRIES, Entry, SIGNED, SIZE, UNSIGNED, entries, is_mark, place, to_bytes};
+use reading::saved::{Fault, length, read, read_within, save, write};
+use reading::table::{
+    ENTRIES, Entry, FORMER_ENTRIES, SIGNED, SIZE, SLOT, UNSIGNED, entries, is_mark, place, to_bytes,
+};
 
 use crate::call::{Call, restores, saves};
 use crate::counted::is_old;
@@ -21,13 +23,14 @@ impl Server for Fake {
 type Wrong = fn(&Call) -> Answer;
 
 /// With the function in which each is wrong.
-pub const ALL: [(&str, Wrong); 15] = [
+pub const ALL: [(&str, Wrong); 18] = [
     ("restore", keeps_last_reports),
     ("restore", any_offsets),
     ("restore", leaves_the_old_table),
     ("restore", passes_over_the_rest),
     ("restore", over_a_table_alone),
     ("restore", one_more),
+    ("restore", former_limit),
     ("restore", old_as_unsigned),
     ("restore", no_old_forms),
     ("restore", keeps_any_mark),
@@ -37,6 +40,8 @@ pub const ALL: [(&str, Wrong); 15] = [
     ("save", room_first),
     ("save", clears_reports),
     ("save", without_marks),
+    ("save", former_slots),
+    ("save", former_length),
 ];
 
 /// A restore that leaves `entries`, where the bytes are a table's length.
@@ -163,15 +168,56 @@ fn over_a_table_alone(call: &Call) -> Answer {
     }
 }
 
-/// A restore that reads the first sixteen of seventeen entries.
+/// A restore that reads all entries but the last where there is one more than
+/// there is room for.
 fn one_more(call: &Call) -> Answer {
+    const MORE: usize = ENTRIES + 1;
     match call {
-        Call::Restore { table, saved } if saved.len() == length(17) && saved[0] == 17 => {
-            let (contents, bodies) = saved[1..].split_at(6 * 17);
-            let form = [&[16], &contents[..6 * 16], &bodies[..13 * 16]].concat();
+        Call::Restore { table, saved }
+            if saved.len() == length(MORE) && usize::from(saved[0]) == MORE =>
+        {
+            let (contents, bodies) = saved[1..].split_at(6 * MORE);
+            let [contents, bodies] = [&contents[..6 * ENTRIES], &bodies[..13 * ENTRIES]];
+            let form = [&[ENTRIES as u8], contents, bodies].concat();
             restored(table, saved, read(&put_right(&form)).ok())
         }
         _ => call.document(),
+    }
+}
+
+/// A restore of a box whose tables have room for sixteen.
+fn former_limit(call: &Call) -> Answer {
+    match call {
+        Call::Restore { table, saved } => {
+            restored(table, saved, read_within(FORMER_ENTRIES, saved).ok())
+        }
+        Call::Save { .. } => call.document(),
+    }
+}
+
+/// A save that looks at no slot behind the sixteenth where there are no more
+/// entries.
+fn former_slots(call: &Call) -> Answer {
+    match call {
+        Call::Save { table, room }
+            if table.len() == SIZE && usize::from(table[0]) <= FORMER_ENTRIES =>
+        {
+            let mut blank = table.clone();
+            blank[1 + SLOT * FORMER_ENTRIES..].fill(0);
+            saves(table, &save(&blank, *room), *room)
+        }
+        _ => call.document(),
+    }
+}
+
+/// A save that has no room for a form of more than sixteen.
+fn former_length(call: &Call) -> Answer {
+    match call {
+        Call::Save { table, room } => {
+            let most = length(FORMER_ENTRIES);
+            saves(table, &save(table, most.min(*room)), *room)
+        }
+        Call::Restore { .. } => call.document(),
     }
 }
 

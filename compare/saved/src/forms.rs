@@ -3,15 +3,18 @@
 
 use cases::Random;
 use reading::saved::{length, old_length};
-use reading::table::{ENTRIES, Entry, SIZE, to_bytes};
+use reading::table::{ENTRIES, Entry, FORMER_ENTRIES, SIZE, to_bytes};
 
 use crate::compared::Compared;
 use crate::made::{self, Form, Intervals};
 use crate::round_trip::restore_and_save;
 use crate::server::Server;
 
-/// The entries of the forms of which every damage is tried.
-const DAMAGED: [usize; 4] = [0, 1, 2, 16];
+/// The entries of the forms of which every damage is tried,
+const EVERY: [usize; 4] = [0, 1, 2, FORMER_ENTRIES];
+
+/// and of those of which each byte is changed, to a few others.
+const SOME: [usize; 2] = [FORMER_ENTRIES + 1, ENTRIES];
 
 const ANY: usize = 150_000;
 
@@ -22,11 +25,11 @@ pub fn compare_damaged(
     random: &mut Random,
 ) -> Result<(), String> {
     let before = full(random);
-    for many in DAMAGED {
+    for (many, others) in tried() {
         let entries = made::table(random, many, Intervals::Sound);
         for form in Form::BOTH.map(|form| form.of(&entries)) {
             restore_and_save(compared, &before, &form)?;
-            for damaged in damaged(&form) {
+            for damaged in damaged(&form, others) {
                 restore_and_save(compared, &before, &damaged)?;
             }
         }
@@ -34,7 +37,20 @@ pub fn compare_damaged(
     Ok(())
 }
 
-/// Sixteen entries, all of them reported.
+/// What a byte is changed to.
+type Others = fn(u8) -> Vec<u8>;
+
+/// How many entries, and which damages.
+fn tried() -> impl Iterator<Item = (usize, Others)> {
+    let every: Others = |was| (0..=0xff).filter(|&byte| byte != was).collect();
+    let some: Others = |was| vec![was ^ 1, was ^ 0x80, !was];
+    EVERY
+        .map(|many| (many, every))
+        .into_iter()
+        .chain(SOME.map(|many| (many, some)))
+}
+
+/// As many entries as there is room for, all of them reported.
 fn full(random: &mut Random) -> Vec<u8> {
     let mut entries = made::table(random, ENTRIES, Intervals::Any);
     for entry in &mut entries {
@@ -44,8 +60,8 @@ fn full(random: &mut Random) -> Vec<u8> {
 }
 
 /// Cut at every place, with a byte behind, with some zeros or others behind, and
-/// with each byte changed to every other.
-fn damaged(form: &[u8]) -> Vec<Vec<u8>> {
+/// with each byte changed to others.
+fn damaged(form: &[u8], others: Others) -> Vec<Vec<u8>> {
     let cut = (0..form.len()).map(|at| form[..at].to_vec());
     let byte_behind = (0..=0xff).map(|byte| [form, &[byte]].concat());
     // 19 bytes are those of an entry more, 18 without a mark; the last two are
@@ -55,8 +71,7 @@ fn damaged(form: &[u8]) -> Vec<Vec<u8>> {
         .into_iter()
         .flat_map(|length| [0, 0xff, 0xa5].map(|byte| [form, &vec![byte; length]].concat()));
     let changed = (0..form.len()).flat_map(|at| {
-        let others = (0..=0xff).filter(move |&byte| byte != form[at]);
-        others.map(move |byte| {
+        others(form[at]).into_iter().map(move |byte| {
             let mut changed = form.to_vec();
             changed[at] = byte;
             changed
@@ -99,12 +114,17 @@ fn before(random: &mut Random) -> Vec<u8> {
 
 /// Bytes that look like a form: some are one, most have one fault or more.
 fn any(random: &mut Random) -> Vec<u8> {
-    let most = if random.one_in(32) { 255 } else { ENTRIES + 2 };
+    let most = match random.below(32) {
+        0 => 255,
+        1..8 => ENTRIES + 2,
+        _ => FORMER_ENTRIES + 2,
+    };
     let many = random.below(most + 1);
     if random.one_in(8) {
         return noise(random, many);
     }
-    let mut entries: Vec<Entry> = (0..many).map(|_| entry(random)).collect();
+    let intervals = random.of(&[Intervals::Any, Intervals::Any, Intervals::Sound]);
+    let mut entries: Vec<Entry> = (0..many).map(|_| entry(random, intervals)).collect();
     if many >= 2 && random.one_in(4) {
         entries[random.below(many)].key = entries[random.below(many)].key;
     }
@@ -125,14 +145,14 @@ fn any(random: &mut Random) -> Vec<u8> {
 }
 
 /// Keys are most often distinct.
-fn entry(random: &mut Random) -> Entry {
+fn entry(random: &mut Random, intervals: Intervals) -> Entry {
     let mut key = made::key(random);
     if !random.one_in(64) {
         key.attribute = random.short();
     }
     Entry {
         key,
-        config: made::config(random, Intervals::Any),
+        config: made::config(random, intervals),
         last: None,
     }
 }
@@ -177,11 +197,12 @@ mod tests {
     #[test]
     fn every_damage_is_another_form() {
         let random = &mut Random::new(1);
-        for many in DAMAGED {
+        for (many, others) in tried() {
             let entries = made::table(random, many, Intervals::Sound);
             for form in Form::BOTH.map(|form| form.of(&entries)) {
-                let all = damaged(&form);
-                assert_eq!(all.len(), 256 * form.len() + 256 + 30);
+                let all = damaged(&form, others);
+                let each = 1 + if EVERY.contains(&many) { 255 } else { 3 };
+                assert_eq!(all.len(), each * form.len() + 256 + 30);
                 let once: HashSet<&Vec<u8>> = all.iter().collect();
                 assert_eq!(once.len(), all.len());
                 assert!(!once.contains(&form));

@@ -1,7 +1,9 @@
 //! Random tables, as direct calls make them, and forms that no table has.
 
 use cases::Random;
-use reading::table::{Config, Entry, Key, SIGNED, UNSIGNED, clear, configure};
+use reading::table::{
+    Config, ENTRIES, Entry, FORMER_ENTRIES, Key, SIGNED, UNSIGNED, clear, configure,
+};
 
 /// Some are others with their bytes, or cluster and attribute, exchanged: keys
 /// that are almost the same.
@@ -26,7 +28,12 @@ pub fn table(random: &mut Random, many: usize, intervals: Intervals) -> Vec<Entr
     // a table without any last reports is one that was just read in
     let marks = !random.one_in(4);
     while entries.len() < many {
-        configure(&mut entries, key(random), config(random, intervals));
+        let mut key = key(random);
+        // there are not so many that are almost the same
+        if entries.len() >= CLUSTERS.len() * ATTRIBUTES.len() / 2 {
+            key.attribute = random.short();
+        }
+        configure(&mut entries, key, config(random, intervals));
         let some = random.below(entries.len());
         if marks && random.one_in(2) {
             entries[some].last = Some(report(random));
@@ -39,13 +46,17 @@ pub fn table(random: &mut Random, many: usize, intervals: Intervals) -> Vec<Entr
     entries
 }
 
-/// How many entries: none and all more often than others.
+/// How many entries: none, a few, about as many as there was room for before
+/// document 02's request 7, and all more often than others.
 pub fn many(random: &mut Random) -> usize {
-    match random.below(8) {
+    match random.below(16) {
         0 => 0,
-        1 => 16,
-        2 => 15,
-        _ => random.below(17),
+        1 => ENTRIES,
+        2 => ENTRIES - 1,
+        3..6 => random.below(ENTRIES + 1),
+        6 => FORMER_ENTRIES,
+        7 => FORMER_ENTRIES + 1,
+        _ => random.below(FORMER_ENTRIES),
     }
 }
 
@@ -178,8 +189,8 @@ mod tests {
     #[test]
     fn sound_tables_have_a_form() {
         let random = &mut Random::new(1);
-        for many in 0..=16 {
-            for _ in 0..100 {
+        for many in 0..=ENTRIES {
+            for _ in 0..20 {
                 let entries = table(random, many, Intervals::Sound);
                 assert_eq!(entries.len(), many);
                 assert_eq!(write(&entries), Ok(Form::Marked.of(&entries)));

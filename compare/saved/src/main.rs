@@ -1,8 +1,9 @@
-//! Saves and restores reporting tables (document 02, requests 5 and 6), by our archive
-//! and by the reading of the documents, and compares after every call the number,
-//! the length and all bytes of buffer and table. The tables are random, as direct
-//! calls make them, and damaged; the forms are theirs, every damage of one byte
-//! of a few, and any bytes that look like one. Two runs make the same calls.
+//! Saves and restores reporting tables (document 02, requests 5, 6 and 7), by our
+//! archive and by the reading of the documents, and compares after every call the
+//! number, the length and all bytes of buffer and table. The tables are random, as
+//! direct calls make them, and damaged; the forms are theirs, every damage of one
+//! byte of a few, some of a full one, and any bytes that look like one. Two runs
+//! make the same calls.
 //!
 //! What is restored is held to be the table that was saved without its last
 //! reports, and what is saved again to be the same bytes. A form that was saved

@@ -68,7 +68,7 @@ fn damaged(table: &[u8], random: &mut Random) -> Vec<Vec<u8>> {
     }
     for _ in 0..3 {
         let mut changed = table.to_vec();
-        changed[place(table, random)] = random.of(&[0, 1, 2, 16, 17, 0x80, 0xff]);
+        changed[place(table, random)] = random.of(&[0, 1, 2, 16, 17, 0x80, 0x81, 0xff]);
         all.push(changed);
     }
     for length in [0, SIZE - 1, SIZE + 1, random.below(2 * SIZE)] {
@@ -118,7 +118,7 @@ mod tests {
     #[test]
     fn a_key_twice() {
         let random = &mut Random::new(1);
-        for many in 2..=16 {
+        for many in 2..=ENTRIES {
             let table = to_bytes(&made::table(random, many, Intervals::Sound));
             let twice = twice(&table, random).expect("there are two");
             let held = entries(&twice).expect("a table");

@@ -1,5 +1,7 @@
 //! The results: a table for the terminal, and a page in simple Markdown.
 
+use reading::table::ENTRIES;
+
 use crate::calls::ROOM;
 use crate::facts::Facts;
 use crate::machine::processor;
@@ -111,7 +113,7 @@ fn both_timed(facts: &Facts, built: &Built, pairs: usize) -> String {
     format!(
         "The old server and the new one, timed by one program on the same frames.
 
-- Old: zigbee-rs' `ClusterServer::handle_request`, `AttributeReportBuilder` and `ReportingTable<16>`, over document 01's store, as the comparison runs them. Compiled by {compiler} at full optimization: no overflow checks, link-time optimization, one unit. A call allocates nothing. Its lock and its list are stand-ins over the standard library's.
+- Old: zigbee-rs' `ClusterServer::handle_request`, `AttributeReportBuilder` and `ReportingTable<{ENTRIES}>`, over document 01's store, as the comparison runs them. Compiled by {compiler} at full optimization: no overflow checks, link-time optimization, one unit. A call allocates nothing. Its lock and its list are stand-ins over the standard library's.
 - {new}
 - Processor: {processor}. One thread.
 - Both are given the same frames from the same memory, in blocks of the same number of calls, old and new in turn, the two of a pair about 0.4 milliseconds together; {pairs} pairs a row. A time is the median over the blocks; a ratio is the median over the pairs, with their quartiles.
@@ -142,7 +144,8 @@ fn what_the_rows_are() -> String {
 - Read 1 reads the attribute in the middle of the store. The rows of 10 name attributes that are spread over the store of 64; in the store of 4 the same ones come again, all 4 for a read, 3 for a write, 2 for the others.
 - Writes and configures repeat the same values, so that every call meets the same store and table.
 - Refused takes in turn a frame for another cluster, one that is too short for a header, one of a reserved type, one with a cut record, and one with a reply buffer of 2 bytes.
-- Ask and mark go through all 16 attributes of the table in turn; for the asks every second one was marked before.
+- Ask and mark go through all attributes of the table in turn; for the asks every second one was marked before.
+- Every table has room for 128 entries. Over the full one, configure 10 and read configuration 10 name ten that are spread over it.
 
 "
     .to_owned()
@@ -165,6 +168,8 @@ mod tests {
     use super::*;
     use crate::rows::rows;
     use crate::timing::Timed;
+
+    const ROWS: usize = 22;
 
     fn measured() -> Vec<Measured> {
         let timed = Timed {
@@ -189,11 +194,15 @@ mod tests {
     fn every_row_is_in_its_table() {
         let page = page(&measured(), &Facts::default(), &built());
         let rows = page.matches(" | 100 | 150 | 1.50 (1.50 to 1.50) | not counted |");
-        assert_eq!(rows.count(), 18);
+        assert_eq!(rows.count(), ROWS);
         for over in Over::ALL {
             let (_, behind) = page.split_once(over.title()).expect("it has a table");
             let table = behind.split("\n\n").nth(1).expect("it has a table");
-            let many = if over == Over::Table { 2 } else { 8 };
+            let many = match over {
+                Over::Table => 2,
+                Over::Full => 4,
+                _ => 8,
+            };
             assert_eq!(table.lines().count(), 2 + many);
         }
     }
@@ -225,11 +234,11 @@ mod tests {
             ..built()
         };
         let page = page(&measured, &Facts::default(), &built);
-        assert_eq!(page.matches(" | 77 |\n").count(), 18);
+        assert_eq!(page.matches(" | 77 |\n").count(), ROWS);
         assert_eq!(
             page.matches("| call | new, instructions |\n|---|---:|\n")
                 .count(),
-            3
+            Over::ALL.len()
         );
         assert!(page.contains(UNTIMED) && page.contains("4711 bytes"));
         for words in ["not timed", "pairs", "valgrind", "rustc", "are the same"] {
@@ -240,7 +249,7 @@ mod tests {
     #[test]
     fn the_terminal_has_a_line_a_row() {
         let table = table(&measured());
-        assert_eq!(table.matches("1.50 (1.50 to 1.50)").count(), 18);
-        assert_eq!(table.lines().count(), 18 + 3 * 2 + 2);
+        assert_eq!(table.matches("1.50 (1.50 to 1.50)").count(), ROWS);
+        assert_eq!(table.lines().count(), ROWS + 4 * 2 + 3);
     }
 }

@@ -9,12 +9,15 @@ use crate::calls::Calls;
 pub enum Over {
     Four,
     SixtyFour,
-    /// No store is lent.
+    /// As many entries as tables had room for before document 02's request 7. No
+    /// store is lent.
     Table,
+    /// As many as there is room for. Requests go over the store of 64.
+    Full,
 }
 
 impl Over {
-    pub const ALL: [Self; 3] = [Self::Four, Self::SixtyFour, Self::Table];
+    pub const ALL: [Self; 4] = [Self::Four, Self::SixtyFour, Self::Table, Self::Full];
 
     /// Above the table of results.
     pub fn title(self) -> &'static str {
@@ -22,6 +25,7 @@ impl Over {
             Self::Four => "A store of 4 attributes, document 01's T",
             Self::SixtyFour => "A store of 64 attributes",
             Self::Table => "A reporting table of 16 entries, no store",
+            Self::Full => "A full reporting table, of 128 entries; requests over the store of 64",
         }
     }
 
@@ -30,6 +34,7 @@ impl Over {
             Self::Four => "4",
             Self::SixtyFour => "64",
             Self::Table => "table",
+            Self::Full => "full",
         }
     }
 }

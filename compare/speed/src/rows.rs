@@ -2,7 +2,7 @@
 
 use reading::change_width;
 use reading::store::{Attribute, attributes};
-use reading::table::{Config, Entry, Key, SIGNED, UNSIGNED};
+use reading::table::{Config, ENTRIES, Entry, FORMER_ENTRIES, Key, SIGNED, UNSIGNED};
 
 use crate::calls::{Ask, Calls, Report, Request};
 use crate::frames::{
@@ -16,7 +16,9 @@ pub fn rows() -> Vec<Row> {
     [
         over_store(Over::Four, &four()),
         over_store(Over::SixtyFour, &sixty_four()),
-        over_table(),
+        over_table(Over::Table, FORMER_ENTRIES),
+        over_table(Over::Full, ENTRIES),
+        requests_over_full(&sixty_four()),
     ]
     .into_iter()
     .flatten()
@@ -90,9 +92,44 @@ fn key(attribute: u16) -> Key {
     }
 }
 
-/// A full table, every second of its attributes marked.
-fn over_table() -> Vec<Row> {
-    let table: Vec<Entry> = (0..16)
+/// Two requests over a full table, in which what they name stands among others.
+fn requests_over_full(store: &[u8]) -> Vec<Row> {
+    let all = attributes(store).expect("the store is sound");
+    let reportable = ten(&all, REPORTABLE);
+    let table = among_others(&configured(&reportable));
+    let row = |name, request| Row {
+        over: Over::Full,
+        name,
+        store: store.to_vec(),
+        table: table.clone(),
+        calls: Calls::Requests(vec![request]),
+    };
+    vec![
+        row("configure 10", configure(&reportable)),
+        row("read configuration 10", read_configuration(&reportable)),
+    ]
+}
+
+/// These entries spread over a full table; the others are of attributes that the
+/// store does not have.
+fn among_others(some: &[Entry]) -> Vec<Entry> {
+    let mut table: Vec<Entry> = (0..ENTRIES)
+        .map(|place| Entry {
+            key: key(0x4000 + place as u16),
+            ..some[0]
+        })
+        .collect();
+    for (turn, entry) in some.iter().enumerate() {
+        table[(2 * turn + 1) * ENTRIES / (2 * some.len())] = *entry;
+    }
+    table
+}
+
+/// A table of so many entries, every second of its attributes marked.
+fn over_table(over: Over, many: usize) -> Vec<Row> {
+    let attributes = 0..many as u16;
+    let table: Vec<Entry> = attributes
+        .clone()
         .map(|attribute| Entry {
             key: key(attribute),
             config: Config {
@@ -105,17 +142,17 @@ fn over_table() -> Vec<Row> {
         })
         .collect();
     // of the marked ones some come too early, some have moved too little or
-    // enough, and some are at their maximum
+    // enough, and some are at their maximum; in a longer table these come again
     let asks = || {
-        let each = (0..16).map(|attribute| Ask {
+        let each = attributes.clone().map(|attribute| Ask {
             key: key(attribute),
-            now: 100 + 5 * u32::from(attribute),
-            value: -200 + 10 * i64::from(attribute),
+            now: 100 + 5 * u32::from(attribute % 16),
+            value: -200 + 10 * i64::from(attribute % 16),
         });
         each.collect()
     };
     let row = |name, calls| Row {
-        over: Over::Table,
+        over,
         name,
         store: four(),
         table: table.clone(),

@@ -20,6 +20,7 @@ use Rattle.reporting.specs.declared.entry.ReportingConfig.{ReportingConfig}
 use Rattle.reporting.specs.declared.entry.Entry.{Entry}
 use Rattle.reporting.specs.Entries.{fresh}
 use Rattle.reporting.specs.Claims.Events.{Event, configured, cleared}
+use Rattle.reporting.specs.Table.{capacity}
 use Rattle.configure.specs.Request.{changeWidth, configureAt}
 use Rattle.configure.specs.Configure.{setting, tried, configureEntries}
 use Rattle.configure.specs.Claims.History.{recordEvents, allEvents, recordsDone, configureEvents}
@@ -51,7 +52,7 @@ reply body out l es = record { body = body; comes = replied 16 (0x18 ∷ 0x2d �
 
 abbrev All : List Case → Type 0
 All [] = Unit {0}
-All (c ∷ cs) = ((configureEntries 8 16 T [] request (c .body) 16 ≡ c .comes) × (configureEvents 8 16 T [] request (c .body) 16 ≡ c .events)) × All cs
+All (c ∷ cs) = ((configureEntries 8 capacity T [] request (c .body) 16 ≡ c .comes) × (configureEvents 8 capacity T [] request (c .body) 16 ≡ c .events)) × All cs
 
 abbrev cases : List Case
 cases =

@@ -1,15 +1,15 @@
 -- Numbers and rows of numbers as bytes, once over the widths. Assumes nothing.
 use Prim.Native.Nat.{ℕ, zero, suc, _+_, _*_, _/_, _%_, _^_, _≤_, _<_}
 use mathlib.Core.Path.{_≡_, refl, ap, sym, _∙_}
-use mathlib.Core.Bool.{Bool, true, false, _&&_, and-assoc, false≢true}
+use mathlib.Core.Bool.{Bool, true, false, _&&_, false≢true}
 use mathlib.Core.List.{List, [], _∷_, _++_, append-assoc}
 use native.Mathlib.Omega.{arith}
 use native.Mathlib.Nat.{mod-lt, mod-eq-of-lt, mul-assoc, suc-mul, zero-mul, div-one, div-div-eq-div-mul}
 use lib.Pow.{pow-pos}
 use lib.ListN.{length, getD, take, drop, set, length-append, length-drop}
-use lib.Seq.{sets, take-at, drop-at, drop-drop, take-add}
+use lib.Seq.{sets, take-at, drop-at, take-add}
 use lib.Dec.{eqb}
-use borrow.Author.Tests.{eqb-true, ne-eqb}
+use borrow.Author.Tests.{eqb-true}
 use Rattle.types.specs.Number.{AllBytes, allZero, zeros, le, bytesOf, unsignedAt}
 use Rattle.types.proofs.Numbers.{pow-byte, bytes-drop, unsigned-none, unsigned-step, le-below, le-bytes, bytes-cut, length-bytes}
 use Rattle.reporting.specs.Carried.{total, laid, numbersIn, rowsLaid, rowsIn}
@@ -202,28 +202,3 @@ zero-zeros [] h = refl
 zero-zeros (b ∷ l) h =
     let p = both (eqb b 0) (allZero l) h in
     ap (λ (k : ℕ). k ∷ l) (eqb-true b 0 (p .0)) ∙ ap (λ (r : List ℕ). 0 ∷ r) (zero-zeros l (p .1))
-
-zero-and : (b n : ℕ) → (eqb b 0 && eqb n 0) ≡ eqb (b + 256 * n) 0
-zero-and zero zero = refl
-zero-and zero (suc n) = ne-eqb (suc n) 0 (λ e. omega arith) ∙ sym (ne-eqb (0 + 256 * suc n) 0 (λ e. omega arith))
-zero-and (suc b) n = ap (λ (t : Bool). t && eqb n 0) (ne-eqb (suc b) 0 (λ e. omega arith)) ∙ sym (ne-eqb (suc b + 256 * n) 0 (λ e. omega arith))
-
--- bytes that are all 0 are the number 0
-zero-le : (l : List ℕ) → allZero l ≡ eqb (le l) 0
-unfolding allZero le
-zero-le [] = refl
-zero-le (b ∷ l) = ap (λ (t : Bool). eqb b 0 && t) (zero-le l) ∙ zero-and b (le l)
-
-zero-append : (k l : List ℕ) → allZero (k ++ l) ≡ (allZero k && allZero l)
-unfolding allZero
-zero-append [] l = refl
-zero-append (b ∷ k) l = ap (λ (t : Bool). eqb b 0 && t) (zero-append k l) ∙ sym (and-assoc (eqb b 0) (allZero k) (allZero l))
-
--- two numbers one behind the other are 0
-pub zero-numbers : (bs : List ℕ) (at a b : ℕ) → (eqb (unsignedAt bs at a) 0 && eqb (unsignedAt bs (at + a) b) 0) ≡ allZero (take (a + b) (drop at bs))
-unfolding unsignedAt
-zero-numbers bs at a b =
-    (λ i. sym (zero-le (take a (drop at bs))) i && sym (zero-le (take b (drop (at + a) bs))) i)
-    ∙ sym (zero-append (take a (drop at bs)) (take b (drop (at + a) bs)))
-    ∙ ap (λ (l : List ℕ). allZero (take a (drop at bs) ++ take b l)) (sym (drop-drop a at bs))
-    ∙ ap allZero (sym (take-add a b (drop at bs)))

@@ -5,21 +5,20 @@ use mathlib.Core.Bool.{true, false, _&&_, _||_, true≢false, false≢true}
 use mathlib.Core.List.{List, [], _∷_}
 use native.Mathlib.Omega.{arith}
 use native.Mathlib.Nat.{mod-eq-of-lt}
-use lib.ListN.{getD, take, drop}
+use lib.ListN.{getD, drop}
 use lib.Seq.{sets, drop-drop}
 use lib.Dec.{leb, eqb, leb·zero}
 use lib.IntN.{ℤ, pos, negsuc, natAbs}
 use lib.Signed.{mag, leZ}
-use borrow.Author.Tests.{ne-eqb, le-leb, lt-leb}
+use borrow.Author.Tests.{eq-eqb, ne-eqb, le-leb, lt-leb}
 use mir.Syntax.{w64}
 use mir.Val.{SFits, toZ, ofZ}
 use mir.Facts.{toZ-ofZ}
-use Rattle.types.specs.Number.{allZero, bytesOf, unsignedAt, signedAt, residue}
+use Rattle.types.specs.Number.{bytesOf, unsignedAt, signedAt, residue}
 use Rattle.types.proofs.Numbers.{one-byte, length-bytes}
 use Rattle.types.proofs.Machine.{flipped-is}
 use Rattle.frame.proofs.Buffer.{sets-append}
 use Rattle.reporting.specs.Carried.{widths, laid, numbersIn, isSlot, entryOf}
-use Rattle.reporting.proofs.Carriage.{zero-numbers}
 
 -- ---- the bits of a signed number
 
@@ -93,12 +92,16 @@ module _ (bs : List ℕ) (at : ℕ) where
       pub form-marked : f ≡ 1 → true ≡ isSlot (numbersIn widths (drop at bs))
       form-marked h = sym (form-at ∙ rw (← eu, le-leb u 1 k, ← ef, h))
 
-      -- under flag 0 the twelve bytes behind it are 0
-      pub form-none : (n : ℕ) → n ≡ 12 → f ≤ 1 → (f ≡ 1 → ⊥) → allZero (take n (drop (at + 18) bs)) ≡ isSlot (numbersIn widths (drop at bs))
-      form-none n w h j =
-          let p : at + 18 + 4 ≡ at + 22 = omega arith in
-          ap (λ (m : ℕ). allZero (take m (drop (at + 18) bs))) w
-          ∙ sym (form-at ∙ rw (← eu, le-leb u 1 k, ← ef, le-leb f 1 h, ne-eqb f 1 j, ← p) (zero-numbers bs (at + 18) 4 8))
+      -- under flag 0 time and value are 0
+      module _ (h : f ≤ 1) (j : f ≡ 1 → ⊥) (t v : ℕ) (et : t ≡ unsignedAt bs (at + 18) 4) (ev : v ≡ unsignedAt bs (at + 22) 8) where
+        form-none : isSlot (numbersIn widths (drop at bs)) ≡ (eqb t 0 && eqb v 0)
+        form-none = form-at ∙ rw (← eu, le-leb u 1 k, ← ef, le-leb f 1 h, ne-eqb f 1 j, ← et, ← ev)
+
+        pub form-timed : (t ≡ 0 → ⊥) → eqb t 0 ≡ isSlot (numbersIn widths (drop at bs))
+        form-timed e = sym (form-none ∙ rw (ne-eqb t 0 e))
+
+        pub form-untimed : t ≡ 0 → eqb v 0 ≡ isSlot (numbersIn widths (drop at bs))
+        form-untimed e = sym (form-none ∙ rw (eq-eqb t 0 e))
 
   -- the entry of a slot
   pub entry-at : entryOf (numbersIn widths (drop at bs)) ≡ record {

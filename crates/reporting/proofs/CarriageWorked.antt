@@ -1,5 +1,5 @@
 -- One table of one entry, and what is no table, computed. docs/TABLE.md shows these bytes. Assumes nothing.
-use Prim.Native.Nat.{ℕ, _-_}
+use Prim.Native.Nat.{ℕ, suc, _-_}
 use mathlib.Core.Path.{_≡_, refl}
 use mathlib.Core.Bool.{Bool, true, false}
 use mathlib.Core.List.{List, [], _∷_}
@@ -9,7 +9,7 @@ use Rattle.types.specs.Number.{allZero, le, bytesOf, signedOf, residue}
 use Rattle.frame.specs.Reply.{padded}
 use Rattle.reporting.specs.declared.entry.Entry.{Entry}
 use Rattle.reporting.specs.Table.{capacity}
-use Rattle.reporting.specs.Carried.{laid, numbersIn, rowsLaid, rowsIn, numbersOf, entryOf, isSlot, areSlots, slotsIn, tableIn, tableBytes, isTable, tableLength}
+use Rattle.reporting.specs.Carried.{laid, numbersIn, rowsLaid, rowsIn, numbersOf, entryOf, isSlot, areSlots, slotsIn, tableIn, tableBytes, isTable, tableSize, tableLength}
 
 -- cluster 0402, attribute 0000, from 10 to 300 seconds, change 50; last reported at 100000 with the value -5
 entry : Entry
@@ -43,10 +43,15 @@ is-one : with 0 1 ≡ true
 unfolding with isTable slotsIn areSlots isSlot allZero rowsIn numbersIn le bytes head padded
 is-one = refl
 
--- a count of 17; a count of 2, an empty slot being one; mark 1, and mark 2; flag 2; a time under flag 0; a stray byte behind
-count-17 : with 0 17 ≡ false
+-- a count above the room; a count of 2, and of all slots, empty slots being some; mark 1, and mark 2; flag 2; a time under flag 0; a stray byte behind the slot in use, behind the sixteenth, and at
+-- the end
+count-above : with 0 (suc capacity) ≡ false
 unfolding with isTable slotsIn areSlots isSlot allZero rowsIn numbersIn le bytes head padded
-count-17 = refl
+count-above = refl
+
+count-full : with 0 capacity ≡ true
+unfolding with isTable slotsIn areSlots isSlot allZero rowsIn numbersIn le bytes head padded
+count-full = refl
 
 count-2 : with 0 2 ≡ true
 unfolding with isTable slotsIn areSlots isSlot allZero rowsIn numbersIn le bytes head padded
@@ -67,6 +72,14 @@ flag-2 = refl
 flag-0 : with 18 0 ≡ false
 unfolding with isTable slotsIn areSlots isSlot allZero rowsIn numbersIn le bytes head padded
 flag-0 = refl
+
+stray-next : with (tableSize 1) 1 ≡ false
+unfolding with isTable slotsIn areSlots isSlot allZero rowsIn numbersIn le bytes head padded
+stray-next = refl
+
+stray-sixteen : with (tableSize 16) 1 ≡ false
+unfolding with isTable slotsIn areSlots isSlot allZero rowsIn numbersIn le bytes head padded
+stray-sixteen = refl
 
 stray : with (tableLength - 1) 1 ≡ false
 unfolding with isTable slotsIn areSlots isSlot allZero rowsIn numbersIn le bytes head padded

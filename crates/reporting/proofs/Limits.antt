@@ -1,12 +1,12 @@
 -- Two limits (specs/Claims/Limits.antt): a call that leaves no more entries than the smaller limit has room for does the same under both. Assumes nothing.
-use mathlib.Core.Path.{_≡_, refl, sym, ap, _∙_}
+use mathlib.Core.Path.{_≡_, refl, ap, _∙_}
 use mathlib.Core.Bool.{Bool, true, false, cond, _&&_, _||_}
 use mathlib.Core.List.{List, [], _∷_, _++_, map}
 use Prim.Native.Nat.{ℕ, _≤_, _<_}
 use native.Mathlib.Omega.{arith}
 use lib.ListN.{length, length-append, length-map}
 use lib.Dec.{ltb, leb}
-use borrow.Author.Tests.{ltb-false, lt-ltb, le-ltb, le-leb, lt-leb, leb-true, leb-false}
+use borrow.Author.Tests.{ltb-false, lt-ltb, le-ltb, le-leb, lt-leb, leb-false}
 use Rattle.reporting.specs.declared.entry.Key.{Key}
 use Rattle.reporting.specs.declared.entry.ReportingConfig.{ReportingConfig}
 use Rattle.reporting.specs.declared.entry.Entry.{Entry}
@@ -14,8 +14,9 @@ use Rattle.reporting.specs.declared.entry.Wish.{Wish}
 use Rattle.reporting.specs.declared.entry.Wish.the-variants.{ToClear, ToRefuse, ToSet}
 use Rattle.reporting.specs.Entries.{findL, fresh, replaced, distinct, unreported, updateL, acceptsL, configureL}
 use Rattle.reporting.specs.Wish.{wish, statusW, recordW}
-use Rattle.reporting.specs.Claims.Events.{Call, configRecord, configure, clear, ask, mark, configuration, len, restore, call, calls, readIn}
-use Rattle.reporting.specs.Claims.Limits.{Said, accepted, status, says, allSay, Within, LimitsAgree}
+use Rattle.reporting.specs.Claims.Events.{Call, configRecord, configure, clear, ask, mark, configuration, len, restore, call, calls}
+use Rattle.reporting.specs.Table.{capacity}
+use Rattle.reporting.specs.Claims.Limits.{accepted, status, says, allSay, Within, LimitsAgree, SixteenAsBefore, SeventeenPart}
 
 -- what holds of the two limits: the same is said, and the same entries are left
 pub record Agree (small large : ℕ) (c : Call) (l : List Entry) : Type 0 where
@@ -97,3 +98,11 @@ limits-agree small large (c ∷ cs) l order h =
       (λ i. a .said i ∷ (ap (allSay small cs) (a .left) ∙ more .0) i),
       ap (calls small cs) (a .left) ∙ more .1,
     )
+
+-- ---- sixteen, and a table now
+
+pub sixteen-as-before : SixteenAsBefore
+sixteen-as-before cs h = limits-agree 16 capacity cs [] (omega arith) h
+
+pub seventeen-part : SeventeenPart
+seventeen-part = record { sixteenth = refl; seventeenth-then = refl; seventeenth-now = refl; last-now = refl; past-now = refl }

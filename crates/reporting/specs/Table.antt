@@ -1,5 +1,5 @@
--- Definitions. The table as a value of sixteen slots and a count, what its operations say, and what they leave (document 01, "The reporting table
--- ..", and number 8 of "What a call says back").
+-- Definitions. The table as a value of slots and a count, what its operations say, and what they leave (document 01, "The reporting table
+-- ..", and number 8 of "What a call says back"; document 02, request 7).
 use mathlib.Core.Path.{_≡_}
 use mathlib.Core.Logic.{_⊎_}
 use mathlib.Core.Bool.{Bool, true, false, cond}
@@ -27,9 +27,9 @@ use Rattle.reporting.specs.declared.table.Length.the-variants as LengthV
 use Rattle.reporting.specs.Entries.{lookupL, acceptsL, configureL, clearL, markL}
 use Rattle.reporting.specs.Due.{dueL}
 
--- how many entries a table has room for
+-- how many entries a table has room for: document 01's sixteen, 128 by document 02, request 7
 abbrev pub capacity : ℕ
-capacity = 16
+capacity = 128
 
 -- ---- tables
 
@@ -114,7 +114,7 @@ doneT l = record { told = changeTold ChangeV.Done; table = holding l }
 abbrev pub fullT : List Entry → HandedBack
 fullT l = record { told = changeTold ChangeV.Full; table = holding l }
 
--- "table count above 16": refused with number 8, and handed back as it came, every slot and the count
+-- a count above the room: refused with number 8, and handed back as it came, every slot and the count
 abbrev pub refusedT : ReportingTable → HandedBack
 refusedT t = record { told = changeTold (ChangeV.Refused NotATable); table = bad t }
 

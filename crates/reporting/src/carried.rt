@@ -59,7 +59,7 @@ fn zero_from(bytes: &[u8], from: usize) -> bool
     all_zero(&bytes[from..])
 }
 
-// Whether the slot at `at` is in its one form. The window of time and value has a fixed length, so that no loop is left of it.
+// Whether the slot at `at` is in its one form. Time and value are asked for as numbers, two loads and no loop.
 fn slot_in_form(bytes: &[u8], at: usize) -> bool
     requires { ⌜ at + slotBytes ≤ length (now bytes) ⌝ }
     ensures { λ r. ⌜ r ≡ isSlot (numbersIn widths (drop at (now (bytes .entry)))) ⌝ }
@@ -74,7 +74,9 @@ fn slot_in_form(bytes: &[u8], at: usize) -> bool
     if flag == 1 {
         return true;
     }
-    all_zero(&bytes[at + 18..at + 30])
+    let time = u32_in(bytes, at + 18);
+    let value = u64_in(bytes, at + 22);
+    time == 0 && value == 0
 }
 
 // Whether the first `count` slots are in their one form.

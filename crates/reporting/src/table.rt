@@ -1,4 +1,4 @@
-// The reporting table: sixteen entries and a count, by value. The slots past the count are no part of it.
+// The reporting table: 128 entries and a count, by value (sixteen before document 02's request 7). The slots past the count are no part of it.
 ghost use mathlib.Core.Path.{_≡_};
 ghost use mathlib.Core.List.{[]};
 ghost use Prim.Native.Nat.{_≤_};
@@ -12,7 +12,7 @@ use types::ids::AttributeId;
 use types::ids::ClusterId;
 
 // How many entries a table has room for.
-pub const LIMIT: usize = 16;
+pub const LIMIT: usize = 128;
 
 pub struct ReportingTable {
     pub entries: [Entry; LIMIT],
@@ -54,7 +54,7 @@ pub enum Length {
 }
 
 impl ReportingTable {
-    // A table without entries.
+    // A table without entries: every one of its slots is blank.
     pub fn new() -> Self
         ensures { λ r. ⌜ tableOf r ≡ holding [] ⌝ }
     {

@@ -25,12 +25,16 @@ saveL room l =
 unfoldable pub saveLent : List ℕ → ℕ → Outcome (Unit {0})
 saveLent bs room = onLent bs (refused room NotATable noState) (saveL room)
 
--- READING, over bytes as long as a table's, whatever they were: the form's entries and 0; of bytes that are not a saved form the empty table and 13. Bytes of another
--- length stay as they are, and get 8.
-unfoldable pub restoreLent : List ℕ → List ℕ → ChangeLeft
-restoreLent form bs =
-    cond (sizeOk capacity bs)
-    (cond (isSaved (formIn form) capacity form)
-    (leftAs Done (tableBytes capacity (savedIn (formIn form) form)))
-    (leftAs (Refused NotASavedForm) (tableBytes capacity [])))
+-- Reading under a limit, over bytes as long as a table's, whatever they were: the form's entries and 0; of bytes that are not a saved form the empty table and 13. Bytes of
+-- another length stay as they are, and get 8.
+abbrev pub restoreUnder : ℕ → List ℕ → List ℕ → ChangeLeft
+restoreUnder limit form bs =
+    cond (sizeOk limit bs)
+    (cond (isSaved (formIn form) limit form)
+    (leftAs Done (tableBytes limit (savedIn (formIn form) form)))
+    (leftAs (Refused NotASavedForm) (tableBytes limit [])))
     (leftAs (Refused NotATable) bs)
+
+-- READING, into a table's bytes
+unfoldable pub restoreLent : List ℕ → List ℕ → ChangeLeft
+restoreLent form bs = restoreUnder capacity form bs

@@ -1,8 +1,9 @@
 -- Requests and direct calls under two limits (specs/Claims/Limits.antt): only Configure Reporting looks at the limit. Assumes nothing.
 use mathlib.Core.Path.{_≡_, refl, ap, _∙_}
-use mathlib.Core.Bool.{Bool, true, false, cond}
+use mathlib.Core.Bool.{cond}
 use mathlib.Core.List.{List, [], _∷_}
 use Prim.Native.Nat.{ℕ, _≤_}
+use native.Mathlib.Omega.{arith}
 use lib.ListN.{length, drop}
 use lib.Dec.{eqb}
 use Rattle.frame.specs.declared.header.ZclHeader.{ZclHeader}
@@ -19,15 +20,14 @@ use Rattle.frame.specs.Answer.{Outcome, within, refused}
 use Rattle.store.specs.Contents.{clusterOf}
 use Rattle.store.specs.Layout.{isStore}
 use Rattle.reporting.specs.declared.entry.Entry.{Entry}
-use Rattle.reporting.specs.Table.{Table, holding, entriesOf}
+use Rattle.reporting.specs.Table.{capacity, holding, entriesOf}
 use Rattle.reporting.proofs.Limits.{agree}
 use Rattle.configure.specs.Configure.{configureOf}
 use Rattle.configure.specs.Claims.Limits.{FrameWithin}
 use Rattle.configure.proofs.Limits.{configure-limits-agree}
 use Rattle.server.specs.Serve.{State, state, tabling, commanded, typed, byHeader, tabled, serve}
-use Rattle.server.specs.Claims.Asks.{Asks}
 use Rattle.server.specs.Claims.History.{Request, requested, Use, request, direct, used, uses}
-use Rattle.server.specs.Claims.Limits.{served, RequestWithin, ServeLimitsAgree, Given, outcome, said, given, allGiven, UseWithin, UsesWithin, UsesLimitsAgree}
+use Rattle.server.specs.Claims.Limits.{served, RequestWithin, ServeLimitsAgree, outcome, said, given, allGiven, UseWithin, UsesWithin, UsesLimitsAgree, UsesSixteenAsBefore}
 
 module _ (small large : ℕ) (order : small ≤ large) (r : Request) (l : List Entry) (h : RequestWithin small large r l) where
   -- ---- by the command
@@ -102,3 +102,6 @@ uses-limits-agree small large (u ∷ us) l order h =
       (λ i. a .gives i ∷ (ap (allGiven small us) (a .leaves) ∙ more .0) i),
       ap (uses small us) (a .leaves) ∙ more .1,
     )
+
+pub uses-sixteen-as-before : UsesSixteenAsBefore
+uses-sixteen-as-before us h = uses-limits-agree 16 capacity us [] (omega arith) h

@@ -21,7 +21,7 @@ use Rattle.frame.specs.Failures.{doneWith, passFrom, encodeFailures, answered, 
 use Rattle.frame.specs.Claims.Troubles.{single}
 use Rattle.store.specs.Contents.{attributeAt, attributesFrom, attributesOf, findIn, findOf}
 use Rattle.store.specs.Layout.{each, ascending, roomOk, isText, lengthOk, followOn, endFrom, unusedOk, isStore}
-use Rattle.reporting.specs.Table.{holding}
+use Rattle.reporting.specs.Table.{capacity, holding}
 use Rattle.configure.specs.Request.{received, changeWidth, configureAt, configures}
 use Rattle.configure.specs.Configure.{setting, tried, configureEntries, configureOf}
 use Rattle.server.specs.Serve.{State, state, commanded, typed, byHeader, tabled, serve}
@@ -85,37 +85,37 @@ computed =
 four : benchAnswer (frameOf 0x06 (sets ++ short)) 64 ≡ refused 64 RecordCut left
 four =
     let f = computed .wide in
-    configure-cut-is-four 8 16 (T 0x07) (holding []) cluster true (frameOf 0x06 sets) (header 0x06) (f .asks) (f .readable) short 64 (computed .cut-off) (number (f .answer))
+    configure-cut-is-four 8 capacity (T 0x07) (holding []) cluster true (frameOf 0x06 sets) (header 0x06) (f .asks) (f .readable) short 64 (computed .cut-off) (number (f .answer))
     ∙ ap (λ (o : Outcome State). refused 64 RecordCut (o .state)) (f .answer)
 
 -- 5 stays, and attribute 5 is not cleared, nor is a record behind it that cannot be read met
 five : benchAnswer (frameOf 0x06 (sets ++ other ++ clears)) 4 ≡ refused 4 ReplyTooLong left
 five =
     let f = computed .full in
-    configure-five-stays 8 16 (T 0x07) (holding []) cluster true (frameOf 0x06 (sets ++ other)) (header 0x06) (f .asks) (f .readable) clears 4 (omega arith) (number (f .answer)) ∙ f .answer
+    configure-five-stays 8 capacity (T 0x07) (holding []) cluster true (frameOf 0x06 (sets ++ other)) (header 0x06) (f .asks) (f .readable) clears 4 (omega arith) (number (f .answer)) ∙ f .answer
 
 five-still : benchAnswer (frameOf 0x06 (sets ++ other ++ short)) 4 ≡ refused 4 ReplyTooLong left
 five-still =
     let f = computed .full in
-    configure-five-stays 8 16 (T 0x07) (holding []) cluster true (frameOf 0x06 (sets ++ other)) (header 0x06) (f .asks) (f .readable) short 4 (omega arith) (number (f .answer)) ∙ f .answer
+    configure-five-stays 8 capacity (T 0x07) (holding []) cluster true (frameOf 0x06 (sets ++ other)) (header 0x06) (f .asks) (f .readable) short 4 (omega arith) (number (f .answer)) ∙ f .answer
 
 -- the record that did not fit is done as it is with room
 five-done : benchAnswer (frameOf 0x06 (sets ++ other)) 4 .state ≡ benchAnswer (frameOf 0x06 (sets ++ other)) 64 .state
 five-done =
     let f = computed .just in
-    configure-five-done 8 16 (T 0x07) (holding []) cluster true (frameOf 0x06 sets) (header 0x06) (f .asks) (f .readable) other _ 4 64 (computed .one)
+    configure-five-done 8 capacity (T 0x07) (holding []) cluster true (frameOf 0x06 sets) (header 0x06) (f .asks) (f .readable) other _ 4 64 (computed .one)
     (λ n. omega (arith, n, number (f .answer))) (λ n. omega (arith, n, number (computed .listed .answer)))
 
 -- room for the header alone
 five-at-header : benchAnswer (frameOf 0x06 sets) 3 ≡ refused 3 ReplyTooLong left
 five-at-header =
     let f = computed .wide in
-    configure-five-at-header 8 16 (T 0x07) (holding []) cluster true (frameOf 0x06 sets) (header 0x06) (f .asks) (f .readable) 64 (number (f .answer), ap (λ (o : Outcome State). o .size) (f .answer))
+    configure-five-at-header 8 capacity (T 0x07) (holding []) cluster true (frameOf 0x06 sets) (header 0x06) (f .asks) (f .readable) 64 (number (f .answer), ap (λ (o : Outcome State). o .size) (f .answer))
     ∙ ap (λ (o : Outcome State). refused 3 ReplyTooLong (o .state)) (f .answer)
 
 four-at-header : benchAnswer (frameOf 0x06 (sets ++ short)) 3 ≡ refused 3 RecordCut left
 four-at-header =
     let f = computed .wide in
-    configure-cut-is-four-at-header 8 16 (T 0x07) (holding []) cluster true (frameOf 0x06 sets) (header 0x06) (f .asks) (f .readable) short 64 (computed .cut-off)
+    configure-cut-is-four-at-header 8 capacity (T 0x07) (holding []) cluster true (frameOf 0x06 sets) (header 0x06) (f .asks) (f .readable) short 64 (computed .cut-off)
     (number (f .answer), ap (λ (o : Outcome State). o .size) (f .answer))
     ∙ ap (λ (o : Outcome State). refused 3 RecordCut (o .state)) (f .answer)

@@ -23,7 +23,7 @@ use Rattle.store.specs.Contents.{attributeAt, attributesFrom, attributesOf, fin
 use Rattle.store.specs.Layout.{each, ascending, roomOk, isText, lengthOk, followOn, endFrom, unusedOk, isStore}
 use Rattle.store.specs.Value.{fitted, stored}
 use Rattle.store.specs.Write.{tooLong, isWritable, checkOf, writeOf}
-use Rattle.reporting.specs.Table.{holding}
+use Rattle.reporting.specs.Table.{capacity, holding}
 use Rattle.write.specs.Request.{recordAt, recordsAt, records}
 use Rattle.write.specs.Reply.{encode}
 use Rattle.write.specs.Write.{written, checked, writeAttributes, writtenAll, writeUndivided}
@@ -131,38 +131,38 @@ number e = ap (λ (o : Outcome State). o .number) e
 four : benchAnswer (frameOf 0x02 (nine ++ short)) 64 ≡ refused 64 RecordCut (left 0x09)
 four =
     let f = computed .wide in
-    write-cut-is-four 8 16 (T 0x07) (holding []) cluster true (frameOf 0x02 nine) (header 0x02) (f .asks) (f .readable) short 64 (computed .cut-off) (number (f .answer))
+    write-cut-is-four 8 capacity (T 0x07) (holding []) cluster true (frameOf 0x02 nine) (header 0x02) (f .asks) (f .readable) short 64 (computed .cut-off) (number (f .answer))
     ∙ ap (λ (o : Outcome State). refused 64 RecordCut (o .state)) (f .answer)
 
 -- 5 stays, and attribute 1 does not become 10, nor is a record behind it that cannot be read met
 five : benchAnswer (frameOf 0x02 (nine ++ fixed ++ ten)) 4 ≡ refused 4 ReplyTooLong (left 0x09)
 five =
     let f = computed .full in
-    write-five-stays 8 16 (T 0x07) (holding []) cluster true (frameOf 0x02 (nine ++ fixed)) (header 0x02) (f .asks) (f .readable) ten 4 (omega arith) (number (f .answer)) ∙ f .answer
+    write-five-stays 8 capacity (T 0x07) (holding []) cluster true (frameOf 0x02 (nine ++ fixed)) (header 0x02) (f .asks) (f .readable) ten 4 (omega arith) (number (f .answer)) ∙ f .answer
 
 five-still : benchAnswer (frameOf 0x02 (nine ++ fixed ++ short)) 4 ≡ refused 4 ReplyTooLong (left 0x09)
 five-still =
     let f = computed .full in
-    write-five-stays 8 16 (T 0x07) (holding []) cluster true (frameOf 0x02 (nine ++ fixed)) (header 0x02) (f .asks) (f .readable) short 4 (omega arith) (number (f .answer)) ∙ f .answer
+    write-five-stays 8 capacity (T 0x07) (holding []) cluster true (frameOf 0x02 (nine ++ fixed)) (header 0x02) (f .asks) (f .readable) short 4 (omega arith) (number (f .answer)) ∙ f .answer
 
 -- the record that did not fit is done as it is with room
 five-done : benchAnswer (frameOf 0x02 (nine ++ fixed)) 4 .state ≡ benchAnswer (frameOf 0x02 (nine ++ fixed)) 64 .state
 five-done =
     let f = computed .just in
-    write-five-done 8 16 (T 0x07) (holding []) cluster true (frameOf 0x02 nine) (header 0x02) (f .asks) (f .readable) fixed _ 4 64 (computed .one)
+    write-five-done 8 capacity (T 0x07) (holding []) cluster true (frameOf 0x02 nine) (header 0x02) (f .asks) (f .readable) fixed _ 4 64 (computed .one)
     (λ n. omega (arith, n, number (f .answer))) (λ n. omega (arith, n, number (computed .listed .answer)))
 
 -- room for the header alone
 five-at-header : benchAnswer (frameOf 0x02 nine) 3 ≡ refused 3 ReplyTooLong (left 0x09)
 five-at-header =
     let f = computed .wide in
-    write-five-at-header 8 16 (T 0x07) (holding []) cluster true (frameOf 0x02 nine) (header 0x02) (f .asks) (f .readable) 64 (number (f .answer), ap (λ (o : Outcome State). o .size) (f .answer))
+    write-five-at-header 8 capacity (T 0x07) (holding []) cluster true (frameOf 0x02 nine) (header 0x02) (f .asks) (f .readable) 64 (number (f .answer), ap (λ (o : Outcome State). o .size) (f .answer))
     ∙ ap (λ (o : Outcome State). refused 3 ReplyTooLong (o .state)) (f .answer)
 
 four-at-header : benchAnswer (frameOf 0x02 (nine ++ short)) 3 ≡ refused 3 RecordCut (left 0x09)
 four-at-header =
     let f = computed .wide in
-    write-cut-is-four-at-header 8 16 (T 0x07) (holding []) cluster true (frameOf 0x02 nine) (header 0x02) (f .asks) (f .readable) short 64 (computed .cut-off)
+    write-cut-is-four-at-header 8 capacity (T 0x07) (holding []) cluster true (frameOf 0x02 nine) (header 0x02) (f .asks) (f .readable) short 64 (computed .cut-off)
     (number (f .answer), ap (λ (o : Outcome State). o .size) (f .answer))
     ∙ ap (λ (o : Outcome State). refused 3 RecordCut (o .state)) (f .answer)
 
@@ -170,28 +170,28 @@ four-at-header =
 untouched : benchAnswer (frameOf 0x03 (nine ++ short)) 64 .state ≡ left 0x07
 untouched =
     let f = computed .together in
-    undivided-cut-untouched 8 16 (T 0x07) (holding []) cluster true (frameOf 0x03 nine) (header 0x03) (f .asks) (f .readable) short 64 (computed .cut-off)
+    undivided-cut-untouched 8 capacity (T 0x07) (holding []) cluster true (frameOf 0x03 nine) (header 0x03) (f .asks) (f .readable) short 64 (computed .cut-off)
 
 undivided-four : benchAnswer (frameOf 0x03 (nine ++ short)) 64 ≡ refused 64 RecordCut (left 0x07)
 undivided-four =
     let f = computed .together in
-    undivided-cut-is-four 8 16 (T 0x07) (holding []) cluster true (frameOf 0x03 nine) (header 0x03) (f .asks) (f .readable) short 64 (computed .cut-off) (number (f .answer))
+    undivided-cut-is-four 8 capacity (T 0x07) (holding []) cluster true (frameOf 0x03 nine) (header 0x03) (f .asks) (f .readable) short 64 (computed .cut-off) (number (f .answer))
 
 -- a failure that does not fit is 5, whatever is behind it, and attribute 1 is 7 as it was
 undivided-five : benchAnswer (frameOf 0x03 (nine ++ wordy ++ short)) 5 ≡ refused 5 ReplyTooLong (left 0x07)
 undivided-five =
     let f = computed .tied in
-    undivided-five-stays 8 16 (T 0x07) (holding []) cluster true (frameOf 0x03 (nine ++ wordy)) (header 0x03) (f .asks) (f .readable) short 5 (omega arith) (number (f .answer)) .1
+    undivided-five-stays 8 capacity (T 0x07) (holding []) cluster true (frameOf 0x03 (nine ++ wordy)) (header 0x03) (f .asks) (f .readable) short 5 (omega arith) (number (f .answer)) .1
 
 -- room for the header alone: bench frame 8, and with a record behind it that cannot be read
 undivided-at-header : benchAnswer (frameOf 0x03 nine) 3 ≡ refused 3 ReplyTooLong (left 0x09)
 undivided-at-header =
     let f = computed .together in
-    undivided-five-at-header 8 16 (T 0x07) (holding []) cluster true (frameOf 0x03 nine) (header 0x03) (f .asks) (f .readable) 64 (number (f .answer), ap (λ (o : Outcome State). o .size) (f .answer))
+    undivided-five-at-header 8 capacity (T 0x07) (holding []) cluster true (frameOf 0x03 nine) (header 0x03) (f .asks) (f .readable) 64 (number (f .answer), ap (λ (o : Outcome State). o .size) (f .answer))
     ∙ ap (λ (o : Outcome State). refused 3 ReplyTooLong (o .state)) (f .answer)
 
 undivided-four-at-header : benchAnswer (frameOf 0x03 (nine ++ short)) 3 ≡ refused 3 RecordCut (left 0x07)
 undivided-four-at-header =
     let f = computed .together in
-    undivided-cut-is-four-at-header 8 16 (T 0x07) (holding []) cluster true (frameOf 0x03 nine) (header 0x03) (f .asks) (f .readable) short 64 (computed .cut-off)
+    undivided-cut-is-four-at-header 8 capacity (T 0x07) (holding []) cluster true (frameOf 0x03 nine) (header 0x03) (f .asks) (f .readable) short 64 (computed .cut-off)
     (number (f .answer), ap (λ (o : Outcome State). o .size) (f .answer))

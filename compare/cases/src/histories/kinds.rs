@@ -1,6 +1,6 @@
 //! Calls by kind and answer, and how often each came.
 
-use reading::table::{Broken, Entry, Reason, SIGNED, ask, moved, place};
+use reading::table::{Broken, ENTRIES, Entry, FORMER_ENTRIES, Reason, SIGNED, ask, moved, place};
 
 use super::call::{Answer, Call};
 use super::middle::deciding;
@@ -9,7 +9,7 @@ use super::middle::deciding;
 pub const CALLS: [&str; 5] = ["configure", "clear", "configuration", "mark", "ask"];
 
 /// All that is done to a table's bytes.
-pub const ALL: [&str; 9] = [
+pub const ALL: [&str; 11] = [
     "configure",
     "clear",
     "configuration",
@@ -18,11 +18,13 @@ pub const ALL: [&str; 9] = [
     "refused",
     "signed",
     "unsigned",
+    "entries",
+    "former",
     "damaged",
 ];
 
 /// All kinds; a run that does not reach each of them has failed.
-const KINDS: [&str; 46] = [
+const KINDS: [&str; 57] = [
     "configure accepted, new key",
     "configure accepted, key again",
     "configure not accepted",
@@ -62,6 +64,17 @@ const KINDS: [&str; 46] = [
     "unsigned: ask across the middle, and the Rust says the same",
     "unsigned: ask across the middle, where the Rust says no: a listed difference",
     "unsigned: ask across the middle, where the Rust says yes: a listed difference",
+    "entries: fewer than 16",
+    "entries: 16",
+    "entries: 17",
+    "entries: from 18 to 126",
+    "entries: 127",
+    "entries: 128",
+    "former: a call that the Rust's table of 16 answers alike",
+    "former: the same, with 16 entries",
+    "former: a 17th key, which that table does not accept, and the history leaves it",
+    "former: a history that never has more than 16 entries",
+    "former: a history that passes 16",
     "damaged: length",
     "damaged: count",
     "damaged: slot past the count",
@@ -212,6 +225,38 @@ pub fn of_marked(
         }
         _ => "unsigned: ask across the middle, and the Rust says the same",
     })
+}
+
+/// The kind of a table that a call leaves.
+pub fn of_left(entries: &[Entry]) -> &'static str {
+    const LAST: usize = ENTRIES - 1;
+    match entries.len() {
+        ..FORMER_ENTRIES => "entries: fewer than 16",
+        FORMER_ENTRIES => "entries: 16",
+        17 => "entries: 17",
+        ..LAST => "entries: from 18 to 126",
+        LAST => "entries: 127",
+        _ => "entries: 128",
+    }
+}
+
+/// The kind of a call that a table with the limit of before is given too, by what
+/// it leaves under the new one.
+pub fn of_former(entries: &[Entry]) -> &'static str {
+    match entries.len() {
+        ..FORMER_ENTRIES => "former: a call that the Rust's table of 16 answers alike",
+        FORMER_ENTRIES => "former: the same, with 16 entries",
+        _ => "former: a 17th key, which that table does not accept, and the history leaves it",
+    }
+}
+
+/// The kind of a history, by whether its entries have passed the limit of before.
+pub fn of_history(passed: bool) -> &'static str {
+    if passed {
+        "former: a history that passes 16"
+    } else {
+        "former: a history that never has more than 16 entries"
+    }
 }
 
 /// The kind of a damaged table.

@@ -57,8 +57,9 @@ fn changed(call: &Call<'_>) -> Option<Detail> {
 /// The mark of each entry that is not as it was.
 fn marked(call: &Call<'_>) -> Vec<Detail> {
     let mut details = Vec::new();
-    for entry in call.table_after {
-        if call.table.contains(entry) {
+    for (at, entry) in call.table_after.iter().enumerate() {
+        // most stand where they stood
+        if call.table.get(at) == Some(entry) || call.table.contains(entry) {
             continue;
         }
         let mark = entry.config.mark;

@@ -1,11 +1,15 @@
 //! Histories made by hand, each around one sentence of document 01.
 
 use cases::histories::Call::{Ask, Clear, Configuration, Configure, Mark};
-use reading::table::{Config, Key, SIGNED};
+use reading::table::{Config, ENTRIES, FORMER_ENTRIES, Key, SIGNED};
 
 use super::Step::{self, Call, Len};
 
 const A: Key = key(0xfc21, 5);
+/// As many as there is room for, and as there was before document 02's request 7.
+const ALL: u16 = ENTRIES as u16;
+const FORMER: u16 = FORMER_ENTRIES as u16;
+
 /// A with cluster and attribute exchanged.
 const EXCHANGED: Key = key(5, 0xfc21);
 
@@ -65,43 +69,45 @@ fn kept_apart() -> Vec<Vec<Step>> {
     histories
 }
 
-/// Sixteen entries: the next is refused, a known one is not; after a clear
-/// there is room for one.
+/// A full table: the next is refused, a known one is not; after a clear there is
+/// room for one. Sixteen entries are no full table any more.
 fn full() -> Vec<Vec<Step>> {
     let again = configure(key(6, 9), 9, 9, 9);
     let more = configure(A, 1, 2, 3);
-    vec![
-        [row(16), vec![Len, more, Len, again, Call(Configuration(A))]].concat(),
-        [
-            row(16),
-            vec![more, Call(Clear(key(6, 0))), Len, more, again, more, Len],
-        ]
-        .concat(),
-        [
-            row(16),
-            looks(&[key(6, 15), key(6, 16)]),
-            vec![configure(key(6, 16), 0, 0, 0)],
-        ]
-        .concat(),
-        row(15),
-        row(17),
-        row(40),
-    ]
+    let mut histories = Vec::new();
+    for many in [FORMER, ALL] {
+        histories.push(
+            [
+                row(many),
+                vec![Len, more, Len, again, Call(Configuration(A))],
+            ]
+            .concat(),
+        );
+        let clear = Call(Clear(key(6, 0)));
+        histories.push([row(many), vec![more, clear, Len, more, again, more, Len]].concat());
+        let [last, next] = [many - 1, many].map(|place| key(6, place));
+        let end = vec![configure(next, 0, 0, 0)];
+        histories.push([row(many), looks(&[last, next]), end].concat());
+    }
+    let rows = [FORMER - 1, FORMER + 1, 40, ALL + 1];
+    histories.extend(rows.map(row));
+    histories
 }
 
 /// The first, a middle, the last and a missing entry taken out of tables of
 /// several lengths; and all of them, from either end.
 fn cleared() -> Vec<Vec<Step>> {
-    let mut histories = Vec::new();
-    for many in [1, 2, 3, 16] {
+    let taken_out = |many: u16, place: u16| {
+        let mark = Call(Mark(key(6, many - 1), 77, -5));
+        let keys = [key(6, place), key(6, many - 1), key(6, 0)];
+        let clear = Call(Clear(key(6, place)));
+        [row(many), vec![mark, clear], looks(&keys), vec![clear, Len]].concat()
+    };
+    let mut histories = vec![taken_out(ALL, ALL / 2), taken_out(ALL, ALL - 1)];
+    for many in [1, 2, 3, FORMER] {
         let mut places = vec![0, many / 2, many - 1, many, 0xffff];
         places.dedup();
-        for place in places {
-            let mark = Call(Mark(key(6, many - 1), 77, -5));
-            let keys = [key(6, place), key(6, many - 1), key(6, 0)];
-            let clear = Call(Clear(key(6, place)));
-            histories.push([row(many), vec![mark, clear], looks(&keys), vec![clear, Len]].concat());
-        }
+        histories.extend(places.into_iter().map(|place| taken_out(many, place)));
     }
     let clears = |places: Vec<u16>| {
         let clear = |place: u16| Call(Clear(key(6, place)));

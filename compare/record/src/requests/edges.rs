@@ -3,7 +3,7 @@
 
 use cases::Case;
 use cases::stores::bench;
-use reading::table::{Config, Entry, Key, SIGNED, UNSIGNED};
+use reading::table::{Config, ENTRIES, Entry, FORMER_ENTRIES, Key, SIGNED, UNSIGNED};
 
 use super::{CONFIGURE, READ, RECEIVED, over};
 
@@ -13,6 +13,11 @@ pub fn all() -> Vec<Case> {
     let mut cases = Vec::new();
     for table in tables() {
         for (command, body) in bodies() {
+            cases.push(asked(&table, command, &body, 64));
+        }
+    }
+    for table in full() {
+        for (command, body) in few_bodies() {
             cases.push(asked(&table, command, &body, 64));
         }
     }
@@ -58,10 +63,39 @@ fn asked(table: &[Entry], command: u8, body: &[u8], room: usize) -> Case {
     over(&bench(), table, &frame, room)
 }
 
+/// Attributes that T does not have.
+fn others(many: usize) -> Vec<u16> {
+    (100..).take(many).collect()
+}
+
+/// Full: an own key among the others, and last; and none.
+fn full() -> [Vec<Entry>; 3] {
+    let others = of(&others(ENTRIES));
+    let [mut own, mut last] = [others.clone(), others.clone()];
+    own[7] = entry(5, Some((0, 0)));
+    last[ENTRIES - 1] = entry(5, None);
+    [own, last, others]
+}
+
+/// What is said of a full table, in few lines since they are long.
+fn few_bodies() -> [(u8, Vec<u8>); 4] {
+    let one = record(5, 10, 60);
+    let other = record(0, 1, 2);
+    let room_first = [&record(5, 1, 0xffff)[..], &other].concat();
+    let reads = vec![0, 5, 0, 0, 0, 0, 0, 100, 0];
+    [
+        (CONFIGURE, one.clone()),
+        (CONFIGURE, [other, one].concat()),
+        (CONFIGURE, room_first),
+        (READ, reads),
+    ]
+}
+
 /// Empty; one entry, reported, and not and with another mark than its type's;
-/// half full; full, with an own key among the others and with none; a key twice.
+/// some; as many as there was room for before document 02's request 7, with an own
+/// key among the others and with none; a key twice.
 fn tables() -> Vec<Vec<Entry>> {
-    let others: Vec<u16> = (100..116).collect();
+    let others = others(FORMER_ENTRIES);
     let mut own = of(&others);
     own[7] = entry(5, Some((0, 0)));
     let mut quiet = vec![entry(5, None)];

@@ -32,7 +32,7 @@ fn made(word: &str) -> (Vec<Said>, Vec<u8>, Old) {
 #[test]
 fn every_word_is_of_one_row() {
     let words: HashSet<String> = rows().iter().map(Row::word).collect();
-    assert_eq!((words.len(), rows().len()), (18, 18));
+    assert_eq!((words.len(), rows().len()), (22, 22));
     assert!(named("64/read").is_none());
 }
 
@@ -75,6 +75,25 @@ fn what_is_written_is_stored() {
     }
 }
 
+/// All ten are answered from a full table, which stays as it is.
+#[test]
+fn over_a_full_table() {
+    let row = named("full/configure-10").expect("it is a row");
+    assert_eq!(row.table.len(), ENTRIES);
+    let (_, frame, old) = made("full/configure-10");
+    assert_eq!(configure_reply(&frame), Ok(Vec::new()), "no failures");
+    assert_eq!(old.table(), Ok(unmarked(&row.table)));
+    let (_, frame, _) = made("full/read-configuration-10");
+    let records = configuration_reply(&frame).expect("it is a reply");
+    assert_eq!(records.len(), 10);
+    assert!(records.iter().all(|record| record.status == 0));
+    // among the first ten, the last ten, and between
+    let own = |entry: &Entry| entry.key.attribute < 0x4000;
+    let places: Vec<usize> = (0..ENTRIES).filter(|&at| own(&row.table[at])).collect();
+    assert_eq!(places.len(), 10);
+    assert!(places[0] < 10 && places[9] >= ENTRIES - 10);
+}
+
 #[test]
 fn configured_as_asked() {
     for over in ["4", "64"] {
@@ -92,5 +111,10 @@ fn refused_and_asked() {
     let due = [1, 3, 5, 6, 7, 8, 9, 10, 11, 12, 13, 14, 15];
     let expected: Vec<Said> = (0..16).map(|at| Said::Due(due.contains(&at))).collect();
     assert_eq!(made("table/ask").0, expected);
-    assert_eq!(made("table/mark").0, [Said::Done; 16]);
+    assert_eq!(made("table/mark").0, [Said::Done; FORMER_ENTRIES]);
+    assert_eq!(
+        made("full/ask").0,
+        expected.repeat(ENTRIES / FORMER_ENTRIES)
+    );
+    assert_eq!(made("full/mark").0, [Said::Done; ENTRIES]);
 }

@@ -81,7 +81,7 @@ fn every_bad_line_is_named() {
         ("request 0g", "`g`"),
         ("request +1", "`+`"),
         ("request 00 2a 0", "5 hex digits"),
-        ("table 00", "481 bytes, these are 1"),
+        ("table 00", "3841 bytes, these are 1"),
         ("table", "missing"),
         ("cluster fc", "four hex digits"),
         ("cluster 21fc00", "four hex digits"),

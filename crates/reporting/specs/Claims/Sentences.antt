@@ -1,6 +1,6 @@
 -- Claims. Document 01's sentences about the reporting table ("The reporting table is a value of sixteen entries and a count .."), in its order, as
 -- claims of the operations as they are defined (Table.antt), which the functions are proved equal to. `limit` is how many entries a table may have,
--- 16 in the table's functions. Proved in proofs/Sentences.antt, and those of histories in proofs/Histories.antt.
+-- in the table's functions `capacity`: document 01's sixteen, 128 since document 02's request 7. Proved in proofs/Sentences.antt, and those of histories in proofs/Histories.antt.
 use mathlib.Core.Path.{_≡_}
 use mathlib.Core.Logic.{_↔_}
 use mathlib.Core.Bool.{true, false}
@@ -27,7 +27,7 @@ use Rattle.reporting.specs.Demand3.{Moved}
 abbrev pub NeverMoreThanLimit : Type 0
 NeverMoreThanLimit = (limit : ℕ) (cs : List Call) (l : List Entry) → length l ≤ limit → length (calls limit cs l) ≤ limit
 
--- Two values of sixteen slots that are alike as tables have one count, also where that is above the room.
+-- Two values with a table's slots that are alike as tables have one count, also where that is above the room.
 abbrev pub AlikeCount : Type 0
 AlikeCount = (t u : ReportingTable) → length (t .entries) ≡ capacity → length (u .entries) ≡ capacity → Alike t u → t .count ≡ u .count
 

@@ -11,7 +11,7 @@ use Rattle.store.specs.Value.{numberOf}
 use Rattle.reporting.specs.declared.entry.Key.{Key}
 use Rattle.reporting.specs.declared.entry.ReportingConfig.{ReportingConfig}
 use Rattle.reporting.specs.declared.entry.Entry.{Entry}
-use Rattle.reporting.specs.Table.{Table, holding, markT, askT}
+use Rattle.reporting.specs.Table.{capacity, Table, holding, markT, askT}
 use Rattle.server.specs.Serve.{State, state, serve}
 
 -- ---- store T
@@ -52,7 +52,7 @@ abbrev pub cluster : ℕ
 cluster = 0xfc21
 
 abbrev pub benchAnswer : List ℕ → ℕ → Outcome State
-benchAnswer frame room = serve 8 16 (T 0x07) (holding []) cluster true frame room
+benchAnswer frame room = serve 8 capacity (T 0x07) (holding []) cluster true frame room
 
 abbrev pub key : Key
 key = record { cluster = record { 0 = cluster }; attribute = record { 0 = 5 } }

@@ -6,7 +6,7 @@ use mathlib.Core.Option.{some}
 use Prim.Native.Nat.{ℕ}
 use Rattle.frame.specs.declared.answer.Refusal.the-variants.{NothingToSend}
 use Rattle.frame.specs.Answer.{refused}
-use Rattle.reporting.specs.Table.{holding}
+use Rattle.reporting.specs.Table.{capacity, holding}
 use Rattle.server.specs.Serve.{state}
 use Rattle.server.specs.Report.{reportOf}
 use Rattle.server.specs.Claims.Bench.{T, cluster, benchAnswer}
@@ -14,7 +14,7 @@ use Rattle.server.specs.Claims.Chain.{Box, serving, responding, sent, ch
 
 -- a server of T, and a responder that is asked for cluster 0006, both unicast and with room 64
 abbrev pub box : Box
-box = serving 8 16 (T 0x07) (holding []) cluster true 64
+box = serving 8 capacity (T 0x07) (holding []) cluster true 64
 
 abbrev pub responder : Box
 responder = responding (cluster ∷ []) 0x0006 true 64

@@ -7,7 +7,7 @@ use Rattle.frame.specs.declared.header.ZclHeader.{ZclHeader}
 use Rattle.frame.specs.declared.command_identifier.CommandIdentifier.the-variants.{ConfigureReporting}
 use Rattle.frame.specs.Answer.{Outcome}
 use Rattle.reporting.specs.declared.entry.Entry.{Entry}
-use Rattle.reporting.specs.Table.{holding}
+use Rattle.reporting.specs.Table.{capacity, holding}
 use Rattle.reporting.specs.Claims.Limits.{Said, says}
 use Rattle.configure.specs.Claims.Limits.{FrameWithin}
 use Rattle.server.specs.Serve.{State, serve}
@@ -56,3 +56,7 @@ UsesLimitsAgree =
     → small ≤ large
     → UsesWithin small large us l
     → (allGiven small us l ≡ allGiven large us l) × (uses small us l ≡ uses large us l)
+
+-- from an empty table whose entries never pass sixteen at once, requests and direct calls give what they gave under document 01's limit
+abbrev pub UsesSixteenAsBefore : Type 0
+UsesSixteenAsBefore = (us : List Use) → UsesWithin 16 capacity us [] → (allGiven 16 us [] ≡ allGiven capacity us []) × (uses 16 us [] ≡ uses capacity us [])

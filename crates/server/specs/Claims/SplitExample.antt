@@ -4,7 +4,7 @@ use mathlib.Core.Bool.{true}
 use mathlib.Core.List.{List, [], _∷_, _++_}
 use Prim.Native.Nat.{ℕ}
 use Rattle.frame.specs.declared.header.ZclHeader.{ZclHeader}
-use Rattle.reporting.specs.Table.{holding}
+use Rattle.reporting.specs.Table.{capacity, holding}
 use Rattle.server.specs.Serve.{State, state}
 use Rattle.server.specs.Claims.Bench.{T, cluster}
 use Rattle.server.specs.Claims.Split.{Call, after}
@@ -28,7 +28,7 @@ begun = state (T 0x07) (holding [])
 
 -- what a call leaves of the box
 abbrev pub leaving : State → Call → State
-leaving x k = after 8 16 cluster x k
+leaving x k = after 8 capacity cluster x k
 
 -- A and then B, or both as one list, by one command with one room
 abbrev pub Unlike : Call → Call → Call → Type 0

@@ -1,11 +1,8 @@
--- A slot's form by its mark and its flag, and under flag 0 by the bytes behind it. Assumes nothing.
+-- A slot's form by its mark and its flag, and under flag 0 by the two numbers behind it. Assumes nothing.
 use borrow.Author.Needs.{needs}
-use native.Mathlib.Omega.{arith}
-use mathlib.Core.Path.{refl, _∙_}
-use Prim.Native.Nat.{_+_, _-_}
+use mathlib.Core.Path.{refl}
 use denote.Ref.{now}
-use Rattle.reporting.specs.Carried.{slotBytes}
-use Rattle.reporting.proofs.CarriageCode.{form-marks, form-past, form-marked, form-none}
+use Rattle.reporting.proofs.CarriageCode.{form-marks, form-past, form-marked, form-timed, form-untimed}
 use Rattle.reporting.proofs.carried.slot_in_form.Statement.{statement}
 use Rattle.reporting.proofs.carried.slot_in_form.Tie as tie
 
@@ -30,27 +27,27 @@ returns-2 c = form-past (now (c .before .before .before .before .before .args .b
 returns-3 : tie.Need-returns-3
 returns-3 c = form-marked (now (c .before .before .before .before .before .before .args .bytes)) (c .before .before .before .before .before .before .args .at) _ refl (c .before .before .before .if1 .left) _ refl (c .if3 .taken)
 
-add-all-zero : tie.Need-add-all-zero
-add-all-zero c = search needs
+add-u32-in : tie.Need-add-u32-in
+add-u32-in c = search needs
 
-add-all-zero-2 : tie.Need-add-all-zero-2
-add-all-zero-2 c = search needs
+u32-in-requires : tie.Need-u32-in-requires
+u32-in-requires c κs = search needs
 
-sub-all-zero : tie.Need-sub-all-zero
-sub-all-zero c = search needs
+add-u64-in : tie.Need-add-u64-in
+add-u64-in c = search needs
 
-part-all-zero-start : tie.Need-part-all-zero-start
-part-all-zero-start c = search needs
-
-part-all-zero-end : tie.Need-part-all-zero-end
-part-all-zero-end c = search needs
-
-all-zero-requires : tie.Need-all-zero-requires
-all-zero-requires c κs = search needs
+u64-in-requires : tie.Need-u64-in-requires
+u64-in-requires c κs = search needs
 
 returns-4 : tie.Need-returns-4
 returns-4 c =
-    c .all-zero .ensures ∙ form-none (now (c .before .before .before .before .before .before .before .before .args .bytes)) (c .before .before .before .before .before .before .before .before .args .at) _ refl (c .before .before .before .before .before .if1 .left) _ refl (c .before .before .before .before .before .before .before .before .args .at + slotBytes - (c .before .before .before .before .before .before .before .before .args .at + 18)) (omega arith) (c .before .before .before .if2 .left) (c .before .before .if3 .left)
+    let a = c .before .before .before .before .before .before .before .before .before .args in
+    form-untimed (now (a .bytes)) (a .at) _ refl (c .before .before .before .before .before .before .if1 .left) _ refl (c .before .before .before .before .if2 .left) (c .before .before .before .if3 .left) _ _ (c .before .before .u32-in .ensures) (c .before .u64-in .ensures) (c .if4 .taken)
+
+returns-5 : tie.Need-returns-5
+returns-5 c =
+    let a = c .before .before .before .before .before .before .before .before .before .args in
+    form-timed (now (a .bytes)) (a .at) _ refl (c .before .before .before .before .before .before .if1 .left) _ refl (c .before .before .before .before .if2 .left) (c .before .before .before .if3 .left) _ _ (c .before .before .u32-in .ensures) (c .before .u64-in .ensures) (c .if4 .left)
 
 pub slot-in-form-spec : {M : Type 1} → statement M
 slot-in-form-spec =
@@ -63,10 +60,9 @@ slot-in-form-spec =
     shared-slice-read-flag
     returns-2
     returns-3
-    add-all-zero
-    add-all-zero-2
-    sub-all-zero
-    part-all-zero-start
-    part-all-zero-end
-    all-zero-requires
-    returns-4)
+    add-u32-in
+    u32-in-requires
+    add-u64-in
+    u64-in-requires
+    returns-4
+    returns-5)
