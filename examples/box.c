@@ -9,8 +9,8 @@
  *   save            what is configured goes to flash: it is written as 'saved HEX'
  *   restore HEX     the power fails, and flash has these bytes when it comes back; a refusal is written as its number
  *   # ..            nothing, and so an empty line
- * After each of the first five, every report that is due is written as 'report HEX'. With --read each reply and report is read back as the
- * head-end does it, and the text stands behind it.
+ * After each of the first five, all that is due is written as one 'report HEX'. With --read each reply and report is read back as the head-end
+ * does it, and the text stands behind it.
  *
  * A line that is none of these is named on standard error, changes nothing, and makes the exit status 1.
  */
@@ -100,12 +100,11 @@ static const struct wire {
     { METER, METER_AT, 8, 0, UINT64_MAX },
 };
 
-/* What can be reported. Only what the head-end configured is: an ask for another attribute is a no. */
-static const uint16_t reportable[] = { COUNTER, LEVEL, TEMPERATURE, METER };
-
 static uint8_t table[HD_TABLE_BYTES];
 static uint32_t now;
 static uint8_t sequence;
+/* The last attribute that was reported: a turn starts above it, so that none waits for ever behind others. */
+static uint32_t last = HD_NO_ID;
 static int reads_back;
 
 /* Ends the program: a number that these buffers cannot get. */
@@ -144,26 +143,23 @@ static void serve(const uint8_t *request, size_t n)
         printf("%u\n", number);
 }
 
-/* Reports an attribute if that is due. It is marked with the value that was sent, so that the next ask measures from there. */
-static void report_if_due(uint16_t id)
+/*
+ * Reports all that is due of what the head-end configured, in one frame. The turn marks what it wrote, so that the next one measures from there. Any four
+ * of the box's values fit; where some did not, they would come first in the next turn.
+ */
+static void report_turn(void)
 {
-    uint8_t frame[FRAME_BYTES], due, number;
+    uint8_t frame[FRAME_BYTES], number;
     size_t used;
-    int64_t value;
 
-    if ((number = hd_number(store, sizeof store, id, &value)) != HD_OK)
-        stop("hd_number", number);
-    if ((number = hd_ask(table, sizeof table, CLUSTER, id, now, value, &due)) != HD_OK)
-        stop("hd_ask", number);
-    if (!due)
+    number = hd_report_turn(store, sizeof store, table, sizeof table, sequence, now, &last, frame, sizeof frame, &used);
+    if (number == HD_NOTHING_TO_SEND)
         return;
-    if ((number = hd_report(store, sizeof store, sequence, &id, 1, frame, sizeof frame, &used)) != HD_OK)
-        stop("hd_report", number);
+    if (number != HD_OK)
+        stop("hd_report_turn", number);
     sequence++;
     printf("report ");
     send_frame(frame, used);
-    if ((number = hd_mark(table, sizeof table, CLUSTER, id, now, value)) != HD_OK)
-        stop("hd_mark", number);
 }
 
 /* A decimal number with nothing behind it, as its 64 bits; `least` is not above 0. strtoull would pass over blanks and a sign in front. */
@@ -231,7 +227,7 @@ static void save(void)
 
 /*
  * 'restore HEX', from behind the blank. After a power cut RAM holds anything. So the table is overwritten first with what is no table, a count above
- * 128: whatever is reported then comes from the form alone. Values and clock stay as they are; a form has neither.
+ * 128: whatever is reported then comes from the form alone, and turns start anew. Values and clock stay as they are; a form has neither.
  */
 static int restore(const char *text, size_t digits)
 {
@@ -240,6 +236,7 @@ static int restore(const char *text, size_t digits)
     if (digits == 0 || !hex_read(text, digits, saved, sizeof saved))
         return 0;
     memset(table, 0xa5, sizeof table);
+    last = HD_NO_ID;
     number = hd_restore(table, sizeof table, saved, digits / 2);
     if (number != HD_OK)
         printf("%u\n", number);
@@ -250,7 +247,6 @@ static int restore(const char *text, size_t digits)
 static int happens(const char *line, size_t n)
 {
     uint8_t request[FRAME_BYTES];
-    size_t i;
 
     if (n == 0 || line[0] == '#')
         return 1;
@@ -272,8 +268,7 @@ static int happens(const char *line, size_t n)
     } else {
         return 0;
     }
-    for (i = 0; i < sizeof reportable / sizeof reportable[0]; i++)
-        report_if_due(reportable[i]);
+    report_turn();
     return 1;
 }
 

@@ -1,6 +1,7 @@
 /*
  * The table's edges, from C: bytes that are no table, a full table, the hole that a clear leaves, values as far apart as they can be, with a sign and
- * without, marks that are none, and the saved form in buffers of every length, cut or changed, and as it was before there were marks. A test: it prints each check that fails and how many there were, and ends non-zero when one failed.
+ * without, marks that are none, and the saved form in buffers of every length, cut or changed, and as it was before there were marks. Then report turns:
+ * in frames of every length, from every last attribute, and refused. A test: it prints each check that fails and how many there were, and ends non-zero when one failed.
  */
 #include <stdio.h>
 #include <string.h>
@@ -82,6 +83,55 @@ static void not_saved(const uint8_t *lent, size_t len, size_t room, uint8_t numb
     check(memcmp(before, lent, LENT) == 0, "save leaves the table", which);
 }
 
+/* A store for turns, of the cluster 0402: a Uint8 1, a string 2 in a room of 5, a Uint8 3 that is not reportable, and a Uint32 ffff. */
+static const uint8_t turn_store[] = {
+    0x02, 0x04, 4, 0,
+    0x01, 0x00, 0x20, 3, 36, 0, 1, 0,
+    0x02, 0x00, 0x42, 2, 37, 0, 5, 0,
+    0x03, 0x00, 0x20, 1, 42, 0, 1, 0,
+    0xff, 0xff, 0x23, 2, 43, 0, 4, 0,
+    7,
+    2, 'T', 'V', 0, 0,
+    3,
+    0x00, 0x00, 0x00, 0x80,
+};
+
+/* Its records, and how long each is; the number of each that a turn marks. */
+static const struct {
+    uint16_t id;
+    size_t len;
+    uint8_t bytes[8];
+    int64_t number;
+} turn_records[3] = {
+    { 1, 4, { 0x01, 0x00, 0x20, 7 }, 7 },
+    { 2, 6, { 0x02, 0x00, 0x42, 2, 'T', 'V' }, 0 },
+    { 0xffff, 7, { 0xff, 0xff, 0x23, 0x00, 0x00, 0x00, 0x80 }, 0x80000000 },
+};
+
+/* The time of these turns, their sequence number, and a buffer with more than all records, so that a write past it shows. */
+enum { TURN_NOW = 1000, TURN_SEQUENCE = 0x2a, TURN_LENT = 3 + 4 + 6 + 7 + 20 };
+
+/* A turn over these bytes that is refused by `number`: zeros in the whole buffer and the length, and all else is as it was. */
+static void not_turned(const uint8_t *store, size_t store_len, uint8_t *lent, size_t len, size_t room, uint8_t number, const char *which)
+{
+    static const uint32_t lasts[] = { 0, 1, 0xffff, HD_NO_ID, HD_NO_ID + 1, UINT32_MAX };
+    uint8_t before[LENT], frame[TURN_LENT];
+    size_t used;
+    unsigned i;
+
+    memcpy(before, lent, LENT);
+    for (i = 0; i < sizeof lasts / sizeof lasts[0]; i++) {
+        uint32_t last = lasts[i];
+
+        used = 7777;
+        memset(frame, 0xa5, sizeof frame);
+        check(hd_report_turn(store, store_len, lent, len, TURN_SEQUENCE, TURN_NOW, &last, frame, room, &used) == number, "a turn is refused", which);
+        check(used == 0 && last == lasts[i], "it gives back what was handed in", which);
+        check(zeros_then_before(frame, room, sizeof frame), "a refused turn leaves zeros, and only there", which);
+        check(memcmp(before, lent, LENT) == 0, "a refused turn leaves the table", which);
+    }
+}
+
 /* Every function says 8 to these bytes, writes zeros to its results, and leaves the bytes. */
 static void refused(uint8_t *lent, size_t len, const char *which)
 {
@@ -103,6 +153,8 @@ static void refused(uint8_t *lent, size_t len, const char *which)
     check(hd_mark(lent, len, 0x0402, 1, 1000, 0) == HD_NOT_A_TABLE, "mark gives 8", which);
     not_saved(lent, len, HD_SAVED_BYTES, HD_NOT_A_TABLE, which);
     not_saved(lent, len, 0, HD_NOT_A_TABLE, which);
+    not_turned(turn_store, sizeof turn_store, lent, len, TURN_LENT, HD_NOT_A_TABLE, which);
+    not_turned(turn_store, sizeof turn_store, lent, len, 0, HD_NOT_A_TABLE, which);
     check(memcmp(before, lent, LENT) == 0, "the bytes stay", which);
 }
 
@@ -563,6 +615,123 @@ static void restores(void)
     }
 }
 
+/* A table of five entries: the store's three, the one that is not reportable, and one that the store does not have. None has reported. */
+static void all_due(uint8_t lent[LENT])
+{
+    static const uint16_t ids[] = { 0xffff, 9, 2, 3, 1 };
+    uint8_t accepted;
+    unsigned i;
+
+    memset(lent, 0xa5, LENT);
+    fill(lent, 0);
+    for (i = 0; i < sizeof ids / sizeof ids[0]; i++)
+        check(hd_configure(lent, HD_TABLE_BYTES, 0x0402, ids[i], 0, 60, 1, HD_UNSIGNED, &accepted) == HD_OK && accepted == 1, "all due", "configured");
+}
+
+/* A turn writes these records, in this order, and marks them alone; it gives back the last, and zeros stand behind the frame. */
+static void turned(uint32_t from, size_t room, const unsigned *records, unsigned n, const char *which)
+{
+    uint8_t lent[LENT], marked[LENT], frame[TURN_LENT], expected[TURN_LENT] = { 0x18, TURN_SEQUENCE, HD_REPORT };
+    uint32_t last = from;
+    size_t used = 7777, end = 3;
+    unsigned i;
+
+    all_due(lent);
+    memcpy(marked, lent, sizeof lent);
+    for (i = 0; i < n; i++) {
+        const unsigned k = records[i];
+
+        memcpy(expected + end, turn_records[k].bytes, turn_records[k].len);
+        end += turn_records[k].len;
+        check(hd_mark(marked, HD_TABLE_BYTES, 0x0402, turn_records[k].id, TURN_NOW, turn_records[k].number) == HD_OK, "mark", which);
+    }
+    memset(frame, 0xa5, sizeof frame);
+    check(hd_report_turn(turn_store, sizeof turn_store, lent, HD_TABLE_BYTES, TURN_SEQUENCE, TURN_NOW, &last, frame, room, &used) == HD_OK, "turn", which);
+    check(used == end && memcmp(frame, expected, end) == 0, "the turn's frame", which);
+    check(zeros_then_before(frame + end, room - end, sizeof frame - end), "zeros behind the frame, and only there", which);
+    check(last == turn_records[records[n - 1]].id, "the last that was written is given back", which);
+    check(memcmp(marked, lent, sizeof lent) == 0, "what was written is marked, and nothing else", which);
+}
+
+/* Frames of every length: no header, no record, one, two, and all three. */
+static void turns_by_room(void)
+{
+    static const unsigned all[] = { 0, 1, 2 };
+    uint8_t lent[LENT];
+    size_t room;
+
+    all_due(lent);
+    for (room = 0; room < 3 + 4; room++)
+        not_turned(turn_store, sizeof turn_store, lent, HD_TABLE_BYTES, room, HD_TOO_LONG, "room for no record");
+    for (; room < 3 + 4 + 6; room++)
+        turned(HD_NO_ID, room, all, 1, "room for one record");
+    for (; room < 3 + 4 + 6 + 7; room++)
+        turned(HD_NO_ID, room, all, 2, "room for two records");
+    for (; room <= TURN_LENT; room++)
+        turned(HD_NO_ID, room, all, 3, "room for all records");
+}
+
+/* From above the last attribute and round; no attribute is every number above ffff, and the last one itself comes last. */
+static void turns_by_last(void)
+{
+    static const struct {
+        uint32_t last;
+        unsigned records[3];
+    } starts[] = {
+        { HD_NO_ID, { 0, 1, 2 } }, { HD_NO_ID + 1, { 0, 1, 2 } }, { UINT32_MAX, { 0, 1, 2 } }, { 0xffff, { 0, 1, 2 } },  { 0, { 0, 1, 2 } },
+        { 1, { 1, 2, 0 } },        { 2, { 2, 0, 1 } },            { 3, { 2, 0, 1 } },          { 0xfffe, { 2, 0, 1 } },
+    };
+    unsigned i, n;
+
+    for (i = 0; i < sizeof starts / sizeof starts[0]; i++)
+        turned(starts[i].last, TURN_LENT, starts[i].records, 3, "from every last attribute");
+    for (n = 1; n < 3; n++)
+        turned(1, n == 1 ? 3 + 6 : 3 + 6 + 7, starts[5].records, n, "from 1, not all fit");
+    /* the string does not fit, and what comes behind it is not tried */
+    turned(3, 3 + 7 + 4 + 5, starts[7].records, 2, "the first that does not fit ends it");
+}
+
+/* 7 before 8, 8 before 5 for the header, that before 6, 6 before 5 for the first record. */
+static void turns_refused(void)
+{
+    uint8_t lent[LENT], other[sizeof turn_store];
+    uint32_t last = HD_NO_ID;
+    uint8_t frame[TURN_LENT];
+    size_t used;
+
+    all_due(lent);
+    memcpy(other, turn_store, sizeof other);
+    not_turned(turn_store, sizeof turn_store - 1, lent, HD_TABLE_BYTES, TURN_LENT, HD_NOT_A_STORE, "a store that is cut");
+    not_turned(turn_store, sizeof turn_store - 1, lent, HD_TABLE_BYTES - 1, 0, HD_NOT_A_STORE, "7 before 8");
+    not_turned(turn_store, sizeof turn_store, lent, HD_TABLE_BYTES - 1, 0, HD_NOT_A_TABLE, "8 before 5");
+    not_turned(turn_store, sizeof turn_store, lent, HD_TABLE_BYTES + 1, TURN_LENT, HD_NOT_A_TABLE, "a table that is too long");
+    check(hd_report_turn(turn_store, sizeof turn_store, lent, HD_TABLE_BYTES, 0, TURN_NOW, &last, frame, sizeof frame, &used) == HD_OK, "turn", "all");
+    not_turned(turn_store, sizeof turn_store, lent, HD_TABLE_BYTES, 2, HD_TOO_LONG, "5 for the header before 6");
+    not_turned(turn_store, sizeof turn_store, lent, HD_TABLE_BYTES, 3, HD_NOTHING_TO_SEND, "6 before 5 for the first record");
+    not_turned(turn_store, sizeof turn_store, lent, HD_TABLE_BYTES, TURN_LENT, HD_NOTHING_TO_SEND, "nothing is due");
+    other[38] = 'P'; /* another name: it has no number, so it has not moved */
+    not_turned(other, sizeof other, lent, HD_TABLE_BYTES, TURN_LENT, HD_NOTHING_TO_SEND, "another string is not due");
+    other[0] = 0x03; /* the store of another cluster */
+    not_turned(other, sizeof other, lent, HD_TABLE_BYTES, TURN_LENT, HD_NOTHING_TO_SEND, "no entry of the cluster");
+}
+
+/* Where a key stands twice, the first entry says what is due, and is marked. */
+static void turns_of_a_key_twice(void)
+{
+    uint8_t lent[LENT], frame[TURN_LENT];
+    uint32_t last = HD_NO_ID;
+    size_t used = 7777;
+
+    memset(lent, 0xa5, sizeof lent);
+    fill(lent, 2);
+    memcpy(slot(lent, 1), slot(lent, 0), 4);
+    memset(slot(lent, 0) + FLAG, 0, SLOT - FLAG);
+    check(hd_report_turn(turn_store, sizeof turn_store, lent, HD_TABLE_BYTES, 0, TURN_NOW, &last, frame, sizeof frame, &used) == HD_OK, "a key twice", "due");
+    check(used == 3 + 4 && last == 1, "a key twice", "written once");
+    check(slot(lent, 0)[FLAG] == 1 && slot(lent, 0)[VALUE] == 7 && slot(lent, 1)[VALUE] == 2, "a key twice", "the first is marked");
+    not_turned(turn_store, sizeof turn_store, lent, HD_TABLE_BYTES, TURN_LENT, HD_NOTHING_TO_SEND, "the second does not count");
+}
+
 int main(void)
 {
     no_tables();
@@ -575,6 +744,10 @@ int main(void)
     marks();
     saves();
     restores();
+    turns_by_room();
+    turns_by_last();
+    turns_refused();
+    turns_of_a_key_twice();
     printf("edges: %u checks, %u failed\n", checks, failures);
     return failures != 0;
 }

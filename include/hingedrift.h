@@ -10,7 +10,8 @@
  * Every function returns one of the numbers below. A refusal, any number but HD_OK, writes 0 through every pointer to a result and
  * zeros to the whole reply buffer. Store and table are then as they were, with three exceptions of hd_handle_request: after HD_RECORD_CUT
  * what the earlier records did stays done, after HD_TOO_LONG what the records up to there did, and after HD_NOTHING_TO_SEND all that the
- * command did; and one of hd_restore, which leaves an empty table after HD_NOT_A_SAVED_FORM.
+ * command did; and one of hd_restore, which leaves an empty table after HD_NOT_A_SAVED_FORM. What goes in and comes back through one pointer, the last id
+ * of hd_report_turn, is as it came.
  *
  * No pointer may be null, also not one that is lent with length 0; otherwise a length of 0 may come with any pointer, one past the end of an
  * array too, since nothing is read or written there. Between the buffers and results of one call no byte may be shared: lent buffers do not
@@ -67,6 +68,9 @@ extern "C" {
 #define HD_SIGNED 0
 /* all others by their 64 bits, without one. */
 #define HD_UNSIGNED 1
+
+/* No attribute, for hd_report_turn, and so is every number above it: an attribute's number is ffff at most. */
+#define HD_NO_ID 0x10000
 
 /* The commands of requests, and of replies and reports: the last byte of a frame's header. */
 #define HD_READ 0x00
@@ -168,6 +172,19 @@ uint8_t hd_unsupported_cluster(const uint16_t *served, size_t served_len, uint16
  * *frame_used.
  */
 uint8_t hd_report(const uint8_t *store, size_t store_len, uint8_t sequence, const uint16_t *ids, size_t ids_len, uint8_t *frame, size_t frame_len, size_t *frame_used);
+
+/*
+ * A report turn: one Report Attributes frame of all that is due. Writes it to the start of `frame`, zeros behind it, and its length to *frame_used, and
+ * keeps the time `now`, in seconds, and the value of each attribute in it, as hd_mark does. What is due is what hd_ask would say of the attribute and
+ * its value, where a value without a number counts as 0. The store's attributes come in ascending order, each once, from the first above *last on and
+ * going round, up to the first that does not fit. One that is configured and gone from the store, or not reportable, is passed over.
+ *
+ * *last goes in and comes back: HD_NO_ID at first, then what the turn before left there, the last attribute that it wrote. So none waits for ever where
+ * not all fit: as long as each of them fits alone, and none is configured or cleared between, an attribute that is due in as many turns in a row as the
+ * cluster has attributes configured is in one of their frames. HD_NOTHING_TO_SEND where nothing is due, HD_TOO_LONG where the first that is due does
+ * not fit, or no header. A turn that is refused marks nothing.
+ */
+uint8_t hd_report_turn(const uint8_t *store, size_t store_len, uint8_t *table, size_t table_len, uint8_t sequence, uint32_t now, uint32_t *last, uint8_t *frame, size_t frame_len, size_t *frame_used);
 
 /*
  * The readers: what a device sent back, the bytes of a ZCL frame. For a reply with records there is a check, which counts them, and a

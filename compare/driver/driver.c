@@ -12,7 +12,7 @@
  *
  * An answer: six numbers (what the function returned; 5 results), then each buffer as it is afterwards: how many bytes are told, and these between
  * two walls of 16 bytes. The wall behind has up to 7 more, so that all buffers start at multiples of 8, as lists of numbers must. Results and
- * walls were all a5.
+ * walls were all a5, but for the result that goes in, too: the last id of a report turn.
  */
 #include <stdio.h>
 #include <stdlib.h>
@@ -136,6 +136,9 @@ static uint8_t answer(uint64_t function, const uint64_t *a, uint8_t *const *b, c
         return hd_save(b[0], len[0], b[1], len[1], &r[0].used);
     case 13:
         return hd_restore(b[0], len[0], b[1], len[1]);
+    case 14:
+        r[1].last = (uint32_t)a[2];
+        return hd_report_turn(b[0], len[0], b[1], len[1], (uint8_t)a[0], (uint32_t)a[1], &r[1].last, b[2], len[2], &r[0].used);
     default:
         end("there is no such function");
         return 0;

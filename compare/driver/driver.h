@@ -11,6 +11,7 @@ enum { BEFORE = 0xa5 };
 union result {
     uint8_t byte;
     uint16_t word;
+    uint32_t last;
     uint64_t change;
     int64_t value;
     size_t used;

@@ -1,9 +1,9 @@
 /* Time and stack of a request with the table lent as bytes and by value: compare/speed/forms makes the three functions and runs this. */
 #include <stdint.h>
 #include <stdio.h>
-#include <time.h>
 
 #include "painted.h"
+#include "timed.h"
 
 uint8_t forms_lent(uint8_t *store, size_t store_len, uint8_t *table, size_t table_len, uint16_t cluster, const uint8_t *request, size_t request_len, uint8_t *reply, size_t reply_len);
 uint8_t forms_value(uint8_t *store, size_t store_len, uint8_t *table, size_t table_len, uint16_t cluster, const uint8_t *request, size_t request_len, uint8_t *reply, size_t reply_len);
@@ -28,6 +28,9 @@ static const struct row rows[] = {
     { "configure 1", 13, { 0x00, 1, 0x06, 0, 5, 0, 0x29, 10, 0, 60, 0, 50, 0 } },
     { "read configuration 1", 6, { 0x00, 1, 0x08, 0, 5, 0 } },
 };
+
+/* How often each is made in a row. */
+enum { CALLS = 20000 };
 
 enum form { LENT, VALUE, COPY };
 static const char *const names[] = { "lent", "by value", "bytes to value and back" };
@@ -54,26 +57,6 @@ static void nothing(void)
 {
 }
 
-static double nanoseconds(void)
-{
-    enum { CALLS = 20000, BLOCKS = 41 };
-    double best = 0;
-    struct timespec a, b;
-    int i, k;
-
-    for (k = 0; k < BLOCKS; k++) {
-        double t;
-        clock_gettime(CLOCK_MONOTONIC, &a);
-        for (i = 0; i < CALLS; i++)
-            call();
-        clock_gettime(CLOCK_MONOTONIC, &b);
-        t = ((b.tv_sec - a.tv_sec) * 1e9 + (b.tv_nsec - a.tv_nsec)) / CALLS;
-        if (k == 0 || t < best)
-            best = t;
-    }
-    return best;
-}
-
 int main(void)
 {
     size_t base = stack_of(nothing), i;
@@ -94,10 +77,10 @@ int main(void)
             size_t stack = stack_of(call) - base;
             if (said != 0)
                 return 1;
-            printf("%-22s %-24s %8.1f %8zu\n", row->name, names[form], nanoseconds(), stack);
+            printf("%-22s %-24s %8.1f %8zu\n", row->name, names[form], nanoseconds(call, CALLS), stack);
         }
     form = COPY;
     i = stack_of(call) - base;
-    printf("%-22s %-24s %8.1f %8zu\n", "", names[COPY], nanoseconds(), i);
+    printf("%-22s %-24s %8.1f %8zu\n", "", names[COPY], nanoseconds(call, CALLS), i);
     return 0;
 }

@@ -5,7 +5,8 @@
  *
  * Arguments and return address count; what else a call of an empty function takes is subtracted. Every function is called on every row: the server's
  * with its requests, the readers with what was asked and what was said, the table's with the attributes of its store and with its asks. A table is saved
- * and restored as it stands in a row, and first one of 16 entries and a full one.
+ * and restored as it stands in a row, and first one of 16 entries and a full one. A report turn is taken over a row's store and table as they stand, and
+ * with the store's attributes configured and all due.
  *
  * Prints a line a function: its name, bytes, and the row and frame. Exits with 1 where one was never called, never said HD_OK or took no stack.
  */
@@ -31,6 +32,7 @@ static size_t used, records, place, length;
 static uint16_t w1, w2, w3;
 static int64_t value;
 static uint64_t change;
+static uint32_t last;
 /* and what they return. */
 static volatile uint8_t said;
 
@@ -53,6 +55,7 @@ static volatile uint8_t said;
     F(hd_handle_request, STORE, row.table, sizeof row.table, call->cluster, 1, FRAME, REPLY) \
     F(hd_unsupported_cluster, &w1, 0, call->cluster, 1, FRAME, REPLY) \
     F(hd_report, STORE, call->sequence, call->ids, call->length, REPLY) \
+    F(hd_report_turn, STORE, table, sizeof table, call->sequence, call->now, &last, REPLY) \
     F(hd_read_check, FRAME, &records) \
     F(hd_read_record, FRAME, k, &b1, &w1, &b2, &b3, &place, &length, &b4, &value) \
     F(hd_write_check, FRAME, &records) \
@@ -234,7 +237,24 @@ static void keep(void)
     save_and_restore();
 }
 
-/* Each attribute of the row's store: its number, a report of it alone, and the table. */
+/* A report turn over the row's store and table, and over a table of the `n` attributes of the store, as many as it holds. */
+static void turn(size_t n)
+{
+    size_t i;
+
+    sprintf(what, "a turn over %u attributes", (unsigned)n);
+    last = HD_NO_ID;
+    memcpy(table, row.table, sizeof table);
+    measure(call_hd_report_turn);
+    hd_table_new(table, sizeof table);
+    for (i = 0; i < n; i++)
+        hd_configure(table, sizeof table, call->cluster, (uint16_t)(row.store[4 + 8 * i] + 256u * row.store[5 + 8 * i]), 10, 60, 50, HD_SIGNED, &b1);
+    measure(call_hd_report_turn);
+    if (said == HD_OK)
+        read_back(reply, used);
+}
+
+/* Each attribute of the row's store: its number, a report of it alone, and the table; then a report turn over all. */
 static void attributes(void)
 {
     static struct call made;
@@ -252,6 +272,7 @@ static void attributes(void)
         measure(call_hd_number);
         report();
     }
+    turn(i);
 }
 
 /* A row's line, or the line of a call. */

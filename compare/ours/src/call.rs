@@ -4,6 +4,7 @@ use std::fmt;
 use std::io::{self, Write};
 
 use cases::hex;
+use reading::commands::Turn;
 use reading::table::{Config, Key};
 
 use crate::held::lent_list;
@@ -117,6 +118,14 @@ impl Call {
 
     pub fn restore(table: &[u8], saved: &[u8]) -> Self {
         Self::new("restore", 13, &[], [open(table), closed(saved)], NONE)
+    }
+
+    /// The last id goes in as an argument, and comes back as the second result.
+    pub fn report_turn(turn: &Turn<'_>, table: &[u8]) -> Self {
+        let arguments = [turn.sequence.into(), turn.now.into(), turn.last.into()];
+        let lent = [closed(turn.store), open(table), reply(turn.room)];
+        let results = [8, 4, 0, 0, 0];
+        Self::new("report_turn", 14, &arguments, lent, results)
     }
 
     fn new<const N: usize>(

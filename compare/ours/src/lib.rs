@@ -10,12 +10,14 @@ mod call;
 mod driver;
 mod held;
 mod readers;
+mod waiting;
 
 pub use answer::Answer;
 pub use call::Call;
 pub use driver::Driver;
 pub use held::{Held, lent_list, replied, served};
 pub use readers::{Reader, Row, value_number, wrong_rows};
+pub use waiting::{Asked, Server, Waiting};
 
 /// What stands where a function is to write, and around what it is lent.
 const BEFORE: u8 = 0xa5;

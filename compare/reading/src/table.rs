@@ -57,6 +57,17 @@ pub enum Broken {
     Unreported,
 }
 
+impl Broken {
+    pub const ALL: [Self; 6] = [
+        Self::Length,
+        Self::Count,
+        Self::Unused,
+        Self::Mark,
+        Self::Flag,
+        Self::Unreported,
+    ];
+}
+
 /// The entries of a table's bytes, in their order.
 pub fn entries(bytes: &[u8]) -> Result<Vec<Entry>, Broken> {
     if bytes.len() != SIZE {

@@ -1,6 +1,6 @@
 //! The two calls, and what the reading of the documents answers to them.
 
-use ours::Answer;
+use ours::{Answer, Asked};
 #[cfg(test)]
 use reading::saved;
 
@@ -36,6 +36,23 @@ impl Call {
                 restores(number, &table, saved)
             }
         }
+    }
+}
+
+/// A call, and the answer that it is to have.
+#[derive(Debug)]
+pub struct Given {
+    pub call: Call,
+    pub answer: Answer,
+}
+
+impl Asked for Given {
+    fn on_ours(&self) -> ours::Call {
+        self.call.on_ours()
+    }
+
+    fn answer(&self) -> &Answer {
+        &self.answer
     }
 }
 

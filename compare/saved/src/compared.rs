@@ -1,29 +1,20 @@
 //! Calls that a server is given, and held to the reading's answers.
 
-use ours::Answer;
+use ours::{Server, Waiting};
 use reading::saved;
 
-use crate::call::{Call, restores, saves};
+use crate::call::{Call, Given, restores, saves};
 use crate::counted::Counted;
-use crate::server::Server;
-
-/// Ours is called over a pipe: so many calls are made at a time.
-const BATCH: usize = 10;
 
 pub struct Compared<'a, S> {
-    server: &'a mut S,
-    waiting: Vec<Call>,
-    /// What they are to say and leave.
-    expected: Vec<Answer>,
+    waiting: Waiting<'a, S, Given>,
     pub counted: Counted,
 }
 
-impl<'a, S: Server> Compared<'a, S> {
+impl<'a, S: Server<Given>> Compared<'a, S> {
     pub fn new(server: &'a mut S) -> Self {
         Self {
-            server,
-            waiting: Vec::new(),
-            expected: Vec::new(),
+            waiting: Waiting::new(server),
             counted: Counted::new(),
         }
     }
@@ -31,12 +22,13 @@ impl<'a, S: Server> Compared<'a, S> {
     /// Saves a table. Gives the form, where the reading writes one; the server
     /// has its turn later.
     pub fn save(&mut self, table: &[u8], room: usize) -> Result<Option<Vec<u8>>, String> {
-        let answer = saved::save(table, room);
-        self.counted.save(table, room, &answer);
-        let expected = saves(table, &answer, room);
+        let says = saved::save(table, room);
+        self.counted.save(table, room, &says);
+        let answer = saves(table, &says, room);
         let table = table.to_vec();
-        self.give(Call::Save { table, room }, expected)?;
-        Ok((answer.number == 0).then_some(answer.reply))
+        let call = Call::Save { table, room };
+        self.waiting.give(Given { call, answer })?;
+        Ok((says.number == 0).then_some(says.reply))
     }
 
     /// Restores a form over these bytes. Gives the number and the bytes that the
@@ -45,48 +37,16 @@ impl<'a, S: Server> Compared<'a, S> {
         let mut left = before.to_vec();
         let number = saved::restore(&mut left, form);
         self.counted.restore(before, form, number);
-        let expected = restores(number, &left, form);
+        let answer = restores(number, &left, form);
         let (table, saved) = (before.to_vec(), form.to_vec());
-        self.give(Call::Restore { table, saved }, expected)?;
+        let call = Call::Restore { table, saved };
+        self.waiting.give(Given { call, answer })?;
         Ok((number, left))
-    }
-
-    fn give(&mut self, call: Call, expected: Answer) -> Result<(), String> {
-        self.waiting.push(call);
-        self.expected.push(expected);
-        if self.waiting.len() >= BATCH {
-            self.compare()?;
-        }
-        Ok(())
-    }
-
-    /// Gives the server all calls that wait. An error at the first that it
-    /// answers otherwise.
-    fn compare(&mut self) -> Result<(), String> {
-        let calls = std::mem::take(&mut self.waiting);
-        let expected = std::mem::take(&mut self.expected);
-        let answers = self.server.serve(&calls)?;
-        for ((call, expected), answer) in calls.iter().zip(&expected).zip(answers) {
-            agree(call, expected, answer)?;
-        }
-        Ok(())
     }
 
     /// What was counted, once all are compared.
     pub fn end(mut self) -> Result<Counted, String> {
-        self.compare()?;
+        self.waiting.compare()?;
         Ok(self.counted)
     }
-}
-
-fn agree(call: &Call, expected: &Answer, answer: Result<Answer, String>) -> Result<(), String> {
-    let said = match answer {
-        Ok(answer) if answer == *expected => return Ok(()),
-        Ok(answer) => format!("ours:\n{answer}"),
-        Err(trouble) => trouble,
-    };
-    let call = call.on_ours();
-    Err(format!(
-        "a disagreement on\n{call}expected:\n{expected}{said}"
-    ))
 }

@@ -17,15 +17,6 @@ const UNWRITTEN: [Fault; 4] = [
 /// and besides with bytes that are not a saved form.
 const UNREAD: [Fault; 4] = [Fault::Length, Fault::Count, Fault::Offset, Fault::Mark];
 
-const NO_TABLES: [Broken; 6] = [
-    Broken::Length,
-    Broken::Count,
-    Broken::Unused,
-    Broken::Mark,
-    Broken::Flag,
-    Broken::Unreported,
-];
-
 const SAVED: [&str; 2] = [
     "save 0: a buffer of the form's length",
     "save 0: a longer buffer",
@@ -217,7 +208,7 @@ fn lines() -> Vec<String> {
     let lines: [Vec<String>; 13] = [
         owned(&SAVED),
         owned(&TOO_SHORT),
-        NO_TABLES.map(no_table).to_vec(),
+        Broken::ALL.map(no_table).to_vec(),
         owned(&[TABLE_FIRST]),
         UNWRITTEN.map(not_written).to_vec(),
         owned(&[FORM_FIRST]),

@@ -1,22 +1,22 @@
 //! Servers that are wrong, each in its way.
 
-use ours::Answer;
+use ours::{Answer, Server};
 use reading::saved::{Fault, length, read, read_within, save, write};
 use reading::table::{
     ENTRIES, Entry, FORMER_ENTRIES, SIGNED, SIZE, SLOT, UNSIGNED, entries, is_mark, place, to_bytes,
 };
 
-use crate::call::{Call, restores, saves};
+use crate::call::{Call, Given, restores, saves};
 use crate::counted::is_old;
 use crate::made::Form;
-use crate::server::Server;
 
 /// What it makes of a call.
 pub struct Fake(pub fn(&Call) -> Answer);
 
-impl Server for Fake {
-    fn serve(&mut self, calls: &[Call]) -> Result<Vec<Result<Answer, String>>, String> {
-        Ok(calls.iter().map(self.0).map(Ok).collect())
+impl Server<Given> for Fake {
+    fn serve(&mut self, calls: &[Given]) -> Result<Vec<Result<Answer, String>>, String> {
+        let answer = |given: &Given| Ok(self.0(&given.call));
+        Ok(calls.iter().map(answer).collect())
     }
 }
 

@@ -2,13 +2,14 @@
 //! byte, and any bytes that look like a form.
 
 use cases::Random;
+use ours::Server;
 use reading::saved::{length, old_length};
 use reading::table::{ENTRIES, Entry, FORMER_ENTRIES, SIZE, to_bytes};
 
+use crate::call::Given;
 use crate::compared::Compared;
 use crate::made::{self, Form, Intervals};
 use crate::round_trip::restore_and_save;
-use crate::server::Server;
 
 /// The entries of the forms of which every damage is tried,
 const EVERY: [usize; 4] = [0, 1, 2, FORMER_ENTRIES];
@@ -21,7 +22,7 @@ const ANY: usize = 150_000;
 /// Every damage is restored over a full table with last reports, so that what is
 /// left of it shows.
 pub fn compare_damaged(
-    compared: &mut Compared<'_, impl Server>,
+    compared: &mut Compared<'_, impl Server<Given>>,
     random: &mut Random,
 ) -> Result<(), String> {
     let before = full(random);
@@ -85,7 +86,7 @@ fn damaged(form: &[u8], others: Others) -> Vec<Vec<u8>> {
 
 /// Any bytes, over any bytes.
 pub fn compare_any(
-    compared: &mut Compared<'_, impl Server>,
+    compared: &mut Compared<'_, impl Server<Given>>,
     random: &mut Random,
 ) -> Result<(), String> {
     for _ in 0..ANY {

@@ -21,18 +21,17 @@ mod fakes;
 mod forms;
 mod made;
 mod round_trip;
-mod server;
 mod tables;
 
 use std::process::ExitCode;
 use std::time::Instant;
 
 use cases::Random;
-use ours::Driver;
+use ours::{Driver, Server};
 
+use call::Given;
 use compared::Compared;
 use counted::Counted;
-use server::{Ours, Server};
 
 fn main() -> ExitCode {
     match run() {
@@ -46,12 +45,12 @@ fn main() -> ExitCode {
 
 fn run() -> Result<(), String> {
     let start = Instant::now();
-    let mut ours = Ours(Driver::start()?);
+    let mut ours = Driver::start()?;
     let counted = all(&mut ours)?;
     let seconds = start.elapsed().as_secs_f64();
 
     print!("{}", counted.list());
-    println!("saved: {} calls agree, {seconds:.1} s", ours.0.made());
+    println!("saved: {} calls agree, {seconds:.1} s", ours.made());
     enough(&counted)
 }
 
@@ -66,7 +65,7 @@ fn enough(counted: &Counted) -> Result<(), String> {
 }
 
 /// Holds one side to the reading.
-fn all(server: &mut impl Server) -> Result<Counted, String> {
+fn all(server: &mut impl Server<Given>) -> Result<Counted, String> {
     let random = &mut Random::new(0x0073_6176_6564);
     let mut compared = Compared::new(server);
     tables::compare(&mut compared, random)?;
@@ -103,9 +102,9 @@ mod tests {
     #[test]
     fn a_write_outside_is_seen() {
         struct Outside;
-        impl Server for Outside {
-            fn serve(&mut self, calls: &[Call]) -> Result<Vec<Result<Answer, String>>, String> {
-                let outside = |_: &Call| Err("ours wrote outside".to_owned());
+        impl Server<Given> for Outside {
+            fn serve(&mut self, calls: &[Given]) -> Result<Vec<Result<Answer, String>>, String> {
+                let outside = |_: &Given| Err("ours wrote outside".to_owned());
                 Ok(calls.iter().map(outside).collect())
             }
         }

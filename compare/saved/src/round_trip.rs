@@ -2,18 +2,19 @@
 //! cut, then saved again.
 
 use cases::{Random, hex};
+use ours::Server;
 use reading::saved::length;
 use reading::table::{ENTRIES, Entry, SIGNED, SIZE, to_bytes};
 
+use crate::call::Given;
 use crate::compared::Compared;
 use crate::counted::{NEW_BYTES, READ_BACK, SAME_BYTES, is_old, reported};
 use crate::made::{self, Form, Intervals};
-use crate::server::Server;
 
 const TABLES: usize = 5000;
 
 pub fn compare(
-    compared: &mut Compared<'_, impl Server>,
+    compared: &mut Compared<'_, impl Server<Given>>,
     random: &mut Random,
 ) -> Result<(), String> {
     for _ in 0..TABLES {
@@ -25,7 +26,7 @@ pub fn compare(
 }
 
 fn there_and_back(
-    compared: &mut Compared<'_, impl Server>,
+    compared: &mut Compared<'_, impl Server<Given>>,
     random: &mut Random,
     entries: &[Entry],
 ) -> Result<(), String> {
@@ -52,7 +53,7 @@ fn there_and_back(
 
 /// The form that these entries had before there were marks is read as signed.
 fn as_before(
-    compared: &mut Compared<'_, impl Server>,
+    compared: &mut Compared<'_, impl Server<Given>>,
     random: &mut Random,
     entries: &[Entry],
 ) -> Result<(), String> {
@@ -93,7 +94,7 @@ fn other(random: &mut Random) -> Vec<u8> {
 /// the same bytes, or of a form without marks the one with marks of 0. Gives that
 /// table.
 pub fn restore_and_save(
-    compared: &mut Compared<'_, impl Server>,
+    compared: &mut Compared<'_, impl Server<Given>>,
     before: &[u8],
     form: &[u8],
 ) -> Result<Option<Vec<u8>>, String> {

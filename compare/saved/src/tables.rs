@@ -2,17 +2,18 @@
 //! and damaged.
 
 use cases::Random;
+use ours::Server;
 use reading::saved::length;
 use reading::table::{ENTRIES, SIZE, SLOT, to_bytes};
 
+use crate::call::Given;
 use crate::compared::Compared;
 use crate::made::{self, Intervals};
-use crate::server::Server;
 
 const TABLES: usize = 5000;
 
 pub fn compare(
-    compared: &mut Compared<'_, impl Server>,
+    compared: &mut Compared<'_, impl Server<Given>>,
     random: &mut Random,
 ) -> Result<(), String> {
     for _ in 0..TABLES {
@@ -30,7 +31,7 @@ pub fn compare(
 /// Into buffers about as long as the form of the entries that there seem to be,
 /// and far shorter and longer.
 fn into_buffers(
-    compared: &mut Compared<'_, impl Server>,
+    compared: &mut Compared<'_, impl Server<Given>>,
     random: &mut Random,
     table: &[u8],
 ) -> Result<(), String> {

@@ -1,6 +1,9 @@
 //! What needs the archive: calls of one side, and the timing of both.
 
-use speed::{Facts, Measured, Old, ROOM, Row, Side, Which, agree, named, page, rows, table, timed};
+use speed::{
+    Facts, Measured, Old, ROOM, Row, Side, Which, agree, named, page, rows, table, timed,
+    turn_lines,
+};
 
 use crate::new::New;
 use crate::run::{Trouble, built, read, remove, write};
@@ -31,7 +34,7 @@ pub fn timing(to: &str, pairs: usize, facts: Option<&str>) -> Result<(), Trouble
         let timed = timed(&row, &mut old, &mut new, pairs);
         measured.push(Measured::of(&row, Some(&timed), facts.counts(&row.word())));
     }
-    print!("{}", table(&measured));
+    print!("{}{}", table(&measured), turn_lines(&facts.turns));
     let built = built(Some(pairs)).map_err(Trouble::NotRun)?;
     write(to, &page(&measured, &facts, &built)).map_err(Trouble::NotRun)
 }

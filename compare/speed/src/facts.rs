@@ -12,6 +12,8 @@ pub struct Facts {
     uncounted: Option<String>,
     /// Instructions a call, by row and side.
     counts: HashMap<(String, String), u64>,
+    /// The cells of the report turn's rows.
+    pub turns: Vec<[String; 4]>,
 }
 
 impl Facts {
@@ -38,6 +40,10 @@ impl Facts {
                 let place = (row.to_owned(), side.to_owned());
                 self.counts.insert(place, many.parse().ok()?);
             }
+            "turn" => {
+                let cells: Vec<String> = rest.split(" | ").map(str::to_owned).collect();
+                self.turns.push(cells.try_into().ok()?);
+            }
             _ => return None,
         }
         Some(())
@@ -62,13 +68,14 @@ mod tests {
 
     #[test]
     fn what_is_understood() {
-        let file = "kit a kit 5\ntext 77\ncount 4/read-1 old 10\ncount 4/read-1 new 25\ncount 64/read-1 old 3\n";
+        let file = "kit a kit 5\ntext 77\ncount 4/read-1 old 10\ncount 4/read-1 new 25\ncount 64/read-1 old 3\nturn all due | a turn | 1 | 2\n";
         let facts = Facts::parsed(file).expect("it is understood");
         assert_eq!(facts.kit.as_deref(), Some("a kit 5"));
         assert_eq!((facts.text, facts.uncounted()), (Some(77), None));
         assert_eq!(facts.counts("4/read-1"), [Some(10), Some(25)]);
         assert_eq!(facts.counts("64/read-1"), [Some(3), None]);
         assert_eq!(facts.counts("64/read-10"), [None; 2]);
+        assert_eq!(facts.turns, [["all due", "a turn", "1", "2"]]);
         assert_eq!(Facts::default().uncounted(), Some("nobody did"));
     }
 
@@ -80,6 +87,7 @@ mod tests {
             "count 4/read-1 old",
             "count a old 1 2",
             "speed 1",
+            "turn all due | a turn | 1",
         ] {
             assert_eq!(
                 Facts::parsed(line),

@@ -19,6 +19,7 @@ mod stand_in;
 mod stores;
 mod text;
 mod timing;
+mod turns;
 
 pub use agree::agree;
 pub use arguments::{Arguments, Which};
@@ -32,3 +33,4 @@ pub use rows::{named, rows};
 pub use side::{Said, Side};
 pub use text::text;
 pub use timing::timed;
+pub use turns::lines as turn_lines;

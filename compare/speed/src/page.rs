@@ -7,6 +7,7 @@ use crate::facts::Facts;
 use crate::machine::processor;
 use crate::measured::Measured;
 use crate::row::Over;
+use crate::turns;
 
 /// How the two were made.
 pub struct Built {
@@ -66,6 +67,7 @@ pub fn page(measured: &[Measured], facts: &Facts, built: &Built) -> String {
         what_a_call_does(),
         what_the_rows_are(),
         tables.concat(),
+        turns::section(&facts.turns),
         "The same command makes this page again:\n\n    make speed\n".to_owned(),
     ]
     .concat()

@@ -4,7 +4,7 @@ use std::fs;
 use std::io::ErrorKind;
 use std::path::Path;
 
-use speed::{Arguments, Built, Facts, Measured, UNTIMED, page, rows, table, text};
+use speed::{Arguments, Built, Facts, Measured, UNTIMED, page, rows, table, text, turn_lines};
 
 #[cfg(archive)]
 use crate::both;
@@ -61,7 +61,8 @@ fn counted(to: &str, facts: &str) -> Result<(), String> {
         counts[1].ok_or_else(|| format!("{}: not counted", row.word()))?;
         measured.push(Measured::of(&row, None, counts));
     }
-    print!("{}\n{UNTIMED}\n", table(&measured));
+    print!("{}{}", table(&measured), turn_lines(&facts.turns));
+    println!("\n{UNTIMED}");
     write(to, &page(&measured, &facts, &built(None)?))
 }
 

@@ -3,7 +3,7 @@
 use mathlib.Core.Path.{_≡_, refl, sym, ap, _∙_, subst}
 use mathlib.Core.Bool.{Bool, true, false, cond, true≢false}
 use mathlib.Core.List.{List, []}
-use Prim.Native.Nat.{ℕ}
+use Prim.Native.Nat.{ℕ, _^_, _<_}
 use native.Mathlib.Omega.{arith}
 use lib.ListN.{length}
 use Rattle.types.specs.Number.{AllBytes}
@@ -21,6 +21,11 @@ use Rattle.reporting.specs.Lent.{bytesAfter}
 use Rattle.reporting.proofs.CarriageTable.{table-is, bytes-back, length-table, the-conditions, table-count, table-clean}
 use Rattle.reporting.proofs.Kept.{Kept}
 use Rattle.server.specs.Serve.{State, serve}
+use Rattle.report.specs.Turn.{After, turnFor}
+use Rattle.report.specs.Claims.Turns.{frameOf, turned}
+use Rattle.report.specs.Claims.History.{marking}
+use Rattle.report.proofs.Moves.{turn-leaves}
+use Rattle.report.proofs.Rows.{turn-leads}
 use Rattle.server.specs.Lent.{Lent, lent, carried, serveLent}
 use Rattle.server.specs.Claims.Left.{Clears, ThenZeros, AsLong, Early}
 use Rattle.server.specs.Claims.Starts.{Starts, answering}
@@ -28,12 +33,13 @@ use Rattle.server.specs.Claims.History.{Request, requested, requestEvents}
 use Rattle.server.proofs.Says.{Says, declines, says-clears, says-zeros, says-long}
 use Rattle.server.proofs.Refusals.{refusal-clears, reply-then-zeros, reply-length, untouched}
 use Rattle.server.proofs.Elsewhere.{responder-clears, responder-then-zeros, responder-length, report-clears, report-then-zeros, report-length}
+use Rattle.server.proofs.TurnsLeft.{turn-clears, turn-then-zeros, turn-length, turn-untouched, turns-start}
 use Rattle.server.proofs.Starting.{replies-start, responses-start, reports-start}
 use Rattle.server.proofs.Stays.{store-stays}
-use Rattle.server.proofs.Fitting.{request-fits}
+use Rattle.server.proofs.Fitting.{request-fits, marking-fits}
 use Rattle.server.proofs.Histories.{request-is, request-holds}
-use Rattle.hingedrift.specs.Serving.{isUnicast, handleLeft}
-use Rattle.hingedrift.specs.Claims.Left.{HdHandleRequestClears, HdHandleRequestThenZeros, HdHandleRequestLength, HdHandleRequestStarts, HdUntouched, HdNoTableStays, HdStoreStays, HdTableStays, HdUnsupportedClusterClears, HdUnsupportedClusterThenZeros, HdUnsupportedClusterLength, HdUnsupportedClusterStarts, HdReportClears, HdReportThenZeros, HdReportLength, HdReportStarts, HdConfigureNoTable, HdConfigureNoMark}
+use Rattle.hingedrift.specs.Serving.{isUnicast, turnLeft, handleLeft}
+use Rattle.hingedrift.specs.Claims.Left.{HdHandleRequestClears, HdHandleRequestThenZeros, HdHandleRequestLength, HdHandleRequestStarts, HdUntouched, HdNoTableStays, HdStoreStays, HdTableStays, HdUnsupportedClusterClears, HdUnsupportedClusterThenZeros, HdUnsupportedClusterLength, HdUnsupportedClusterStarts, HdReportClears, HdReportThenZeros, HdReportLength, HdReportStarts, HdReportTurnClears, HdReportTurnThenZeros, HdReportTurnLength, HdReportTurnUntouched, HdReportTurnTableStays, HdReportTurnStarts, HdConfigureNoTable, HdConfigureNoMark}
 use Rattle.hingedrift.proofs.Bridge.{configure-no-table, configure-no-mark}
 use Rattle.hingedrift.proofs.Kept.{run-keeps}
 
@@ -94,6 +100,10 @@ hd-store-stays s bs cluster unicast frame size =
     (λ e is. store-stays 8 capacity s (holding (tableIn bs)) cluster (isUnicast unicast) frame size (omega arith) is)
     (λ e is. record { still = is; same-length = refl; same-contents = refl })
 
+-- the entries of bytes that are a table fit one
+own-kept : (bs : List ℕ) → AllBytes bs → isTable capacity bs ≡ true → Kept capacity (tableIn bs)
+own-kept bs tb is = record { small = omega (arith, table-count bs, the-conditions capacity bs is .count); clean = table-clean capacity bs tb is }
+
 module _ (s bs : List ℕ) (cluster unicast : ℕ) (frame : List ℕ) (size : ℕ) (sb : AllBytes s) (tb : AllBytes bs) (fb : AllBytes frame) (is : isTable capacity bs ≡ true) where
   abbrev asked : Request
   asked = record { store = s; cluster = cluster; unicast = isUnicast unicast; frame = frame; room = size }
@@ -101,13 +111,10 @@ module _ (s bs : List ℕ) (cluster unicast : ℕ) (frame : List ℕ) (size : �
   abbrev after : List Entry
   after = requested capacity asked (tableIn bs)
 
-  fits-before : Kept capacity (tableIn bs)
-  fits-before = record { small = omega (arith, table-count bs, the-conditions capacity bs is .count); clean = table-clean capacity bs tb is }
-
   pub fits-after : Kept capacity after
   fits-after =
       subst (Kept capacity) (request-is capacity asked (tableIn bs) .table)
-      (run-keeps capacity (requestEvents capacity asked (tableIn bs)) (tableIn bs) (request-fits capacity asked (tableIn bs) sb fb) fits-before)
+      (run-keeps capacity (requestEvents capacity asked (tableIn bs)) (tableIn bs) (request-fits capacity asked (tableIn bs) sb fb) (own-kept bs tb is))
 
   bytes-after : bytesAfter bs (served s bs cluster unicast frame size .state .table) ≡ tableBytes capacity after
   bytes-after = ap (bytesAfter bs) (request-holds capacity asked (tableIn bs))
@@ -154,6 +161,41 @@ hd-report-length s sequence ids size = report-length 8 s sequence ids size
 
 pub hd-report-starts : HdReportStarts
 hd-report-starts s sequence ids size = reports-start 8 s sequence ids size
+
+-- ---- hd_report_turn
+
+pub hd-report-turn-clears : HdReportTurnClears
+hd-report-turn-clears s bs sequence now last size = turn-clears 8 (turnFor s sequence last now size) bs
+
+pub hd-report-turn-then-zeros : HdReportTurnThenZeros
+hd-report-turn-then-zeros s bs sequence now last size = turn-then-zeros 8 (turnFor s sequence last now size) bs
+
+pub hd-report-turn-length : HdReportTurnLength
+hd-report-turn-length s bs sequence now last size = turn-length 8 (turnFor s sequence last now size) bs
+
+pub hd-report-turn-untouched : HdReportTurnUntouched
+hd-report-turn-untouched s bs sequence now last size = turn-untouched 8 (turnFor s sequence last now size) bs
+
+module _ (s bs : List ℕ) (sequence now last size : ℕ) (sb : AllBytes s) (tb : AllBytes bs) (n : now < 2 ^ 32) (is : isTable capacity bs ≡ true) where
+  abbrev left-by : List Entry
+  left-by = turned 8 (turnFor s sequence last now size) (tableIn bs)
+
+  turned-kept : Kept capacity left-by
+  turned-kept =
+      subst (Kept capacity) (turn-leads 8 capacity (turnFor s sequence last now size) (tableIn bs) .table)
+      (run-keeps capacity (marking s now (frameOf 8 (turnFor s sequence last now size) (tableIn bs))) (tableIn bs) (marking-fits s now (frameOf 8 (turnFor s sequence last now size) (tableIn bs)) sb n) (own-kept bs tb is))
+
+  turned-bytes : turnLeft s bs sequence now last size .state .table ≡ tableBytes capacity left-by
+  turned-bytes = ap (λ (x : After). x .table) (turn-leaves 8 (turnFor s sequence last now size) bs tb is)
+
+pub hd-report-turn-table-stays : HdReportTurnTableStays
+hd-report-turn-table-stays s bs sequence now last size sb tb n is =
+    let kept = turned-kept s bs sequence now last size sb tb n is in
+    let same = turned-bytes s bs sequence now last size sb tb n is in
+    (ap (isTable capacity) same ∙ table-is capacity _ (kept .small) (kept .clean), ap length same ∙ length-table capacity _ (kept .small) ∙ sym (the-conditions capacity bs is .size))
+
+pub hd-report-turn-starts : HdReportTurnStarts
+hd-report-turn-starts s bs sequence now last size = turns-start 8 (turnFor s sequence last now size) bs
 
 -- ---- hd_configure
 

@@ -10,8 +10,12 @@ pub mod Unique
 pub mod Kept
 -- demand 3 of what the functions left
 pub mod Logged
+-- report turns in what the functions left
+pub mod Turned
 -- a log that meets its suppositions
 pub mod LogExample
+-- one with report turns
+pub mod TurnLog
 -- one with a power cut, and demand 3 of the table read in after it
 pub mod PowerCut
 -- the number of a value, from the store to the head-end

@@ -1,11 +1,7 @@
 -- A log of the functions towards C (specs/Claims/LogExample.antt), computed: it meets all that demand 3 of the bytes supposes. Assumes nothing.
-use mathlib.Core.Path.{_≡_, refl, sym, subst}
-use mathlib.Core.Bool.{Bool, true, false, cond}
-use mathlib.Core.List.{List, [], _∷_}
-use Prim.Native.Nat.{ℕ, zero, suc, _<_}
+use mathlib.Core.Path.{refl, sym, subst}
+use mathlib.Core.List.{List, []}
 use native.Mathlib.Omega.{arith}
-use lib.Dec.{ltb}
-use borrow.Author.Tests.{ltb-true}
 use Rattle.types.specs.Number.{AllBytes, allZero, le, bytesOf, unsignedAt, signedOf, signedAt, residue}
 use Rattle.types.specs.Ids.{sizeOf, shapeOf, isAnalog, isSigned, isFloat}
 use Rattle.types.specs.Value.{changeAt}
@@ -32,29 +28,12 @@ use Rattle.server.specs.Claims.History.{requestEvents}
 use Rattle.server.specs.Claims.Bench.{T, key}
 use Rattle.server.specs.Claims.ServedHistory.{g}
 use Rattle.server.specs.Claims.LogExample.{configuring, crossed, told}
+use Rattle.server.proofs.Bytes.{bytes-small}
 use Rattle.server.proofs.LogExample as served
 use Rattle.hingedrift.specs.Tables.{newLeft}
 use Rattle.hingedrift.specs.Claims.Log.{made}
 use Rattle.hingedrift.specs.Claims.LogExample.{was, new, first, after, LogStands, LogEvents, LogSupposed}
 use Rattle.hingedrift.proofs.Logged.{demand-3-of-bytes}
-
--- ---- bytes, by a test
-
-abbrev small : List ℕ → Bool
-small [] = true
-small (b ∷ bs) = cond (ltb b 256) (small bs) false
-
-bytes-cons : (b : ℕ) (bs : List ℕ) → b < 256 → AllBytes bs → AllBytes (b ∷ bs)
-bytes-cons b bs h k zero = h
-bytes-cons b bs h k (suc i) = k i
-
-pub bytes-small : (l : List ℕ) → small l ≡ true → AllBytes l
-bytes-small [] e = λ i. omega arith
-bytes-small (b ∷ bs) e = go (ltb b 256) refl e (λ h. bytes-small bs h)
-  where
-    go : (c : Bool) → ltb b 256 ≡ c → cond c (small bs) false ≡ true → (small bs ≡ true → AllBytes bs) → AllBytes (b ∷ bs)
-    go true f h rec = bytes-cons b bs (ltb-true b 256 f) (rec h)
-    go false f h rec = let z : _≡_ {A = ℕ} 0 1 = cc in absurd (omega arith)
 
 store-bytes : AllBytes (T 0x07)
 store-bytes = bytes-small (T 0x07) refl

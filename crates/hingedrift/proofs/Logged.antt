@@ -22,10 +22,13 @@ use Rattle.reporting.specs.Claims.RoundTrip.{AllClean}
 use Rattle.reporting.specs.Claims.Events.{Event, configured, cleared, asked, marked, clearings, settings}
 use Rattle.reporting.specs.Claims.Events as Event
 use Rattle.reporting.specs.Demand3.{Supposed, Promised, asksOf}
-use Rattle.reporting.proofs.CarriageTable.{length-table, table-is, table-back}
-use Rattle.reporting.proofs.Histories as direct-call
+use Rattle.reporting.proofs.CarriageTable.{length-table, table-bytes, table-is, table-back}
 use Rattle.reporting.proofs.Kept.{Kept}
 use Rattle.reporting.proofs.Lending.{fresh-clean}
+use Rattle.report.specs.Turn.{After}
+use Rattle.report.specs.Claims.Turns.{frameOf, turned}
+use Rattle.report.specs.Claims.History.{marking}
+use Rattle.report.proofs.Moves.{turn-leaves}
 use Rattle.saved.specs.Saved.{savedIn, isSaved, formIn}
 use Rattle.saved.specs.Lent.{restoreLent}
 use Rattle.saved.specs.Claims.Demand3.{taken}
@@ -34,28 +37,28 @@ use Rattle.saved.proofs.Widths.{own-clean}
 use Rattle.server.specs.Serve.{serve}
 use Rattle.server.specs.Claims.History.{requested, requestEvents, Use, direct, used, useEvents, uses, usesEvents}
 use Rattle.server.specs.Claims.History as History
-use Rattle.server.proofs.Fitting.{AllFit, fit-append, fit-either, request-fits}
+use Rattle.server.proofs.Fitting.{AllFit, fit-append, fit-either, request-fits, marking-fits}
 use Rattle.server.proofs.Frames.{demand-3-of-frames, demand-3-of-frames-restored}
-use Rattle.server.proofs.Histories.{request-is, request-holds}
+use Rattle.server.proofs.Histories.{use-is, request-holds}
 use Rattle.hingedrift.proofs.Bridge.{configureBy}
 use Rattle.hingedrift.specs.Tables.{bit, Left, left, noResult, newLeft}
 use Rattle.server.specs.Lent.{Lent, lent, carried, serveLent}
 use Rattle.hingedrift.specs.Serving.{isUnicast, handleLeft}
 use Rattle.hingedrift.specs.Saving.{restoreLeft}
-use Rattle.hingedrift.specs.Claims.Log.{Handled, Made, configure, clear, mark, ask, configuration, handle, save, restore, keyAt, configAs, Contract, Typed, next, last, Log, requestOf, eventsOf, allEventsOf, Begin, made, read, Begins, Demand3OfBytes, Demand3OfRestored}
+use Rattle.hingedrift.specs.Claims.Log.{Handled, Made, configure, clear, mark, ask, configuration, handle, save, restore, turn, turnAs, keyAt, configAs, Contract, Typed, next, last, Log, requestOf, eventsOf, allEventsOf, Begin, made, read, Begins, Demand3OfBytes, Demand3OfRestored}
 use Rattle.hingedrift.proofs.Kept.{run-keeps}
 
 -- ---- bytes that are those of a table with these entries
 
-record Held (bs : List ℕ) (l : List Entry) : Type 0 where
-  bytes : bs ≡ tableBytes capacity l
-  kept : Kept capacity l
+pub record Held (bs : List ℕ) (l : List Entry) : Type 0 where
+  pub bytes : bs ≡ tableBytes capacity l
+  pub kept : Kept capacity l
 
 module _ (bs : List ℕ) (l : List Entry) (h : Held bs l) where
-  is-one : isTable capacity bs ≡ true
+  pub is-one : isTable capacity bs ≡ true
   is-one = ap (isTable capacity) (h .bytes) ∙ table-is capacity l (h .kept .small) (h .kept .clean)
 
-  are-back : tableIn bs ≡ l
+  pub are-back : tableIn bs ≡ l
   are-back = ap tableIn (h .bytes) ∙ table-back capacity l (h .kept .small) (h .kept .clean)
 
   on-lent : {R : Type 0} (refusal : R) (rest : List Entry → R) → onLent bs refusal rest ≡ rest l
@@ -73,6 +76,10 @@ module _ (bs : List ℕ) (l : List Entry) (h : Held bs l) where
       (refused (q .size) (cond (isStore 8 (q .store)) NotATable NotAStore) (lent (q .store) bs)))
       is-one
       ∙ ap (λ (m : List Entry). within (carried bs) (serve 8 capacity (q .store) (holding m) (q .cluster) (isUnicast (q .unicast)) (q .frame) (q .size))) are-back
+
+  -- and bytes
+  pub are-bytes : AllBytes bs
+  are-bytes = subst AllBytes (sym (h .bytes)) (table-bytes capacity l (h .kept .small) (omega arith))
 
   -- they are as long as a table's
   are-sized : sizeOk capacity bs ≡ true
@@ -126,7 +133,7 @@ module _ (was form : List ℕ) (number : ℕ) (table : List ℕ) (p : left numbe
 
 -- ---- a call is a use
 
-useOf : Made → Use
+unfoldable pub useOf : Made → Use
 useOf (configure a g number accepted table) = direct (cond (ltb 1 (g .mark)) Event.len (Event.configure (keyAt a) (configAs g)))
 useOf (clear a number table) = direct (Event.clear (keyAt a))
 useOf (mark a x number table) = direct (Event.mark (keyAt a) (x .now) (x .value))
@@ -135,6 +142,7 @@ useOf (configuration a number found) = direct (Event.configuration (keyAt a))
 useOf (handle h) = History.request (requestOf h)
 useOf (save size number used buffer) = direct Event.len
 useOf (restore form number table) = direct (Event.restore (taken capacity form))
+useOf (turn t) = History.turn (turnAs t)
 
 -- what a read clears and configures fits the bytes
 clearings-fit : (l : List Entry) → AllFit (clearings l)
@@ -173,16 +181,16 @@ use-fits (configuration a number found) l d = tt
 use-fits (handle h) l d = request-fits capacity (requestOf h) l (d .0) (d .1)
 use-fits (save size number used buffer) l d = tt
 use-fits (restore form number table) l d = read-fits form l d
+use-fits (turn t) l d = marking-fits (t .store) (t .now) (frameOf 8 (turnAs t) l) (d .0) (d .1)
 
 used-keeps : (u : Use) (l : List Entry) → AllFit (useEvents capacity u l) → Kept capacity l → Kept capacity (used capacity u l)
-used-keeps (History.request r) l f h = subst (Kept capacity) (request-is capacity r l .table) (run-keeps capacity (requestEvents capacity r l) l f h)
-used-keeps (direct c) l f h = subst (Kept capacity) (direct-call.call-is capacity c l .table) (run-keeps capacity (Event.events capacity c l) l f h)
+used-keeps u l f h = subst (Kept capacity) (use-is capacity u l .table) (run-keeps capacity (useEvents capacity u l) l f h)
 
-record Is (u : Use) (l : List Entry) (es : List Event) (bs : List ℕ) : Type 0 where
-  events : es ≡ useEvents capacity u l
-  table : bs ≡ tableBytes capacity (used capacity u l)
+pub record Is (u : Use) (l : List Entry) (es : List Event) (bs : List ℕ) : Type 0 where
+  pub events : es ≡ useEvents capacity u l
+  pub table : bs ≡ tableBytes capacity (used capacity u l)
 
-call-is : (c : Made) (bs : List ℕ) (l : List Entry) → Held bs l → Contract c bs → Is (useOf c) l (eventsOf c bs) (next c bs)
+pub call-is : (c : Made) (bs : List ℕ) (l : List Entry) → Held bs l → Contract c bs → Is (useOf c) l (eventsOf c bs) (next c bs)
 unfolding useOf configureLent clearLent markLent askLent requested
 call-is (configure a g number accepted table) bs l h p = go (ltb 1 (g .mark)) (p ∙ ap (λ (t : Bool). configureBy bs t (ltb 1 (g .mark)) (configureLent (keyAt a) (configAs g) bs)) (is-one bs l h))
   where
@@ -235,8 +243,16 @@ call-is (restore form number table) bs l h p =
       events = λ i. clearings (are-back bs l h i) ++ settings ((ap (λ (b : Bool). cond b (savedIn (formIn form) form) []) (sym (r .saved)) ∙ back) i);
       table = r .bytes ∙ ap (tableBytes capacity) back;
     }
+call-is (turn t) bs l h p =
+    record {
+      events = ap (λ (m : List Entry). marking (t .store) (t .now) (frameOf 8 (turnAs t) m)) (are-back bs l h);
+      table =
+          ap (λ (x : Outcome After). x .state .table) p
+          ∙ ap (λ (x : After). x .table) (turn-leaves 8 (turnAs t) bs (are-bytes bs l h) (is-one bs l h))
+          ∙ ap (λ (m : List Entry). tableBytes capacity (turned 8 (turnAs t) m)) (are-back bs l h);
+    }
 
-call-held : (c : Made) (bs : List ℕ) (l : List Entry) → Held bs l → Typed c → Contract c bs → Held (next c bs) (used capacity (useOf c) l)
+pub call-held : (c : Made) (bs : List ℕ) (l : List Entry) → Held bs l → Typed c → Contract c bs → Held (next c bs) (used capacity (useOf c) l)
 call-held c bs l h d p = record { bytes = call-is c bs l h p .table; kept = used-keeps (useOf c) l (use-fits c l d) (h .kept) }
 
 -- ---- and so a log is uses
@@ -253,7 +269,7 @@ log-is (c ∷ log) bs l h p =
     record { events = λ i. one .events i ++ more .events i; held = more .held }
 
 -- a log cut in two
-log-cut : (before after : List Made) (bs : List ℕ) → Log bs (before ++ after) → Log bs before × Log (last before bs) after
+pub log-cut : (before after : List Made) (bs : List ℕ) → Log bs (before ++ after) → Log bs before × Log (last before bs) after
 log-cut [] after bs p = (tt, p)
 log-cut (c ∷ before) after bs p = let w = log-cut before after (next c bs) (p .2) in ((p .0, p .1, w .0), w .1)
 
@@ -283,11 +299,11 @@ read-held form number was bs p = record {
 }
 
 -- a log's uses from an empty table on: a read with which it began is the first of them
-usesOf : Begin → List Made → List Use
+unfoldable pub usesOf : Begin → List Made → List Use
 usesOf made log = map useOf log
 usesOf (read form number) log = direct (Event.restore (taken capacity form)) ∷ map useOf log
 
-begun-held : (how : Begin) (was bs : List ℕ) (log : List Made) → Begins how was bs → Log bs log → Held (last log bs) (uses capacity (usesOf how log) [])
+pub begun-held : (how : Begin) (was bs : List ℕ) (log : List Made) → Begins how was bs → Log bs log → Held (last log bs) (uses capacity (usesOf how log) [])
 unfolding usesOf
 begun-held made was bs log b p = log-is log bs [] (new-held was bs b) p .held
 begun-held (read form number) was bs log b p = log-is log bs _ (read-held form number was bs b) p .held

@@ -22,7 +22,8 @@ use Rattle.hingedrift.specs.Serving.{handed}
 use Rattle.hingedrift.specs.Saving.{saveLeft}
 use Rattle.hingedrift.specs.Claims.PowerCut.{form, memory, back, after, told, CutStands, RestoreStands, RestoreSupposed}
 use Rattle.hingedrift.proofs.Logged.{demand-3-of-restored}
-use Rattle.hingedrift.proofs.LogExample.{bytes-small, log-stands}
+use Rattle.server.proofs.Bytes.{bytes-small}
+use Rattle.hingedrift.proofs.LogExample.{log-stands}
 
 -- what hd_save gave of attribute 5's entry
 saved-so : handed 0 20 (padded 32 form) noState ≡ saveLeft (tableBytes capacity (reported ∷ [])) 32

@@ -25,7 +25,7 @@ use Rattle.reporting.specs.Claims.RoundTrip.{AllClean}
 use Rattle.reporting.proofs.CarriageTable.{table-clean}
 use Rattle.read.specs.Read.{ReadRecord, value}
 use Rattle.server.specs.Serve.{State, serve}
-use Rattle.server.specs.Report.{ReportRecord}
+use Rattle.report.specs.Report.{ReportRecord}
 use Rattle.readers.specs.declared.value.ValueIn.{ValueIn}
 use Rattle.readers.specs.Reading.{Read, read, unreadable, kth}
 use Rattle.readers.specs.Values.{Held, held, readReplyHeld, reportFrameHeld}

@@ -7,11 +7,12 @@ use lib.ListN.{length}
 use Rattle.frame.specs.Answer.{Outcome, noState}
 use Rattle.store.specs.Value.{Telling}
 use Rattle.hingedrift.specs.Tables.{keyAs, configOf, Left, left, noResult, Configuration, configurationAs, newLeft, configureLeft, clearLeft, markLeft, askLeft, configurationLeft}
+use Rattle.report.specs.Turn.{After, afterTurn}
 use Rattle.server.specs.Lent.{Lent, lent}
-use Rattle.hingedrift.specs.Serving.{handed, unsupportedLeft, reportLeft, handleLeft}
+use Rattle.hingedrift.specs.Serving.{handed, unsupportedLeft, reportLeft, turnLeft, handleLeft}
 use Rattle.readers.specs.Told.{Told, told, ValueFields, SettingFields}
 use Rattle.hingedrift.specs.Saving.{saveLeft, restoreLeft}
-use Rattle.hingedrift.specs.Claims.Unique.{HdNumberOnce, HdHandleRequestOnce, HdUnsupportedClusterOnce, HdReportOnce, HdTableNewOnce, HdConfigureOnce}
+use Rattle.hingedrift.specs.Claims.Unique.{HdNumberOnce, HdHandleRequestOnce, HdUnsupportedClusterOnce, HdReportOnce, HdReportTurnOnce, HdTableNewOnce, HdConfigureOnce}
 use Rattle.hingedrift.specs.Claims.Unique.{HdClearOnce, HdConfigurationOnce, HdAskOnce, HdMarkOnce}
 use Rattle.hingedrift.specs.Claims.Unique.{HdSaveOnce, HdRestoreOnce}
 use Rattle.hingedrift.specs.Claims.Unique.{HdReadCheckOnce, HdReadRecordOnce, HdWriteCheckOnce, HdWriteRecordOnce, HdConfigureCheckOnce, HdConfigureRecordOnce}
@@ -50,6 +51,11 @@ one-setting : {v w : SettingFields} → v ≡ w → (v .type ≡ w .type) × ((v
 one-setting e = ((λ i. e i .type), ((λ i. e i .minimum), ((λ i. e i .maximum), (λ i. e i .change))))
 
 -- src/serving.rt
+
+pub hd-report-turn-once : HdReportTurnOnce
+hd-report-turn-once store table sequence now last frame r q m n x y bs cs u v e f =
+    let w = one-handed (turnLeft store table sequence now last (length frame)) r q m n x y (afterTurn bs u) (afterTurn cs v) e f in
+    (w .0, (w .1 .0, (w .1 .1 .0, (ap (λ (z : After). z .table) (w .1 .1 .1), ap (λ (z : After). z .last) (w .1 .1 .1)))))
 
 pub hd-number-once : HdNumberOnce
 hd-number-once store attribute r q x y e f = let p = e ∙ sym f in (ap (λ (z : Telling). z .answer) p, ap (λ (z : Telling). z .value) p)

@@ -2,7 +2,7 @@
 
 -- definitions that decide an answer, in the order to read them
 pub mod Tables  -- the reporting table through its bytes
-pub mod Serving  -- the server, a number and a report frame
+pub mod Serving  -- the server, a number, a report frame and a turn
 pub mod Saving  -- the saved form of a table
 pub mod Reading  -- the readers' functions
 -- what is claimed of them

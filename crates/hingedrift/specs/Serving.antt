@@ -1,4 +1,4 @@
--- Definitions. The server's functions towards C: those of crates `store` and `server`, with a table as its bytes and `unicast` as a number, 0 or
+-- Definitions. The server's functions towards C: those of crates `store`, `report` and `server`, with a table as its bytes and `unicast` as a number, 0 or
 -- anything else.
 use Prim.Native.Nat.{ℕ}
 use mathlib.Core.Bool.{Bool, not}
@@ -10,7 +10,8 @@ use Rattle.store.specs.Contents.{nameOf}
 use Rattle.store.specs.Value.{Telling, telling, numberOf}
 use Rattle.server.specs.Lent.{Lent, serveLent}
 use Rattle.server.specs.UnsupportedCluster.{unsupportedCluster}
-use Rattle.server.specs.Report.{reportOf}
+use Rattle.report.specs.Report.{reportOf}
+use Rattle.report.specs.Turn.{After, turnFor, turnOf}
 
 -- what C has after a call: the number, how many bytes of the reply are used, the whole reply buffer, and what else was lent
 abbrev pub handed : {S : Type 0} → ℕ → ℕ → List ℕ → S → Outcome S
@@ -33,6 +34,10 @@ unsupportedLeft served cluster unicast frame size = unsupportedCluster served cl
 -- hd_report
 abbrev pub reportLeft : List ℕ → ℕ → List ℕ → ℕ → Outcome (Unit {0})
 reportLeft s sequence ids size = reportOf 8 s sequence ids size
+
+-- hd_report_turn
+abbrev pub turnLeft : List ℕ → List ℕ → ℕ → ℕ → ℕ → ℕ → Outcome After
+turnLeft s bs sequence now last size = turnOf 8 (turnFor s sequence last now size) bs
 
 -- hd_handle_request
 abbrev pub handleLeft : List ℕ → List ℕ → ℕ → ℕ → List ℕ → ℕ → Outcome Lent

@@ -2,10 +2,12 @@
 ghost use mathlib.Core.Path.{_≡_};
 ghost use lib.ListN.{length};
 ghost use Rattle.frame.specs.Answer.{noState};
+ghost use Rattle.report.specs.Turn.{afterTurn};
 ghost use Rattle.server.specs.Lent.{lent};
-ghost use Rattle.hingedrift.specs.Serving.{handed, numberHanded, numberLeft, unsupportedLeft, reportLeft, handleLeft};
+ghost use Rattle.hingedrift.specs.Serving.{handed, numberHanded, numberLeft, unsupportedLeft, reportLeft, turnLeft, handleLeft};
 use frame::header::ManufacturerCode;
-use server::report::report;
+use report::report::report;
+use report::turn::report_turn;
 use server::serve::handle_request_lent;
 use server::unsupported_cluster::unsupported_cluster;
 use store::lookup::name_of;
@@ -85,6 +87,27 @@ pub extern "C" fn hd_report(
     ensures { λ r. ⌜ handed r (now («frame_used» .exit)) (now (frame .exit)) noState ≡ reportLeft (now (store .entry)) sequence (now (ids .entry)) (length (now (frame .entry))) ⌝ }
 {
     let answer = report(store, sequence, ids, frame);
+    *frame_used = answer.reply_len();
+    answer.number()
+}
+
+// Writes a Report Attributes frame of all that is due, and marks what is in it. `last` goes in and comes back: above ffff it is none. The parameter
+// `now` hides the clauses' `now`: a clause says `.now`.
+#[no_mangle]
+pub extern "C" fn hd_report_turn(
+    store: &[u8],
+    table: &mut [u8],
+    sequence: u8,
+    now: u32,
+    last: &mut u32,
+    frame: &mut [u8],
+    frame_used: &mut usize,
+) -> u8
+    ensures { λ r. ⌜ handed r («frame_used» .exit .now) (frame .exit .now) (afterTurn (table .exit .now) (last .exit .now)) ≡ turnLeft (store .entry .now) (table .entry .now) sequence now (last .entry .now) (length (frame .entry .now)) ⌝ }
+{
+    let turned = report_turn(store, table, sequence, now, *last, frame);
+    let answer = turned.answer;
+    *last = turned.last;
     *frame_used = answer.reply_len();
     answer.number()
 }

@@ -6,7 +6,7 @@ use native.Mathlib.Omega.{arith}
 use lib.ListN.{length, take}
 use lib.Seq.{take-append-add}
 use Rattle.types.specs.Number.{bytesOf, AllBytes}
-use Rattle.server.specs.Report.{ReportRecord, reportRecord, encode}
+use Rattle.report.specs.Report.{ReportRecord, reportRecord, encode}
 use Rattle.readers.specs.declared.layout.Layout.the-variants.{Report}
 use Rattle.readers.specs.declared.layout.Length.the-variants.{Bytes}
 use Rattle.readers.specs.Layout.{valued, lengthOf}

@@ -18,7 +18,7 @@ use Rattle.store.specs.declared.lookup.Found.the-variants.{At, Nothing}
 use Rattle.store.specs.Contents.{nameOf, findOf, reportable}
 use Rattle.store.specs.Value.{valueOf}
 use Rattle.read.specs.Read.{ReadRecord, value, failure, recordBy, recordFor}
-use Rattle.server.specs.Report.{ReportRecord, encode, recordOf, Reported, all, trouble, reportBy, reportOne, goesOn, reportFrom}
+use Rattle.report.specs.Report.{ReportRecord, encode, recordOf, Reported, all, trouble, reportBy, reportOne, goesOn, reportFrom}
 use Rattle.readers.specs.Claims.Sendable.{Failed}
 
 -- ---- a read: the record of an id is a value that was found, or a failure

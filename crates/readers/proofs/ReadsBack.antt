@@ -7,7 +7,7 @@ use Rattle.read.specs.Read as Read
 use Rattle.write.specs.Reply as Write
 use Rattle.configure.specs.Configure as Configure
 use Rattle.configure.specs.Configuration as Configuration
-use Rattle.server.specs.Report as Report
+use Rattle.report.specs.Report as Report
 use Rattle.readers.specs.declared.layout.Layout.the-variants as Layout
 use Rattle.readers.specs.Replies.{readRecord, writeFailure, configureFailure, settingRecord, reportedRecord, readReplyOf, writeReplyOf, configureReplyOf, configurationReplyOf, reportFrameOf}
 use Rattle.readers.specs.Claims.Sendable.{Failed, ReadSendable, WriteSendable, ConfigureSendable, SettingSendable, ReportSendable}

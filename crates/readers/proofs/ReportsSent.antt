@@ -16,7 +16,7 @@ use Rattle.frame.specs.Encoded.{encodeAll}
 use Rattle.frame.proofs.Codes.{refusal-nonzero}
 use Rattle.store.specs.Contents.{nameOf}
 use Rattle.store.specs.Layout.{isStore}
-use Rattle.server.specs.Report.{ReportRecord, encode, Reported, all, trouble, reportFrom, reportReply, unasked, reportOf}
+use Rattle.report.specs.Report.{ReportRecord, encode, Reported, all, trouble, reportFrom, reportReply, unasked, reportOf}
 use Rattle.readers.specs.Reading.{read}
 use Rattle.readers.specs.Replies.{reportFrameOf}
 use Rattle.readers.specs.Claims.Sendable.{ReportSendable}

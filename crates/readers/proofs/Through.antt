@@ -25,7 +25,7 @@ use Rattle.store.specs.Layout.{isStore}
 use Rattle.store.specs.Value.{valueOf, numberedBy, numberOf}
 use Rattle.reporting.specs.declared.entry.Entry.{Entry}
 use Rattle.read.specs.Read.{ReadRecord, value, failure, encode, idsFrom, recordFor}
-use Rattle.server.specs.Report.{ReportRecord, reportRecord, all, reportFrom, reportOf}
+use Rattle.report.specs.Report.{ReportRecord, reportRecord, all, reportFrom, reportOf}
 use Rattle.readers.specs.declared.layout.Layout.the-variants.{ReadStatus, Report}
 use Rattle.readers.specs.declared.value.ValueIn.{ValueIn}
 use Rattle.readers.specs.Reading.{Read, read, unreadable, mapped, kth, Span, cutOut, recordsOf}

@@ -9,7 +9,7 @@ use borrow.Author.Tests.{eq-eqb, ne-eqb}
 use Rattle.types.specs.Number.{unsignedAt}
 use Rattle.frame.proofs.Buffer.{drop-take}
 use Rattle.read.specs.Read.{value, failure}
-use Rattle.server.specs.Report.{reportRecord}
+use Rattle.report.specs.Report.{reportRecord}
 use Rattle.readers.specs.declared.value.ValueIn.{ValueIn}
 use Rattle.readers.specs.Reading.{span}
 use Rattle.readers.specs.Replies.{readRecord, reportedRecord}

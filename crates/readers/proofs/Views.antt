@@ -10,7 +10,7 @@ use Rattle.write.specs.Reply as Write
 use Rattle.configure.specs.Configure as Configure
 use Rattle.configure.specs.Configuration as Configuration
 use Rattle.discover.specs.Discover.{Discovered}
-use Rattle.server.specs.Report.{ReportRecord}
+use Rattle.report.specs.Report.{ReportRecord}
 use Rattle.readers.specs.declared.value.ValueIn.{ValueIn}
 use Rattle.readers.specs.declared.pass.Count.{Count}
 use Rattle.readers.specs.declared.read_reply.ReadReplyRecord.{ReadReplyRecord}

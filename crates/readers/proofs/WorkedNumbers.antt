@@ -22,7 +22,7 @@ use Rattle.store.specs.Value.{usedOf, valueOf}
 use Rattle.read.specs.Read.{idAt, encode, recordBy, recordFor, readOf}
 use Rattle.server.specs.Serve.{commanded, typed, byHeader, tabled, serve}
 use Rattle.server.specs.Claims.Bench.{T, benchAnswer}
-use Rattle.server.specs.Report.{encode as encodeReport, reportFrom, reportReply, reportOf}
+use Rattle.report.specs.Report.{encode as encodeReport, reportFrom, reportReply, reportOf}
 use Rattle.readers.specs.declared.value.ValueIn.{ValueIn}
 use Rattle.readers.specs.Reading.{Read, read, unreadable, kth, bodyOf, spansIn, spansFrom}
 use Rattle.readers.specs.Layout.{valued, lengthOf}

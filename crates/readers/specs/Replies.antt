@@ -15,7 +15,7 @@ use Rattle.configure.specs.Request.{changeWidth}
 use Rattle.configure.specs.Configure as Configure
 use Rattle.configure.specs.Configuration as Configuration
 use Rattle.discover.specs.Discover as Discover
-use Rattle.server.specs.Report.{ReportRecord, reportRecord}
+use Rattle.report.specs.Report.{ReportRecord, reportRecord}
 use Rattle.readers.specs.declared.layout.Layout.{Layout}
 use Rattle.readers.specs.declared.layout.Layout.the-variants.{ReadStatus, Report, WriteFailure, ConfigureFailure, Setting, Discovered}
 use Rattle.readers.specs.Layout.{lengthOf}

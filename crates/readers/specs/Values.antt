@@ -8,7 +8,7 @@ use lib.ListN.{getD}
 use lib.Dec.{eqb}
 use Rattle.types.specs.Value.{numberAt}
 use Rattle.read.specs.Read.{ReadRecord}
-use Rattle.server.specs.Report.{ReportRecord}
+use Rattle.report.specs.Report.{ReportRecord}
 use Rattle.frame.specs.declared.command_identifier.CommandIdentifier.the-variants.{ReadAttributesResponse, ReportAttributes}
 use Rattle.readers.specs.declared.layout.Layout.the-variants.{ReadStatus, Report}
 use Rattle.readers.specs.declared.value.ValueIn.{ValueIn}

@@ -9,6 +9,7 @@ use lib.ListN.{length, getD, take, drop, set, length-set}
 use lib.Seq.{sets, drop-drop, take-all, take-suc, length-take-le}
 use lib.Dec.{ltb, eqb}
 use lib.IntN.{ℤ}
+use lib.Signed.{mag}
 use borrow.Author.Tests.{eq-eqb, ne-eqb, lt-ltb, le-ltb}
 use Rattle.types.specs.Number.{AllBytes, zeros, unsignedAt}
 use Rattle.frame.specs.declared.answer.Refusal.the-variants.{NotATable}
@@ -20,7 +21,7 @@ use Rattle.reporting.specs.declared.table.Change.the-variants as ChangeV
 use Rattle.reporting.specs.declared.table.Report.the-variants as ReportV
 use Rattle.reporting.specs.declared.table.Setting.{Setting}
 use Rattle.reporting.specs.declared.table.Setting.the-variants as SettingV
-use Rattle.reporting.specs.Entries.{matches, findL, lookupL, updateL, fresh, replaced, acceptsL, configureL, clearL, markE}
+use Rattle.reporting.specs.Entries.{matches, findL, lookupL, updateL, fresh, replaced, acceptsL, configureL, clearL, markE, markL}
 use Rattle.reporting.specs.Due.{dueE, dueO, dueL}
 use Rattle.reporting.specs.Table.{capacity, holding, ReportTold, reportTold, settingTold, settingO, configurationT}
 use Rattle.reporting.specs.Carried.{widths, total, laid, numbersIn, rowsIn, numbersOf, entryOf, countIn, slotsIn, tableIn, tableBytes, isTable, tableRead, readT, written, slotBytes}
@@ -31,7 +32,7 @@ use Rattle.reporting.proofs.Places.{find-le, lookup-at, lookup-none, up
 use Rattle.reporting.proofs.CarriageCode.{entry-at}
 use Rattle.reporting.proofs.CarriageTable.{the-conditions, table-count, table-clean, bytes-back, read-written, read-is}
 use Rattle.reporting.proofs.CarriageLoops.{known-count, slotsFrom, slots-start, slots-more, slots-end}
-use Rattle.reporting.proofs.Kept.{Kept, configure-keeps, clear-keeps}
+use Rattle.reporting.proofs.Kept.{Kept, configure-keeps, clear-keeps, mark-keeps}
 use Rattle.reporting.proofs.Patches.{slot-over, slot-added, slot-gone}
 
 -- ---- one slot
@@ -134,9 +135,6 @@ pub record FoundSlot (bs : List ℕ) (k : Key) (at : ℕ) : Type 0 where
   pub place : at ≡ findL k (tableIn bs)
 
 module _ {bs : List ℕ} {k : Key} {at : ℕ} (found : FoundSlot bs k at) where
-  said-so : {R : Type 0} (refusal : R) (rest : List Entry → R) → rest (tableIn bs) ≡ onLent bs refusal rest
-  said-so refusal rest = known-so bs refusal rest (found .known)
-
   pub absent : countIn bs ≤ at → length (tableIn bs) ≤ findL k (tableIn bs)
   absent h = omega (arith, table-count bs, found .place)
 
@@ -149,19 +147,12 @@ module _ {bs : List ℕ} {k : Key} {at : ℕ} (found : FoundSlot bs k at) where
   found-is : at < countIn bs → lookupL k (tableIn bs) ≡ some (slotEntry bs at)
   found-is h = lookup-at k (tableIn bs) (slotEntry bs at) (present h) ∙ ap some (found-entry (slotEntry bs at) h)
 
-  pub ask-absent : (now : ℕ) (v : ℤ) → countIn bs ≤ at → reportTold ReportV.NotDue ≡ askLent k now v bs
-  unfolding askLent
-  ask-absent now v h =
-      let e : false ≡ dueL k now v (tableIn bs) = sym (ap (λ m. dueO m now v) (lookup-none k (tableIn bs) (absent h))) in
-      ap (λ (x : Bool). record { number = 0; due = x }) e ∙ said-so _ _
+  pub due-absent : (now : ℕ) (v : ℤ) → countIn bs ≤ at → false ≡ dueL k now v (tableIn bs)
+  due-absent now v h = sym (ap (λ m. dueO m now v) (lookup-none k (tableIn bs) (absent h)))
 
   -- A signed argument reaches a callee by its bits, so v′ is v read back.
-  pub ask-is : (e : Entry) (now : ℕ) (v v′ : ℤ) (b : Bool) → e ≡ slotEntry bs at → v′ ≡ v → at < countIn bs → b ≡ dueE e now v′
-      → _≡_ {A = ReportTold} (record { number = 0; due = b }) (askLent k now v bs)
-  unfolding askLent
-  ask-is e now v v′ b ee ev h eb =
-      let d : b ≡ dueL k now v (tableIn bs) = eb ∙ (λ i. dueE (ee i) now (ev i)) ∙ sym (ap (λ m. dueO m now v) (found-is h)) in
-      ap (λ (x : Bool). record { number = 0; due = x }) d ∙ said-so _ _
+  pub due-is : (e : Entry) (now : ℕ) (v v′ : ℤ) (b : Bool) → e ≡ slotEntry bs at → v′ ≡ v → at < countIn bs → b ≡ dueE e now v′ → b ≡ dueL k now v (tableIn bs)
+  due-is e now v v′ b ee ev h eb = eb ∙ (λ i. dueE (ee i) now (ev i)) ∙ sym (ap (λ m. dueO m now v) (found-is h))
 
   pub setting-absent : countIn bs ≤ at → settingTold SettingV.Nothing ≡ configurationT k (holding (tableIn bs))
   setting-absent h = sym (ap settingO (lookup-none k (tableIn bs) (absent h)))
@@ -186,16 +177,12 @@ module _ {bs : List ℕ} {k : Key} {at : ℕ} (found : FoundSlot bs k at) where
         ∙ slot-over capacity (tableIn bs) at e (omega (arith, table-count bs))
         ∙ ap (tableBytes capacity) u
 
-    pub mark-absent : (now : ℕ) (v : ℤ) → countIn bs ≤ at → written true bs ≡ markLent k now v bs
-    unfolding markLent
-    mark-absent now v p =
-        ap (λ (l : List ℕ). written true l) (kept ∙ ap (tableBytes capacity) (sym (update-none k (markE now v) (tableIn bs) (absent p)))) ∙ said-so _ _
+    pub mark-absent : (now : ℕ) (v : ℤ) → countIn bs ≤ at → bs ≡ tableBytes capacity (markL k now v (tableIn bs))
+    mark-absent now v p = kept ∙ ap (tableBytes capacity) (sym (update-none k (markE now v) (tableIn bs) (absent p)))
 
     pub mark-is : (after : List ℕ) (e : Entry) (now : ℕ) (v v′ : ℤ) → v′ ≡ v → e ≡ markE now v′ (slotEntry bs at) → at < countIn bs → after ≡ sets bs (1 + slotBytes * at) (laid widths (numbersOf e))
-        → written true after ≡ markLent k now v bs
-    unfolding markLent
-    mark-is after e now v v′ ev ee p w =
-        ap (λ (l : List ℕ). written true l) (patched after (markE now v) e (ee ∙ ap (λ z. markE now z (slotEntry bs at)) ev) p w) ∙ said-so _ _
+        → after ≡ tableBytes capacity (markL k now v (tableIn bs))
+    mark-is after e now v v′ ev ee p w = patched after (markE now v) e (ee ∙ ap (λ z. markE now z (slotEntry bs at)) ev) p w
 
     -- the answer and the entries by the tests of acceptsL and configureL
     as-configured : (g : ReportingConfig) (a b : Bool) → ltb (findL k (tableIn bs)) (length (tableIn bs)) ≡ a → ltb (length (tableIn bs)) capacity ≡ b
@@ -280,6 +267,9 @@ module _ (bs : List ℕ) (h : AllBytes bs) (t : isTable capacity bs ≡ true) wh
   pub clear-seen : (k : Key) (after : List ℕ) → after ≡ tableBytes capacity (clearL k (tableIn bs)) → readT capacity after ≡ tableRead true (clearL k (tableIn bs))
   clear-seen k after e = let f = clear-keeps capacity k (tableIn bs) fit in ap (readT capacity) e ∙ read-written capacity (clearL k (tableIn bs)) (f .small) (f .clean)
 
+  pub mark-seen : (k : Key) (now : ℕ) (v : ℤ) (after : List ℕ) → now < 2 ^ 32 → mag v < 2 ^ 63 → after ≡ tableBytes capacity (markL k now v (tableIn bs)) → readT capacity after ≡ tableRead true (markL k now v (tableIn bs))
+  mark-seen k now v after n m e = let f = mark-keeps capacity k now v (tableIn bs) n m fit in ap (readT capacity) e ∙ read-written capacity (markL k now v (tableIn bs)) (f .small) (f .clean)
+
   pub configure-seen : (k : Key) (g : ReportingConfig) (answer : Change) (after : List ℕ) → Clean (fresh k g) → leftAs answer after ≡ changed k g (tableIn bs) → keptAs answer after ≡ configureIn k g (tableIn bs)
   unfolding configureIn
   configure-seen k g answer after c e =
@@ -299,6 +289,14 @@ module _ (bs : List ℕ) (t : isTable capacity bs ≡ true) where
   pub setting-known : (k : Key) (answer : Setting) → settingTold answer ≡ configurationT k (holding (tableIn bs)) → settingTold answer ≡ configurationLent k bs
   unfolding configurationLent
   setting-known k answer e = e ∙ known-so bs _ _ t
+
+  pub ask-known : (k : Key) (now : ℕ) (v v′ : ℤ) (b : Bool) → v′ ≡ v → b ≡ dueL k now v′ (tableIn bs) → _≡_ {A = ReportTold} (record { number = 0; due = b }) (askLent k now v bs)
+  unfolding askLent
+  ask-known k now v v′ b ev e = ap (λ (x : Bool). record { number = 0; due = x }) (e ∙ ap (λ z. dueL k now z (tableIn bs)) ev) ∙ known-so bs _ _ t
+
+  pub mark-known : (k : Key) (now : ℕ) (v v′ : ℤ) (after : List ℕ) → AllBytes after → v′ ≡ v → readT capacity after ≡ tableRead true (markL k now v′ (tableIn bs)) → written true after ≡ markLent k now v bs
+  unfolding markLent
+  mark-known k now v v′ after h ev e = ap (λ (l : List ℕ). written true l) (seen-bytes (markL k now v′ (tableIn bs)) after h e ∙ ap (λ z. tableBytes capacity (markL k now z (tableIn bs))) ev) ∙ known-so bs _ _ t
 
   pub clear-known : (k : Key) (after : List ℕ) → AllBytes after → readT capacity after ≡ tableRead true (clearL k (tableIn bs)) → written true after ≡ clearLent k bs
   unfolding clearLent

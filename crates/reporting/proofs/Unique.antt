@@ -22,11 +22,11 @@ use Rattle.reporting.specs.declared.table.Setting.the-variants as Settin
 use Rattle.reporting.specs.declared.table.Length.{Length}
 use Rattle.reporting.specs.declared.table.Length.the-variants as LengthV
 use Rattle.reporting.specs.Table.{capacity, Table, holding, bad, live, tableOf, entriesOf, Alike, ChangeTold, changeTold, ReportTold, reportTold, SettingTold, settingTold, LengthTold, lengthTold, HandedBack, handedBack, configureT, clearT, markT, configurationT, askT, lengthT}
-use Rattle.reporting.specs.Entries.{configureL, clearL}
+use Rattle.reporting.specs.Entries.{configureL, clearL, markL}
 use Rattle.reporting.specs.Carried.{tableIn, tableBytes, isTable, tableRead, Reading, readT, Written, written, writeT}
 use Rattle.reporting.specs.Lent.{askLent, configurationLent, markLent, clearLent, ChangeLeft}
 use Rattle.reporting.specs.Inside.{ChangeKept, configureIn}
-use Rattle.reporting.specs.Claims.Unique.{IsTableOnce, ReadTableOnce, WriteTableOnce, ReadSlotOnce, WriteSlotOnce, DistanceOnce, DistanceByOnce, IsOnce, WishOnce, MovedByOnce, RipeOnce, FreshOnce, IsOfOnce, EntryMarkOnce, ConfigurationInOnce, ConfigureInOnce, ClearInOnce, DueOnce, FindSlotOnce, AskLentOnce, ConfigurationLentOnce, MarkLentOnce, ClearLentOnce, ConfigureLentOnce, U16InOnce, U64InOnce, PutU16InOnce, PutU64InOnce, NewOnce, ConfigureOnce, ClearOnce, ReportingTableMarkOnce, ConfigurationOnce, AskOnce, LenOnce}
+use Rattle.reporting.specs.Claims.Unique.{IsTableOnce, ReadTableOnce, WriteTableOnce, ReadSlotOnce, WriteSlotOnce, DistanceOnce, DistanceByOnce, IsOnce, WishOnce, MovedByOnce, RipeOnce, FreshOnce, IsOfOnce, EntryMarkOnce, ConfigurationInOnce, ConfigureInOnce, DueInOnce, MarkInOnce, ClearInOnce, DueOnce, FindSlotOnce, AskLentOnce, ConfigurationLentOnce, MarkLentOnce, ClearLentOnce, ConfigureLentOnce, U16InOnce, U64InOnce, PutU16InOnce, PutU64InOnce, NewOnce, ConfigureOnce, ClearOnce, ReportingTableMarkOnce, ConfigurationOnce, AskOnce, LenOnce}
 use Rattle.reporting.proofs.CarriageTable.{bytes-back}
 use Rattle.reporting.proofs.Lending.{seen-bytes}
 
@@ -225,6 +225,12 @@ configure-in-once bytes key config r q x y a b e f = (
   change-same r q (ap (λ (z : ChangeKept). z .told) (e ∙ sym f)),
   one-seen (configureL capacity key config (tableIn bytes)) x y a b (ap (λ (z : ChangeKept). z .table) e) (ap (λ (z : ChangeKept). z .table) f),
 )
+
+pub due-in-once : DueInOnce
+due-in-once bytes key time value r q e f = e ∙ sym f
+
+pub mark-in-once : MarkInOnce
+mark-in-once bytes key time value x y a b e f = one-seen (markL key time value (tableIn bytes)) x y a b e f
 
 pub clear-in-once : ClearInOnce
 clear-in-once bytes key x y a b e f = one-seen (clearL key (tableIn bytes)) x y a b e f

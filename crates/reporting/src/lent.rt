@@ -1,13 +1,15 @@
 // The reporting table's operations on the bytes that carry it. They are checked whole; then the slots in question are read where they
 // lie, and only what changes is written. What each says is what the method by value says of the table that the bytes are. The functions
-// `.._in` do not check: they are public for crate `configure` alone, whose caller has asked `is_table` once for a whole request.
+// `.._in`, and `find_slot`, do not check: they are public for the crates that they name, whose callers have asked `is_table` once for a
+// whole request, turn or call.
 ghost use mathlib.Core.Path.{_≡_};
 ghost use mathlib.Core.Bool.{true};
 ghost use Prim.Native.Nat.{_+_, _≤_};
 ghost use lib.ListN.{length, drop};
 ghost use lib.Seq.{sets};
 ghost use Rattle.types.specs.Number.{zeros};
-ghost use Rattle.reporting.specs.Entries.{matches, findL, clearL};
+ghost use Rattle.reporting.specs.Entries.{matches, findL, clearL, markL};
+ghost use Rattle.reporting.specs.Due.{dueL};
 ghost use Rattle.reporting.specs.Table.{capacity, holding, reportTold, settingTold, configurationT};
 ghost use Rattle.reporting.specs.Carried.{widths, numbersIn, entryOf, tableIn, isTable, tableRead, readT, written, slotBytes};
 ghost use Rattle.reporting.specs.Lent.{askLent, configurationLent, markLent, leftAs, configureLent, clearLent};
@@ -56,6 +58,20 @@ pub fn find_slot(bytes: &[u8], key: Key) -> usize
     }
 }
 
+// Whether a report of `value` is due at the time. Public for crate `report` alone, no entry point: the bytes must be a table.
+pub fn due_in(bytes: &[u8], key: Key, time: u32, value: i64) -> bool
+    requires { ⌜ isTable capacity (now bytes) ≡ true ⌝ }
+    ensures { λ r. ⌜ r ≡ dueL key time value (tableIn (now (bytes .entry))) ⌝ }
+{
+    let n = bytes[0] as usize;
+    let at = find_slot(bytes, key);
+    if n <= at {
+        return false;
+    }
+    let e = read_slot(bytes, 1 + SLOT * at);
+    e.due(time, value)
+}
+
 // Whether a report of `value` is due at `now`. The parameter hides the clauses' `now`: a clause says `.now`.
 pub fn ask_lent(bytes: &[u8], key: Key, now: u32, value: i64) -> Report
     ensures { λ r. ⌜ reportTold r ≡ askLent key now value (bytes .entry .now) ⌝ }
@@ -63,13 +79,7 @@ pub fn ask_lent(bytes: &[u8], key: Key, now: u32, value: i64) -> Report
     if !is_table(bytes) {
         return Report::Refused(Refusal::NotATable);
     }
-    let n = bytes[0] as usize;
-    let at = find_slot(bytes, key);
-    if n <= at {
-        return Report::NotDue;
-    }
-    let e = read_slot(bytes, 1 + SLOT * at);
-    if e.due(now, value) {
+    if due_in(bytes, key, now, value) {
         return Report::Due;
     }
     Report::NotDue
@@ -100,6 +110,22 @@ pub fn configuration_lent(bytes: &[u8], key: Key) -> Setting
     configuration_in(bytes, key)
 }
 
+// Keeps the time and the value of a report. Public for crate `report` alone, no entry point: the bytes must be a table.
+pub fn mark_in(bytes: &mut [u8], key: Key, time: u32, value: i64)
+    requires { ⌜ isTable capacity (now bytes) ≡ true ⌝ }
+    ensures { λ _. ⌜ readT capacity (now (bytes .exit)) ≡ tableRead true (markL key time value (tableIn (now (bytes .entry)))) ⌝ }
+{
+    let n = bytes[0] as usize;
+    let at = find_slot(bytes, key);
+    if n <= at {
+        return;
+    }
+    let place = 1 + SLOT * at;
+    let e = read_slot(bytes, place);
+    let marked = e.mark(time, value);
+    write_slot(bytes, place, marked);
+}
+
 // Keeps the time and the value of a report, and says whether the bytes were a table; otherwise they are as they were.
 pub fn mark_lent(bytes: &mut [u8], key: Key, now: u32, value: i64) -> bool
     ensures { λ r. ⌜ written r (bytes .exit .now) ≡ markLent key now value (bytes .entry .now) ⌝ }
@@ -107,15 +133,7 @@ pub fn mark_lent(bytes: &mut [u8], key: Key, now: u32, value: i64) -> bool
     if !is_table(bytes) {
         return false;
     }
-    let n = bytes[0] as usize;
-    let at = find_slot(bytes, key);
-    if n <= at {
-        return true;
-    }
-    let place = 1 + SLOT * at;
-    let e = read_slot(bytes, place);
-    let marked = e.mark(now, value);
-    write_slot(bytes, place, marked);
+    mark_in(bytes, key, now, value);
     true
 }
 

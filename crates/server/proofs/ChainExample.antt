@@ -16,7 +16,7 @@ use Rattle.read.specs.Read.{idAt, encode, recordBy, recordFor, readOf}
 use Rattle.server.specs.DefaultResponse.{defaultReply, defaultResponse}
 use Rattle.server.specs.Serve.{commanded, typed, byHeader, tabled, serve}
 use Rattle.server.specs.UnsupportedCluster.{isServed, respond, unsupportedCluster}
-use Rattle.server.specs.Report.{encode as encode-report, reportFrom, reportReply, reportOf}
+use Rattle.report.specs.Report.{encode as encode-report, reportFrom, reportReply, reportOf}
 use Rattle.server.specs.Claims.Chain.{chain}
 use Rattle.server.specs.Claims.ChainExample.{ChainsAre}
 

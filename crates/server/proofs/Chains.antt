@@ -31,7 +31,7 @@ use Rattle.reporting.specs.Table.{Table, holding}
 use Rattle.server.specs.DefaultResponse.{defaultResponse}
 use Rattle.server.specs.Serve.{state, commanded, typed, byHeader, tabled, serve}
 use Rattle.server.specs.UnsupportedCluster.{isServed, isDefaultResponse, respond, unsupportedCluster}
-use Rattle.server.specs.Report.{unasked, reportOf}
+use Rattle.report.specs.Report.{unasked, reportOf}
 use Rattle.server.specs.Claims.Starts.{replyTo, answering}
 use Rattle.server.specs.Claims.Chain.{Box, serving, responding, sent, answerOf, onward, chain, DefaultResponseGetsNothing, DefaultResponseUnanswered, IsDefaultResponse, AnswerToAnswer, AnswerToReport, ChainEnds, ReportChainEnds}
 use Rattle.server.proofs.Cases.{passed-case}

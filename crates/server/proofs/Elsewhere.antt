@@ -22,7 +22,7 @@ use Rattle.store.specs.declared.lookup.Found.the-variants.{At, Nothing}
 use Rattle.store.specs.Contents.{nameOf, findOf, reportable}
 use Rattle.store.specs.Layout.{isStore}
 use Rattle.server.specs.Claims.Left.{ResponderClears, ResponderThenZeros, ResponderLength, ReportClears, ReportThenZeros, ReportLength}
-use Rattle.server.specs.Report.{ReportRecord, encode, recordOf, Reported, all, trouble, reportBy, reportOne, goesOn, reportFrom, reportReply, unasked, reportOf}
+use Rattle.report.specs.Report.{ReportRecord, encode, recordOf, Reported, all, trouble, reportBy, reportOne, goesOn, reportFrom, reportReply, unasked, reportOf}
 use Rattle.server.specs.UnsupportedCluster.{isServed, isDefaultResponse, respond, unsupportedCluster}
 use Rattle.server.proofs.Shapes.{default-shape}
 use Rattle.server.proofs.Says.{Says, sends, declines, says-either, says-clears, says-zeros, says-long, shape-says}

@@ -1,5 +1,5 @@
--- What a request made of bytes configures is within the widths of a table's bytes. Assumes nothing.
-use mathlib.Core.Path.{refl, subst}
+-- What a request made of bytes configures, and what a turn over bytes marks, is within the widths of a table's bytes. Assumes nothing.
+use mathlib.Core.Path.{_≡_, refl, subst}
 use mathlib.Core.Bool.{Bool, true, false, cond, _&&_}
 use mathlib.Core.List.{List, [], _∷_, _++_}
 use Prim.Native.Nat.{ℕ, min, _+_, _-_, _*_, _^_, _≤_, _<_}
@@ -7,14 +7,17 @@ use native.Mathlib.Omega.{arith}
 use lib.ListN.{length, getD, drop}
 use lib.Dec.{leb, eqb}
 use lib.Pow.{pow-mono}
+use lib.IntN.{pos}
 use lib.Signed.{mag}
+use borrow.Author.Tests.{leb-true}
 use Rattle.types.specs.declared.ids.Size.{Size}
 use Rattle.types.specs.declared.ids.Size.the-variants as SizeV
-use Rattle.types.specs.Number.{AllBytes, unsignedAt}
+use Rattle.types.specs.declared.value.Number.the-variants.{Value, None}
+use Rattle.types.specs.Number.{AllBytes, unsignedAt, signedAt}
 use Rattle.types.specs.Ids.{sizeOf, isAnalog, isSigned, isFloat}
-use Rattle.types.specs.Value.{changeBy, changeAt}
+use Rattle.types.specs.Value.{plainAt, numberBy, numberAt, changeBy, changeAt}
 use Rattle.types.proofs.Numbers.{bytes-drop, unsigned-below}
-use Rattle.types.proofs.Readings.{magnitude-within}
+use Rattle.types.proofs.Readings.{signed-in, magnitude-within}
 use Rattle.frame.specs.declared.header.ZclHeader.{ZclHeader}
 use Rattle.frame.specs.declared.header.HeaderRead.{HeaderRead}
 use Rattle.frame.specs.declared.header.HeaderRead.the-variants.{Header, Short}
@@ -23,8 +26,10 @@ use Rattle.frame.specs.Header.{frameTypeOf, headerOf, isGlobal}
 use Rattle.frame.specs.CommandIdentifier.{commandCode}
 use Rattle.frame.specs.Walk.{Item, item, unread, recordsFrom, All}
 use Rattle.frame.proofs.Walks.{records-all}
+use Rattle.store.specs.declared.lookup.Attribute.{Attribute}
 use Rattle.store.specs.Contents.{clusterOf}
 use Rattle.store.specs.Layout.{isStore}
+use Rattle.store.specs.Value.{numberedBy}
 use Rattle.reporting.specs.declared.entry.Key.{Key}
 use Rattle.reporting.specs.declared.entry.ReportingConfig.{ReportingConfig}
 use Rattle.reporting.specs.declared.entry.Entry.{Entry}
@@ -34,6 +39,8 @@ use Rattle.reporting.specs.declared.entry.Wish.{Wish}
 use Rattle.reporting.specs.declared.entry.Wish.the-variants.{ToClear, ToRefuse, ToSet}
 use Rattle.reporting.specs.Wish.{wish}
 use Rattle.reporting.specs.Claims.Events.{Event, configured, cleared, asked, marked, eventsW}
+use Rattle.report.specs.Turn.{orZero, valueIn}
+use Rattle.report.specs.Claims.History.{marking}
 use Rattle.configure.specs.Request.{keyFor, ConfigureRecord, received, reported, configAt, configureAt, configures, changeWidth}
 use Rattle.configure.specs.Claims.History.{doneEvents, configureEvents}
 use Rattle.configure.proofs.History.{configure-keeps}
@@ -146,3 +153,40 @@ module _ (limit : ℕ) (r : Request) (l : List Entry) (store : AllBytes (r .stor
   pub request-fits : AllFit (requestEvents limit r l)
   unfolding requestEvents
   request-fits = fit-either (isStore 8 (r .store) && eqb (r .cluster) (clusterOf (r .store))) _ (headed-fits (headerOf (r .frame)))
+
+-- ---- of a turn
+
+signed-fits : (s : List ℕ) (p w : ℕ) → AllBytes s → w ≤ 8 → mag (signedAt s p w) < 2 ^ 63
+unfolding signedAt
+signed-fits s p w h k =
+    let m = signed-in w (unsignedAt s p w) (unsigned-below s p w h) in
+    let q : 2 ^ (8 * w - 1) ≤ 2 ^ 63 = pow-mono {i = 8 * w - 1} {j = 63} (omega arith) in
+    omega arith
+
+plain-fits : (s : List ℕ) (p w : ℕ) → AllBytes s → w ≤ 8 → mag (plainAt s p w) < 2 ^ 63
+plain-fits s p w h k = go (leb w 7) refl
+  where
+    go : (b : Bool) → leb w 7 ≡ b → mag (cond b (pos (unsignedAt s p w)) (signedAt s p 8)) < 2 ^ 63
+    go true e =
+        let m = unsigned-below s p w h in
+        let n = leb-true w 7 e in
+        let q : 2 ^ (8 * w) ≤ 2 ^ 56 = pow-mono {i = 8 * w} {j = 56} (omega arith) in
+        omega arith
+    go false e = signed-fits s p 8 h (omega arith)
+
+number-fits : (x : Size) (signed : Bool) (s : List ℕ) (p : ℕ) → AllBytes s → mag (orZero (numberedBy (numberBy x signed s p))) < 2 ^ 63
+number-fits SizeV.Varies signed s p h = omega arith
+number-fits (SizeV.Bytes w) signed s p h = go (leb w 8) refl signed
+  where
+    go : (b : Bool) → leb w 8 ≡ b → (signed : Bool) → mag (orZero (numberedBy (cond b (Value (cond signed (signedAt s p w) (plainAt s p w))) None))) < 2 ^ 63
+    go true e true = signed-fits s p w h (leb-true w 8 e)
+    go true e false = plain-fits s p w h (leb-true w 8 e)
+    go false e signed = omega arith
+
+value-fits : (s : List ℕ) (a : Attribute) → AllBytes s → mag (valueIn s a) < 2 ^ 63
+unfolding numberAt
+value-fits s a h = number-fits (sizeOf (a .«type_id» .0)) (isSigned (a .«type_id» .0)) s (a .offset) h
+
+pub marking-fits : (s : List ℕ) (now : ℕ) (w : List Attribute) → AllBytes s → now < 2 ^ 32 → AllFit (marking s now w)
+marking-fits s now [] h n = tt
+marking-fits s now (a ∷ w) h n = ((n, value-fits s a h), marking-fits s now w h n)

@@ -34,7 +34,7 @@ use Rattle.server.proofs.Histories.{request-is, uses-are-events}
 
 -- ---- every configuration among the events is one that the record's rule accepts
 
-abbrev Ruled : List Event → Type 0
+abbrev pub Ruled : List Event → Type 0
 Ruled [] = Unit {0}
 Ruled (configured k g ∷ es) = (wish g ≡ ToSet) × Ruled es
 Ruled (cleared k ∷ es) = Ruled es
@@ -48,7 +48,7 @@ ruled-append (cleared j ∷ es) fs h k = ruled-append es fs h k
 ruled-append (asked j now v a ∷ es) fs h k = ruled-append es fs h k
 ruled-append (marked j now v ∷ es) fs h k = ruled-append es fs h k
 
-ruled-at : (es : List Event) (k : Key) (g : ReportingConfig) (fs : List Event) → Ruled (es ++ (configured k g ∷ fs)) → wish g ≡ ToSet
+pub ruled-at : (es : List Event) (k : Key) (g : ReportingConfig) (fs : List Event) → Ruled (es ++ (configured k g ∷ fs)) → wish g ≡ ToSet
 ruled-at [] k g fs h = h .0
 ruled-at (configured j f ∷ es) k g fs h = ruled-at es k g fs (h .1)
 ruled-at (cleared j ∷ es) k g fs h = ruled-at es k g fs h

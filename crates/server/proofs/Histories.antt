@@ -1,4 +1,4 @@
--- A served request is its events, and leaves a table of entries again; so requests and direct calls, one after the other, are their events.
+-- A served request is its events, and leaves a table of entries again; so requests, direct calls and turns, one after the other, are their events.
 -- Assumes nothing.
 use mathlib.Core.Path.{_≡_, refl, sym, ap, _∙_, subst}
 use mathlib.Core.Bool.{Bool, true, false, cond, _&&_}
@@ -28,11 +28,12 @@ use Rattle.reporting.specs.declared.entry.Entry.{Entry}
 use Rattle.reporting.specs.Table.{Table, holding, entriesOf}
 use Rattle.reporting.specs.Claims.Events.{Event, Leads}
 use Rattle.reporting.proofs.Histories.{call-is, leads-then}
+use Rattle.report.proofs.Rows.{turn-leads}
 use Rattle.configure.specs.Configure.{configureOf}
 use Rattle.configure.specs.Claims.History.{configureEvents}
 use Rattle.configure.proofs.History.{configure-leads}
 use Rattle.server.specs.Serve.{state, commanded, typed, byHeader, tabled, serve}
-use Rattle.server.specs.Claims.History.{Request, requested, headedEvents, requestEvents, Use, request, direct, used, useEvents, uses, usesEvents, UsesAreEvents}
+use Rattle.server.specs.Claims.History.{Request, requested, headedEvents, requestEvents, Use, request, direct, turn, used, useEvents, uses, usesEvents, UsesAreEvents}
 use Rattle.server.proofs.Cases.{commanded-case, serve-case}
 
 -- no events leave the entries
@@ -124,9 +125,10 @@ module _ (limit : ℕ) (r : Request) where
 
 -- ---- uses
 
-use-is : (limit : ℕ) (u : Use) (l : List Entry) → Leads limit (useEvents limit u l) l (used limit u l)
+pub use-is : (limit : ℕ) (u : Use) (l : List Entry) → Leads limit (useEvents limit u l) l (used limit u l)
 use-is limit (request r) l = request-is limit r l
 use-is limit (direct c) l = call-is limit c l
+use-is limit (turn u) l = turn-leads 8 limit u l
 
 pub uses-are-events : UsesAreEvents
 uses-are-events limit [] l = nothing limit l

@@ -1,9 +1,6 @@
 -- The laws that this crate's proofs and its clients' cite, a file for an idea.
 pub mod Defaults  -- the ways of a Default Response
 pub mod Listed  -- a cluster among those that are served, and the ways of the responder
-pub mod Turns  -- one id of a report
-pub mod Going  -- the loop over the ids of a report
-pub mod Whole  -- a report: the store, the header, the list, its ids
 pub mod Commands  -- the commands by their tags, and those that need no table
 pub mod Served  -- the checks one by one, over bytes and over a value
 pub mod Cases  -- one case split for each of the server's definitions
@@ -13,6 +10,7 @@ pub mod Shapes  -- the shape of every command's outcome
 pub mod Says  -- a call replies or refuses, and its reply buffer is left so
 pub mod Refusals  -- what every answer leaves
 pub mod Elsewhere  -- what the responder and a report leave
+pub mod TurnsLeft  -- what a report turn leaves
 pub mod Starting  -- how every reply starts
 pub mod Chains  -- a chain of replies ends
 pub mod ChainExample  -- chains over store T, computed
@@ -32,6 +30,9 @@ pub mod Unique  -- no second answer fits
 pub mod Histories  -- a request is its events
 pub mod Frames  -- demand 3 with frames
 pub mod Accepting  -- a record that the reply does not fail is configured
+pub mod Turns  -- report turns among requests and direct calls
+pub mod Bytes  -- bytes, by a test
+pub mod TurnExample  -- turns over store T, computed
 pub mod WorkedFrames  -- a served history that meets its suppositions
 pub mod Logged  -- demand 3 of what the code answered
 pub mod LogExample  -- a log that meets its suppositions

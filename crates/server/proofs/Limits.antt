@@ -26,7 +26,7 @@ use Rattle.configure.specs.Configure.{configureOf}
 use Rattle.configure.specs.Claims.Limits.{FrameWithin}
 use Rattle.configure.proofs.Limits.{configure-limits-agree}
 use Rattle.server.specs.Serve.{State, state, tabling, commanded, typed, byHeader, tabled, serve}
-use Rattle.server.specs.Claims.History.{Request, requested, Use, request, direct, used, uses}
+use Rattle.server.specs.Claims.History.{Request, requested, Use, request, direct, turn, used, uses}
 use Rattle.server.specs.Claims.Limits.{served, RequestWithin, ServeLimitsAgree, outcome, said, given, allGiven, UseWithin, UsesWithin, UsesLimitsAgree, UsesSixteenAsBefore}
 
 module _ (small large : ℕ) (order : small ≤ large) (r : Request) (l : List Entry) (h : RequestWithin small large r l) where
@@ -93,6 +93,7 @@ use-same small large (request r) l order few h k =
     let s = serve-limits-agree small large r l order h in
     record { gives = ap outcome s; leaves = ap (λ (o : Outcome State). entriesOf (o .state .table)) s }
 use-same small large (direct c) l order few h k = let a = agree small large order l few c k in record { gives = ap said (a .said); leaves = a .left }
+use-same small large (turn u) l order few h k = record { gives = refl; leaves = refl }
 
 pub uses-limits-agree : UsesLimitsAgree
 uses-limits-agree small large [] l order h = (refl, refl)

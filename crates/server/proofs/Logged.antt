@@ -19,13 +19,12 @@ use Rattle.reporting.specs.Demand3.{Supposed, Promised, asksOf}
 use Rattle.reporting.specs.Claims.Log.{ifAccepted, ifAnswered}
 use Rattle.reporting.specs.Claims.Log as Method
 use Rattle.reporting.proofs.Histories.{configure-refused}
-use Rattle.reporting.proofs.Histories as direct-call
 use Rattle.reporting.proofs.Kept.{Quiet, run-quiet, quiet-same}
 use Rattle.server.specs.Serve.{State, serve}
 use Rattle.server.specs.Claims.History.{requested, requestEvents, Use, direct, used, useEvents, uses, usesEvents}
 use Rattle.server.specs.Claims.History as History
 use Rattle.server.specs.Claims.Log.{Made, request, method, Contract, next, last, Log, eventsOf, allEventsOf, Demand3OfServer}
-use Rattle.server.proofs.Histories.{request-is, request-holds}
+use Rattle.server.proofs.Histories.{use-is, request-holds}
 use Rattle.server.proofs.Frames.{demand-3-of-frames}
 
 -- ---- a call is a use
@@ -81,8 +80,7 @@ call-is (method (Method.configuration k r)) t l d e h = record { events = refl; 
 call-is (method (Method.len r)) t l d e h = record { events = refl; table = e }
 
 used-quiet : (u : Use) (l : List Entry) → All Quiet l → All Quiet (used capacity u l)
-used-quiet (History.request r) l h = subst (All Quiet) (request-is capacity r l .table) (run-quiet capacity (requestEvents capacity r l) l h)
-used-quiet (direct c) l h = subst (All Quiet) (direct-call.call-is capacity c l .table) (run-quiet capacity (Event.events capacity c l) l h)
+used-quiet u l h = subst (All Quiet) (use-is capacity u l .table) (run-quiet capacity (useEvents capacity u l) l h)
 
 -- ---- and so a log is uses
 

@@ -15,7 +15,7 @@ use Rattle.frame.specs.CommandIdentifier.{commandOf}
 use Rattle.frame.specs.Header.{frameTypeOf, headerOf, replyHead}
 use Rattle.reporting.specs.declared.entry.Entry.{Entry}
 use Rattle.reporting.specs.Table.{Table, holding}
-use Rattle.server.specs.Report.{unasked}
+use Rattle.report.specs.Report.{unasked}
 use Rattle.server.specs.Serve.{typed, byHeader, serve}
 use Rattle.server.specs.Claims.Starts.{answering, RepliesStart, ResponsesStart, ReportsStart}
 use Rattle.server.specs.UnsupportedCluster.{unsupportedCluster}

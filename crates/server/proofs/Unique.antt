@@ -11,11 +11,10 @@ use Rattle.reporting.specs.Lent.{quietedT}
 use Rattle.reporting.proofs.Unique.{alike}
 use Rattle.server.specs.declared.serve.Served.{Served}
 use Rattle.server.specs.DefaultResponse.{defaultResponse}
-use Rattle.server.specs.Report.{reportOf}
 use Rattle.server.specs.Serve.{State, state, serve}
 use Rattle.server.specs.Lent.{Lent, lent, serveLent}
 use Rattle.server.specs.UnsupportedCluster.{unsupportedCluster}
-use Rattle.server.specs.Claims.Unique.{DefaultResponseOnce, ReportOnce, HandleRequestLentOnce, HandleRequestOnce, UnsupportedClusterOnce}
+use Rattle.server.specs.Claims.Unique.{DefaultResponseOnce, HandleRequestLentOnce, HandleRequestOnce, UnsupportedClusterOnce}
 
 -- ---- what is seen of a call tells all that it left
 
@@ -29,11 +28,6 @@ one-served o a b d e s u p q =
 
 pub default-response-once : DefaultResponseOnce
 default-response-once request unicast status reply r q x y e f = only-answer (defaultResponse request unicast status (length reply)) r q x y e f
-
--- src/report.rt
-
-pub report-once : ReportOnce
-report-once store sequence ids frame r q x y e f = only-answer (reportOf 8 store sequence ids (length frame)) r q x y e f
 
 -- src/serve.rt
 

@@ -12,11 +12,13 @@ pub mod ChainExample  -- chains over store T, computed
 pub mod Indifferent  -- what does not affect an answer
 pub mod WithoutTable  -- frames that have nothing to do with the table
 pub mod Bench  -- the starred bench frames, as one list under one claim
-pub mod History  -- requests and direct calls, as the events of a reporting table
+pub mod History  -- requests, direct calls and report turns, as the events of a reporting table
 pub mod Demand3  -- demand 3 with frames
 pub mod Accepted  -- what a reply tells of a configuration
 pub mod Log  -- what the code answered, and demand 3 of it
 pub mod ServedHistory  -- a history that meets what demand 3 supposes
 pub mod LogExample  -- a log that meets what demand 3 of the code supposes
+pub mod Turns  -- report turns among requests and direct calls
+pub mod TurnExample  -- turns over store T, computed
 pub mod Limits  -- the same under two limits
 pub mod Unique  -- no second answer fits a contract

@@ -5,7 +5,6 @@ pub mod DefaultResponse  -- the Default Response
 pub mod Serve  -- a request served: the order of refusals, and the commands
 pub mod Lent  -- the same over bytes that carry the table
 pub mod UnsupportedCluster  -- the responder for clusters that are not served
-pub mod Report  -- the Report Attributes frame
 -- what is claimed of them
 pub mod Claims
 -- what only inner functions say

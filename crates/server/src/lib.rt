@@ -1,6 +1,5 @@
-// The server (ZCL 2.5): a request dispatched to its command, Default Responses, the responder for clusters that are not served, and
-// the Report Attributes frame. After server.rs and AttributeReportBuilder of zigbee-rs.
+// The server (ZCL 2.5): a request dispatched to its command, Default Responses, and the responder for clusters that are not served. After
+// server.rs of zigbee-rs.
 pub mod default_response;
-pub mod report;
 pub mod serve;
 pub mod unsupported_cluster;

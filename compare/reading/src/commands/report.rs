@@ -22,8 +22,8 @@ fn reported(store: &[u8], sequence: u8, ids: &[u16], room: usize) -> Served {
     frame.done()
 }
 
-/// `None` where the attribute is missing or not reportable.
-fn record(store: &[u8], id: u16) -> Option<Vec<u8>> {
+/// Id, type, value; `None` where the attribute is missing or not reportable.
+pub(super) fn record(store: &[u8], id: u16) -> Option<Vec<u8>> {
     let attribute = find(store, id).filter(|attribute| attribute.access & 2 != 0)?;
     Some([&id_bytes(id)[..], &[attribute.type_code], value(store, id)?].concat())
 }

@@ -4,7 +4,7 @@
 use mathlib.Core.Path.{_≡_}
 use mathlib.Core.Bool.{true, false, cond}
 use mathlib.Core.List.{List, []}
-use Prim.Native.Nat.{ℕ, _<_}
+use Prim.Native.Nat.{ℕ, _^_, _<_}
 use lib.ListN.{length}
 use Rattle.types.specs.Number.{AllBytes}
 use Rattle.frame.specs.declared.header.ZclHeader.{ZclHeader}
@@ -20,12 +20,13 @@ use Rattle.reporting.specs.declared.entry.Key.{Key}
 use Rattle.reporting.specs.declared.entry.ReportingConfig.{ReportingConfig}
 use Rattle.reporting.specs.Table.{capacity}
 use Rattle.reporting.specs.Carried.{sizeOk, isTable, tableBytes}
+use Rattle.report.specs.Turn.{After, afterTurn}
 use Rattle.server.specs.Lent.{Lent, lent}
 use Rattle.server.specs.Claims.Left.{Clears, ThenZeros, AsLong, Early}
 use Rattle.server.specs.Claims.Starts.{Starts, answering}
 use Rattle.hingedrift.specs.Tables.{left, noResult, configureLeft}
 use Rattle.hingedrift.specs.Saving.{saveLeft, restoreLeft}
-use Rattle.hingedrift.specs.Serving.{unsupportedLeft, reportLeft, handleLeft}
+use Rattle.hingedrift.specs.Serving.{unsupportedLeft, reportLeft, turnLeft, handleLeft}
 
 -- ---- hd_handle_request
 
@@ -113,6 +114,38 @@ HdReportLength = OfEveryReport (λ size o. AsLong size o)
 
 abbrev pub HdReportStarts : Type 0
 HdReportStarts = (s : List ℕ) (sequence : ℕ) (ids : List ℕ) (size : ℕ) → Starts sequence ReportAttributes (reportLeft s sequence ids size)
+
+-- ---- hd_report_turn
+
+-- for every store, table, sequence number, time, last id and size of the frame buffer: P of this size, of table and last id as they came, and of what is left
+abbrev pub OfEveryTurn : (ℕ → After → Outcome After → Type 0) → Type 0
+OfEveryTurn P = (s bs : List ℕ) (sequence now last size : ℕ) → P size (afterTurn bs last) (turnLeft s bs sequence now last size)
+
+abbrev pub HdReportTurnClears : Type 0
+HdReportTurnClears = OfEveryTurn (λ size came o. Clears size o)
+
+abbrev pub HdReportTurnThenZeros : Type 0
+HdReportTurnThenZeros = OfEveryTurn (λ size came o. ThenZeros size o)
+
+abbrev pub HdReportTurnLength : Type 0
+HdReportTurnLength = OfEveryTurn (λ size came o. AsLong size o)
+
+-- where the number is not 0, the table and the last id are as they came
+abbrev pub HdReportTurnUntouched : Type 0
+HdReportTurnUntouched = OfEveryTurn (λ size came o. (o .number ≡ 0 → ⊥) → o .state ≡ came)
+
+-- a table stays a table, of the same length, over a store of bytes and at a time of 32 bits
+abbrev pub HdReportTurnTableStays : Type 0
+HdReportTurnTableStays =
+    (s bs : List ℕ) (sequence now last size : ℕ)
+    → AllBytes s
+    → AllBytes bs
+    → now < 2 ^ 32
+    → isTable capacity bs ≡ true
+    → (isTable capacity (turnLeft s bs sequence now last size .state .table) ≡ true) × (length (turnLeft s bs sequence now last size .state .table) ≡ length bs)
+
+abbrev pub HdReportTurnStarts : Type 0
+HdReportTurnStarts = (s bs : List ℕ) (sequence now last size : ℕ) → Starts sequence ReportAttributes (turnLeft s bs sequence now last size)
 
 -- ---- hd_configure
 

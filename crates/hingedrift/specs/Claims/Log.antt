@@ -21,10 +21,13 @@ use Rattle.reporting.specs.Carried.{tableIn}
 use Rattle.reporting.specs.Claims.Events.{Event, configured, cleared, asked, marked, clearings, settings}
 use Rattle.reporting.specs.Demand3.{Supposed, Promised, asksOf}
 use Rattle.saved.specs.Saved.{savedIn, formIn}
+use Rattle.report.specs.Turn.{Turn, turnFor, afterTurn}
+use Rattle.report.specs.Claims.Turns.{frameOf}
+use Rattle.report.specs.Claims.History.{marking}
 use Rattle.server.specs.Claims.History.{Request, requestEvents}
 use Rattle.hingedrift.specs.Tables.{keyAs, configOf, left, noResult, Configuration, newLeft, configureLeft, clearLeft, markLeft, askLeft, configurationLeft}
 use Rattle.server.specs.Lent.{lent}
-use Rattle.hingedrift.specs.Serving.{handed, isUnicast, handleLeft}
+use Rattle.hingedrift.specs.Serving.{handed, isUnicast, turnLeft, handleLeft}
 use Rattle.hingedrift.specs.Saving.{saveLeft, restoreLeft}
 
 -- ---- calls
@@ -59,6 +62,20 @@ pub record Handled : Type 0 where
   pub store-after : List ℕ
   pub table-after : List ℕ
 
+-- a turn: store, sequence number, time, last id and the size of the frame buffer; and what hd_report_turn gave back: its number, what it put through
+-- `frame_used` and `last`, and the frame buffer and the table's bytes afterwards
+pub record Turning : Type 0 where
+  pub store : List ℕ
+  pub sequence : ℕ
+  pub now : ℕ
+  pub last : ℕ
+  pub size : ℕ
+  pub number : ℕ
+  pub used : ℕ
+  pub frame : List ℕ
+  pub table-after : List ℕ
+  pub last-after : ℕ
+
 -- a call with its arguments, the number that it gave back, what it put through `accepted`, `due` or the five of a configuration, and the table's bytes
 -- afterwards where it may change them; of hd_save the size of the buffer, the number, `saved_used` and the buffer, of hd_restore the bytes that were to be
 -- read, the number and the table. hd_table_new is none of them: a log may begin with it.
@@ -71,6 +88,7 @@ pub data Made : Type 0 where
   handle : Handled → Made
   save : ℕ → ℕ → ℕ → List ℕ → Made
   restore : List ℕ → ℕ → List ℕ → Made
+  turn : Turning → Made
 
 abbrev pub keyAt : Target → Key
 keyAt a = keyAs (a .cluster) (a .attribute)
@@ -90,6 +108,9 @@ Contract (handle h) bs =
     ≡ handleLeft (h .store) bs (h .cluster) (h .unicast) (h .frame) (h .size)
 Contract (save size number used buffer) bs = handed number used buffer noState ≡ saveLeft bs size
 Contract (restore form number table) bs = left number table noResult ≡ restoreLeft bs form
+Contract (turn t) bs =
+    handed (t .number) (t .used) (t .frame) (afterTurn (t .table-after) (t .last-after))
+    ≡ turnLeft (t .store) bs (t .sequence) (t .now) (t .last) (t .size)
 
 -- what the types of the arguments say, of those that go into the table: uint16_t, uint64_t, uint32_t, int64_t, and bytes
 abbrev pub Typed : Made → Type 0
@@ -102,6 +123,7 @@ Typed (configuration a number found) = Unit
 Typed (handle h) = AllBytes (h .store) × AllBytes (h .frame)
 Typed (save size number used buffer) = Unit
 Typed (restore form number table) = AllBytes form
+Typed (turn t) = AllBytes (t .store) × (t .now < 2 ^ 32)
 
 -- the bytes that the caller has then
 abbrev pub next : Made → List ℕ → List ℕ
@@ -113,6 +135,7 @@ next (configuration a number found) bs = bs
 next (handle h) bs = h .table-after
 next (save size number used buffer) bs = bs
 next (restore form number table) bs = table
+next (turn t) bs = t .table-after
 
 abbrev pub last : List Made → List ℕ → List ℕ
 last [] bs = bs
@@ -128,12 +151,15 @@ Log bs (c ∷ cs) = Typed c × Contract c bs × Log (next c bs) cs
 abbrev pub requestOf : Handled → Request
 requestOf h = record { store = h .store; cluster = h .cluster; unicast = isUnicast (h .unicast); frame = h .frame; room = h .size }
 
+abbrev pub turnAs : Turning → Turn
+turnAs t = turnFor (t .store) (t .sequence) (t .last) (t .now) (t .size)
+
 -- what hd_restore read in, by its number
 abbrev pub come : List ℕ → ℕ → List Entry
 come form number = cond (eqb number 0) (savedIn (formIn form) form) []
 
 -- by what a call gave back: what was not accepted, or refused with a number, is none; the answer of an ask is its `due`. A request's are by the table that
--- it was called on. A read, refused or not, clears what stood and configures what it read.
+-- it was called on, and so are a turn's, the marks of what it wrote. A read, refused or not, clears what stood and configures what it read.
 abbrev pub eventsOf : Made → List ℕ → List Event
 eventsOf (configure a g number accepted table) bs = cond (eqb accepted 1) (configured (keyAt a) (configAs g) ∷ []) []
 eventsOf (clear a number table) bs = cond (eqb number 0) (cleared (keyAt a) ∷ []) []
@@ -143,6 +169,7 @@ eventsOf (configuration a number found) bs = []
 eventsOf (handle h) bs = requestEvents capacity (requestOf h) (tableIn bs)
 eventsOf (save size number used buffer) bs = []
 eventsOf (restore form number table) bs = clearings (tableIn bs) ++ settings (come form number)
+eventsOf (turn t) bs = marking (t .store) (t .now) (frameOf 8 (turnAs t) (tableIn bs))
 
 abbrev pub allEventsOf : List Made → List ℕ → List Event
 allEventsOf [] bs = []

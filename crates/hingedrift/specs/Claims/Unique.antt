@@ -7,8 +7,9 @@ use lib.ListN.{length}
 use lib.IntN.{ℤ}
 use Rattle.frame.specs.Answer.{noState}
 use Rattle.hingedrift.specs.Tables.{keyAs, configOf, left, noResult, configurationAs, newLeft, configureLeft, clearLeft, markLeft, askLeft, configurationLeft}
+use Rattle.report.specs.Turn.{afterTurn}
 use Rattle.server.specs.Lent.{lent}
-use Rattle.hingedrift.specs.Serving.{handed, numberHanded, numberLeft, unsupportedLeft, reportLeft, handleLeft}
+use Rattle.hingedrift.specs.Serving.{handed, numberHanded, numberLeft, unsupportedLeft, reportLeft, turnLeft, handleLeft}
 use Rattle.hingedrift.specs.Saving.{saveLeft, restoreLeft}
 use Rattle.readers.specs.Told.{told, valueAs, readAs, reportAs, writeAs, configureAs, settingAs, sizedAs, discoverAs, responseAs}
 use Rattle.hingedrift.specs.Reading.{readChecked, writeChecked, configureChecked, configurationChecked, reportChecked, discoverChecked}
@@ -42,6 +43,13 @@ HdReportOnce =
     → handed r m x noState ≡ reportLeft store sequence ids (length frame)
     → handed q n y noState ≡ reportLeft store sequence ids (length frame)
     → (r ≡ q) × ((m ≡ n) × (x ≡ y))
+
+abbrev pub HdReportTurnOnce : Type 0
+HdReportTurnOnce =
+    (store table : List ℕ) (sequence now last : ℕ) (frame : List ℕ) (r q m n : ℕ) (x y bs cs : List ℕ) (u v : ℕ)
+    → handed r m x (afterTurn bs u) ≡ turnLeft store table sequence now last (length frame)
+    → handed q n y (afterTurn cs v) ≡ turnLeft store table sequence now last (length frame)
+    → (r ≡ q) × ((m ≡ n) × ((x ≡ y) × ((bs ≡ cs) × (u ≡ v))))
 
 -- src/table.rt
 abbrev pub HdTableNewOnce : Type 0

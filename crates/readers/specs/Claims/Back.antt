@@ -17,7 +17,7 @@ use Rattle.write.specs.Reply as Write
 use Rattle.configure.specs.Configure as Configure
 use Rattle.configure.specs.Configuration as Configuration
 use Rattle.discover.specs.Discover as Discover
-use Rattle.server.specs.Report as Report
+use Rattle.report.specs.Report as Report
 use Rattle.readers.specs.Reading.{Read, read, bodyOf}
 use Rattle.readers.specs.Replies.{Discovery, Response, readReplyOf, writeReplyOf, configureReplyOf, configurationReplyOf, reportFrameOf, discoverReplyOf, defaultResponseOf}
 use Rattle.readers.specs.Claims.Sendable.{ReadSendable, WriteSendable, ConfigureSendable, SettingSendable, ReportSendable, DiscoverySendable}

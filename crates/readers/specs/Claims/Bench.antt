@@ -15,7 +15,7 @@ use Rattle.write.specs.Reply as Write
 use Rattle.configure.specs.Configure as Configure
 use Rattle.configure.specs.Configuration as Configuration
 use Rattle.discover.specs.Discover.{Discovered}
-use Rattle.server.specs.Report.{ReportRecord, reportRecord}
+use Rattle.report.specs.Report.{ReportRecord, reportRecord}
 use Rattle.readers.specs.declared.value.ValueIn.{ValueIn}
 use Rattle.readers.specs.Reading.{Read, read, unreadable}
 use Rattle.readers.specs.Replies.{Discovery, discovery, Response, readReplyOf, writeReplyOf, configureReplyOf, configurationReplyOf}

@@ -18,7 +18,7 @@ use Rattle.reporting.specs.declared.entry.Entry.{Entry}
 use Rattle.reporting.specs.Table.{holding}
 use Rattle.read.specs.Read.{value}
 use Rattle.server.specs.Serve.{State, serve}
-use Rattle.server.specs.Report.{reportRecord, reportOf}
+use Rattle.report.specs.Report.{reportRecord, reportOf}
 use Rattle.server.specs.Claims.Asks.{Asks}
 use Rattle.readers.specs.declared.value.ValueIn.{ValueIn}
 use Rattle.readers.specs.Reading.{read, kth}

@@ -13,7 +13,7 @@ use Rattle.configure.specs.Request.{changeWidth}
 use Rattle.configure.specs.Configure as Configure
 use Rattle.configure.specs.Configuration as Configuration
 use Rattle.discover.specs.Discover.{Discovered}
-use Rattle.server.specs.Report.{ReportRecord}
+use Rattle.report.specs.Report.{ReportRecord}
 use Rattle.readers.specs.Replies.{Discovery}
 
 -- these bytes are one value of a type, to their end

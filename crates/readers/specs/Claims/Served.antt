@@ -33,7 +33,7 @@ use Rattle.configure.specs.Configuration as Configuration
 use Rattle.discover.specs.Discover.{atOrAfter, listed, completeByte, discoveredAll}
 use Rattle.server.specs.Serve.{State, serve}
 use Rattle.server.specs.UnsupportedCluster.{unsupportedCluster}
-use Rattle.server.specs.Report.{ReportRecord, all, reportFrom, reportOf}
+use Rattle.report.specs.Report.{ReportRecord, all, reportFrom, reportOf}
 use Rattle.server.specs.Claims.Asks.{Asks, AsksCluster}
 use Rattle.readers.specs.Reading.{Read, read}
 use Rattle.readers.specs.Replies.{Discovery, discovery, Response, readReplyOf, writeReplyOf, configureReplyOf, configurationReplyOf, reportFrameOf, discoverReplyOf, defaultResponseOf}

@@ -20,8 +20,8 @@ use Rattle.reporting.specs.declared.table.Report.{Report}
 use Rattle.reporting.specs.declared.table.Setting.{Setting}
 use Rattle.reporting.specs.declared.table.Length.{Length}
 use Rattle.reporting.specs.Table.{capacity, tableOf, Alike, reportTold, settingTold, lengthTold, handedBack, holding, configureT, clearT, markT, configurationT, askT, lengthT}
-use Rattle.reporting.specs.Entries.{same, matches, findL, fresh, clearL, markE}
-use Rattle.reporting.specs.Due.{dist, distBy, movedBy, ripe, dueE}
+use Rattle.reporting.specs.Entries.{same, matches, findL, fresh, clearL, markE, markL}
+use Rattle.reporting.specs.Due.{dist, distBy, movedBy, ripe, dueE, dueL}
 use Rattle.reporting.specs.Wish.{wish}
 use Rattle.reporting.specs.Carried.{widths, laid, numbersIn, numbersOf, entryOf, tableIn, isTable, tableRead, reading, readT, written, writeT}
 use Rattle.reporting.specs.Lent.{askLent, configurationLent, markLent, clearLent, leftAs, configureLent}
@@ -142,6 +142,22 @@ ConfigureInOnce =
     → keptAs r x ≡ configureIn key config (tableIn bytes)
     → keptAs q y ≡ configureIn key config (tableIn bytes)
     → (r ≡ q) × (x ≡ y)
+
+abbrev pub DueInOnce : Type 0
+DueInOnce =
+    (bytes : List ℕ) (key : Key) (time : ℕ) (value : ℤ) (r q : Bool)
+    → r ≡ dueL key time value (tableIn bytes)
+    → q ≡ dueL key time value (tableIn bytes)
+    → r ≡ q
+
+abbrev pub MarkInOnce : Type 0
+MarkInOnce =
+    (bytes : List ℕ) (key : Key) (time : ℕ) (value : ℤ) (x y : List ℕ)
+    → AllBytes x
+    → AllBytes y
+    → readT capacity x ≡ tableRead true (markL key time value (tableIn bytes))
+    → readT capacity y ≡ tableRead true (markL key time value (tableIn bytes))
+    → x ≡ y
 
 abbrev pub ClearInOnce : Type 0
 ClearInOnce =

@@ -18,7 +18,7 @@ use Rattle.reporting.specs.declared.entry.Entry.{Entry}
 use Rattle.reporting.specs.Table.{Table, holding}
 use Rattle.server.specs.Serve.{state, serve}
 use Rattle.server.specs.UnsupportedCluster.{isDefaultResponse, unsupportedCluster}
-use Rattle.server.specs.Report.{reportOf}
+use Rattle.report.specs.Report.{reportOf}
 
 -- ---- boxes
 

@@ -8,7 +8,7 @@ use Rattle.frame.specs.declared.answer.Refusal.the-variants.{NothingToSend}
 use Rattle.frame.specs.Answer.{refused}
 use Rattle.reporting.specs.Table.{capacity, holding}
 use Rattle.server.specs.Serve.{state}
-use Rattle.server.specs.Report.{reportOf}
+use Rattle.report.specs.Report.{reportOf}
 use Rattle.server.specs.Claims.Bench.{T, cluster, benchAnswer}
 use Rattle.server.specs.Claims.Chain.{Box, serving, responding, sent, chain}
 

@@ -1,4 +1,4 @@
--- Claims. What happens to a reporting table that is served: requests and direct calls, told as the events of crate `reporting` (specs/Claims/Events.antt).
+-- Claims. What happens to a reporting table that is served: requests, direct calls and report turns, told as the events of crate `reporting` (specs/Claims/Events.antt).
 use mathlib.Core.Bool.{Bool, cond, _&&_}
 use mathlib.Core.List.{List, [], _∷_, _++_}
 use Prim.Native.Nat.{ℕ}
@@ -13,6 +13,9 @@ use Rattle.store.specs.Layout.{isStore}
 use Rattle.reporting.specs.declared.entry.Entry.{Entry}
 use Rattle.reporting.specs.Table.{holding, entriesOf}
 use Rattle.reporting.specs.Claims.Events.{Event, Leads, Call, call, events}
+use Rattle.report.specs.Turn.{Turn}
+use Rattle.report.specs.Claims.Turns.{frameOf, turned}
+use Rattle.report.specs.Claims.History.{marking}
 use Rattle.configure.specs.Claims.History.{configureEvents}
 use Rattle.server.specs.Serve.{serve}
 
@@ -42,19 +45,22 @@ unfoldable pub requestEvents : ℕ → Request → List Entry → List Event
 requestEvents limit r l =
     cond (isStore 8 (r .store) && eqb (r .cluster) (clusterOf (r .store))) (headedEvents limit r l (headerOf (r .frame))) []
 
--- ---- uses of a table: requests, and direct calls
+-- ---- uses of a table: requests, direct calls, and report turns
 
 pub data Use : Type 0 where
   request : Request → Use
   direct : Call → Use
+  turn : Turn → Use
 
 abbrev pub used : ℕ → Use → List Entry → List Entry
 used limit (request r) l = requested limit r l
 used limit (direct c) l = call limit c l
+used limit (turn u) l = turned 8 u l
 
 abbrev pub useEvents : ℕ → Use → List Entry → List Event
 useEvents limit (request r) l = requestEvents limit r l
 useEvents limit (direct c) l = events limit c l
+useEvents limit (turn u) l = marking (u .store) (u .now) (frameOf 8 u l)
 
 -- the entries after uses, and all their events
 abbrev pub uses : ℕ → List Use → List Entry → List Entry

@@ -1,5 +1,5 @@
--- Claims. What every answer leaves (document 01, "What a call says back"), as claims about every request, every call of the responder and every
--- report.
+-- Claims. What every answer leaves (document 01, "What a call says back"), as claims about every request, every call of the responder, every
+-- report and every report turn.
 use mathlib.Core.Path.{_≡_}
 use mathlib.Core.Bool.{Bool, true}
 use mathlib.Core.List.{List}
@@ -15,7 +15,8 @@ use Rattle.store.specs.Claims.Stays.{StoreLike}
 use Rattle.reporting.specs.Table.{Table}
 use Rattle.server.specs.Serve.{State, state, serve}
 use Rattle.server.specs.UnsupportedCluster.{unsupportedCluster}
-use Rattle.server.specs.Report.{reportOf}
+use Rattle.report.specs.Report.{reportOf}
+use Rattle.report.specs.Turn.{Turn, After, afterTurn, turnOf}
 
 -- ---- what an outcome leaves of a reply buffer of so much room, whatever else the call may change
 
@@ -111,3 +112,22 @@ ReportThenZeros = OfEveryReport (λ room o. ThenZeros room o)
 
 abbrev pub ReportLength : Type 0
 ReportLength = OfEveryReport (λ room o. AsLong room o)
+
+-- ---- of a report turn, which may change the table's bytes and the last id
+
+-- for every form, turn and bytes: P of the room, of bytes and last id as they came, and of the answer
+abbrev pub OfEveryTurn : (ℕ → After → Outcome After → Type 0) → Type 0
+OfEveryTurn P = (form : ℕ) (u : Turn) (bs : List ℕ) → P (u .room) (afterTurn bs (u .last)) (turnOf form u bs)
+
+abbrev pub TurnClears : Type 0
+TurnClears = OfEveryTurn (λ room came o. Clears room o)
+
+abbrev pub TurnThenZeros : Type 0
+TurnThenZeros = OfEveryTurn (λ room came o. ThenZeros room o)
+
+abbrev pub TurnLength : Type 0
+TurnLength = OfEveryTurn (λ room came o. AsLong room o)
+
+-- "nothing marked": every refusal leaves bytes and last id as they came
+abbrev pub TurnUntouched : Type 0
+TurnUntouched = OfEveryTurn (λ room came o. (o .number ≡ 0 → ⊥) → o .state ≡ came)

@@ -1,4 +1,4 @@
--- Claims. Requests and direct calls under two limits (document 02, request 7; of calls alone: reporting, specs/Claims/Limits.antt): the same replies, stores, answers and tables.
+-- Claims. Requests, direct calls and report turns under two limits (document 02, request 7; of calls alone: reporting, specs/Claims/Limits.antt): the same replies, stores, answers and tables.
 use mathlib.Core.Path.{_≡_}
 use mathlib.Core.List.{List, [], _∷_}
 use Prim.Native.Nat.{ℕ, _≤_}
@@ -6,13 +6,15 @@ use lib.ListN.{length, drop}
 use Rattle.frame.specs.declared.header.ZclHeader.{ZclHeader}
 use Rattle.frame.specs.declared.command_identifier.CommandIdentifier.the-variants.{ConfigureReporting}
 use Rattle.frame.specs.Answer.{Outcome}
+use Rattle.store.specs.declared.lookup.Attribute.{Attribute}
 use Rattle.reporting.specs.declared.entry.Entry.{Entry}
 use Rattle.reporting.specs.Table.{capacity, holding}
 use Rattle.reporting.specs.Claims.Limits.{Said, says}
+use Rattle.report.specs.Claims.Turns.{frameOf, givenBack}
 use Rattle.configure.specs.Claims.Limits.{FrameWithin}
 use Rattle.server.specs.Serve.{State, serve}
 use Rattle.server.specs.Claims.Asks.{Asks}
-use Rattle.server.specs.Claims.History.{Request, Use, request, direct, used, uses}
+use Rattle.server.specs.Claims.History.{Request, Use, request, direct, turn, used, uses}
 
 -- ---- a request
 
@@ -28,14 +30,16 @@ ServeLimitsAgree = (small large : ℕ) (r : Request) (l : List Entry) → small 
 
 -- ---- uses
 
--- what a use gives back: all that a request leaves, or what a direct call says
+-- what a use gives back: all that a request leaves, what a direct call says, or what is in a turn's frame and the id that it gives back
 pub data Given : Type 0 where
   outcome : Outcome State → Given
   said : Said → Given
+  sent : List Attribute → ℕ → Given
 
 abbrev pub given : ℕ → Use → List Entry → Given
 given limit (request r) l = outcome (served limit r l)
 given limit (direct c) l = said (says limit c l)
+given limit (turn u) l = sent (frameOf 8 u l) (givenBack 8 u l)
 
 abbrev pub allGiven : ℕ → List Use → List Entry → List Given
 allGiven limit [] l = []
@@ -44,6 +48,7 @@ allGiven limit (u ∷ us) l = given limit u l ∷ allGiven limit us (used limit 
 abbrev pub UseWithin : ℕ → ℕ → Use → List Entry → Type 0
 UseWithin small large (request r) l = RequestWithin small large r l
 UseWithin small large (direct c) l = Unit
+UseWithin small large (turn u) l = Unit
 
 -- under the larger limit there are never more entries than the smaller one has room for
 abbrev pub UsesWithin : ℕ → ℕ → List Use → List Entry → Type 0

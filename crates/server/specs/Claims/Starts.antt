@@ -16,7 +16,8 @@ use Rattle.frame.specs.Answer.{Outcome}
 use Rattle.reporting.specs.Table.{Table}
 use Rattle.server.specs.Serve.{serve}
 use Rattle.server.specs.UnsupportedCluster.{unsupportedCluster}
-use Rattle.server.specs.Report.{reportOf}
+use Rattle.report.specs.Report.{reportOf}
+use Rattle.report.specs.Turn.{Turn, turnOf}
 
 -- where the number is 0, the first three of the reply's bytes
 abbrev pub Starts : {S : Type 0} → ℕ → CommandIdentifier → Outcome S → Type 0
@@ -64,3 +65,7 @@ ResponsesStart =
 abbrev pub ReportsStart : Type 0
 ReportsStart =
     (form : ℕ) (s : List ℕ) (sequence : ℕ) (ids : List ℕ) (room : ℕ) → Starts sequence ReportAttributes (reportOf form s sequence ids room)
+
+-- and a report turn
+abbrev pub TurnsStart : Type 0
+TurnsStart = (form : ℕ) (u : Turn) (bs : List ℕ) → Starts (u .sequence) ReportAttributes (turnOf form u bs)

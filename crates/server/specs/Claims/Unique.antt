@@ -15,7 +15,6 @@ use Rattle.reporting.specs.Table.{capacity, Alike, tableOf}
 use Rattle.reporting.specs.Lent.{quietedT}
 use Rattle.server.specs.declared.serve.Served.{Served}
 use Rattle.server.specs.DefaultResponse.{defaultResponse}
-use Rattle.server.specs.Report.{reportOf}
 use Rattle.server.specs.Serve.{state, serve}
 use Rattle.server.specs.Lent.{lent, serveLent}
 use Rattle.server.specs.UnsupportedCluster.{unsupportedCluster}
@@ -26,14 +25,6 @@ DefaultResponseOnce =
     (request : ZclHeader) (unicast : Bool) (status : Status) (reply : List ℕ) (r q : Answer) (x y : List ℕ)
     → seen r x noState ≡ defaultResponse request unicast status (length reply)
     → seen q y noState ≡ defaultResponse request unicast status (length reply)
-    → (r ≡ q) × (x ≡ y)
-
--- src/report.rt
-abbrev pub ReportOnce : Type 0
-ReportOnce =
-    (store : List ℕ) (sequence : ℕ) (ids frame : List ℕ) (r q : Answer) (x y : List ℕ)
-    → seen r x noState ≡ reportOf 8 store sequence ids (length frame)
-    → seen q y noState ≡ reportOf 8 store sequence ids (length frame)
     → (r ≡ q) × (x ≡ y)
 
 -- src/serve.rt
