@@ -5,15 +5,12 @@
  * One line of input is one thing that happens:
  *   HEX             a request comes in; its reply is written in hex, a refusal as its number
  *   tick N          N seconds pass
- *   set ID VALUE    the hardware changes a value: ID in four hex digits, or in eight with its manufacturer code before it, VALUE decimal
+ *   set ID VALUE    the hardware changes a value: ID in four hex digits, VALUE decimal
  *   save            what is configured goes to flash: it is written as 'saved HEX'
  *   restore HEX     the power fails, and flash has these bytes when it comes back; a refusal is written as its number
- *   to-second       the store moves to its second form, in which attributes have manufacturer codes; it is written as 'form 2, N bytes'
- *   to-first        the store moves back to its first form; a refusal of either is written as its number
- *   lamp            a lamp driver is plugged in: a store in the second form gets its attribute, which has a code
  *   # ..            nothing, and so an empty line
- * After each of them but the last, all that is due is written as one 'report HEX', and behind it one of the lamp driver's. With --read each reply and
- * report is read back as the head-end does it, and the text stands behind it.
+ * After each of the first five, all that is due is written as one 'report HEX'. With --read each reply and report is read back as the head-end
+ * does it, and the text stands behind it.
  *
  * A line that is none of these is named on standard error, changes nothing, and makes the exit status 1.
  */
@@ -32,23 +29,16 @@ enum { CLUSTER = 0xfc21 };
 /* The longest frame, in and out, and the longest line: 'restore' with the longest saved form as digits. */
 enum { FRAME_BYTES = 80, RESTORE_CHARS = sizeof "restore " - 1, LINE_CHARS = RESTORE_CHARS + 2 * HD_SAVED_BYTES };
 
-/* The store's head, an entry in each of its two forms, and where an entry's code and its value's place stand in the second. */
-enum { HEAD = 4, FIRST_ENTRY = 8, SECOND_ENTRY = 10, CODE = 2, PLACE = 6 };
-
-/* Where in the store the values stand, behind the head and five entries of the first form. */
+/* Where in the store the values stand, behind the head and five entries. */
 enum {
-    ATTRIBUTES = 5,
-    COUNTER_AT = HEAD + ATTRIBUTES * FIRST_ENTRY,
+    COUNTER_AT = 4 + 5 * 8,
     LEVEL_AT = COUNTER_AT + 4,
     TEMPERATURE_AT = LEVEL_AT + 1,
     NAME_AT = TEMPERATURE_AT + 2,
     NAME_ROOM = 17,
     METER_AT = NAME_AT + NAME_ROOM,
-    FIRST_BYTES = METER_AT + 8
+    STORE_BYTES = METER_AT + 8
 };
-
-/* The store's room: it is enough for the second form, with the lamp driver's entry and its value, one byte. */
-enum { STORE_ROOM = FIRST_BYTES + ATTRIBUTES * (SECOND_ENTRY - FIRST_ENTRY) + SECOND_ENTRY + 1 };
 
 /* An entry's access. */
 enum { READ_ONLY = 0, WRITABLE = 1, REPORTABLE = 2 };
@@ -56,10 +46,10 @@ enum { READ_ONLY = 0, WRITABLE = 1, REPORTABLE = 2 };
 /* A two-byte number, its low byte first as everywhere in the store. */
 #define TWO(n) (n) & 0xff, (n) >> 8
 
-/* The store, in the first form: a head, an entry for each attribute in the order of their ids, then their values in the same order without gaps. */
-static uint8_t store[STORE_ROOM] = {
+/* The store: a head, an entry for each attribute in the order of their ids, then their values in the same order without gaps. */
+static uint8_t store[STORE_BYTES] = {
     TWO(CLUSTER),            /* the cluster */
-    TWO(ATTRIBUTES),         /* how many attributes */
+    TWO(5),                  /* how many attributes */
 
     TWO(COUNTER),            /* the rollback counter: id */
     0x23,                    /*   type: Uint32 */
@@ -96,43 +86,25 @@ static uint8_t store[STORE_ROOM] = {
     0x38, 0xff,              /* the temperature in hundredths: -200 */
     3, '2', '1', '2',        /* the name: its length, its characters; the rest of its room is zero, and so is the sub-meter */
 };
-static size_t store_len = FIRST_BYTES;
-static uint8_t form = HD_FORM_FIRST;
 
-/* The lamp driver's attribute, behind the others: an entry of the second form, whose value stands last. It has the counter's id, and a code. */
-static const uint8_t lamp_entry[SECOND_ENTRY] = {
-    TWO(LAMP),               /* id */
-    TWO(LAMP_CODE),          /* manufacturer code */
-    0x20,                    /* type: Uint8 */
-    WRITABLE | REPORTABLE,   /* access */
-    TWO(STORE_ROOM - 1),     /* where its value stands */
-    TWO(1),                  /* the value's room */
-};
-enum { LAMP_VALUE = 64 };
-
-/* What the hardware changes by itself: how wide it is, and what fits. */
+/* What the hardware changes by itself: where it stands, how wide it is, and what fits. */
 static const struct wire {
-    uint16_t code, id;
-    size_t width;
+    uint16_t id;
+    size_t at, width;
     int64_t least;
     uint64_t most;
 } wires[] = {
-    { HD_NO_CODE, COUNTER, 4, 0, UINT32_MAX },
-    { HD_NO_CODE, LEVEL, 1, 0, UINT8_MAX },
-    { HD_NO_CODE, TEMPERATURE, 2, INT16_MIN, INT16_MAX },
-    { HD_NO_CODE, METER, 8, 0, UINT64_MAX },
-    { LAMP_CODE, LAMP, 1, 0, UINT8_MAX },
+    { COUNTER, COUNTER_AT, 4, 0, UINT32_MAX },
+    { LEVEL, LEVEL_AT, 1, 0, UINT8_MAX },
+    { TEMPERATURE, TEMPERATURE_AT, 2, INT16_MIN, INT16_MAX },
+    { METER, METER_AT, 8, 0, UINT64_MAX },
 };
 
 static uint8_t table[HD_TABLE_BYTES];
 static uint32_t now;
 static uint8_t sequence;
-/* The codes of which there are reports, and the last attribute of each that was reported: a turn starts above it, so that none waits for ever behind others. */
-static struct turn {
-    uint16_t code;
-    uint32_t last;
-} turns[] = { { HD_NO_CODE, HD_NO_ID }, { LAMP_CODE, HD_NO_ID } };
-enum { TURNS = sizeof turns / sizeof turns[0] };
+/* The last attribute that was reported: a turn starts above it, so that none waits for ever behind others. */
+static uint32_t last = HD_NO_ID;
 static int reads_back;
 
 /* Ends the program: a number that these buffers cannot get. */
@@ -162,7 +134,7 @@ static void serve(const uint8_t *request, size_t n)
     uint8_t reply[FRAME_BYTES], number;
     size_t used;
 
-    number = hd_handle_request(store, store_len, form, table, sizeof table, CLUSTER, 1, request, n, reply, sizeof reply, &used);
+    number = hd_handle_request(store, sizeof store, table, sizeof table, CLUSTER, 1, request, n, reply, sizeof reply, &used);
     if (number == HD_NOT_A_STORE || number == HD_NOT_A_TABLE)
         stop("the box's own bytes are refused", number);
     if (number == HD_OK)
@@ -172,15 +144,15 @@ static void serve(const uint8_t *request, size_t n)
 }
 
 /*
- * Reports all that is due of what the head-end configured, of one code in one frame. The turn marks what it wrote, so that the next one measures from there.
- * Any four of the box's values fit; where some did not, they would come first in the next turn.
+ * Reports all that is due of what the head-end configured, in one frame. The turn marks what it wrote, so that the next one measures from there. Any four
+ * of the box's values fit; where some did not, they would come first in the next turn.
  */
-static void report_turn(struct turn *turn)
+static void report_turn(void)
 {
     uint8_t frame[FRAME_BYTES], number;
     size_t used;
 
-    number = hd_report_turn(store, store_len, form, table, sizeof table, turn->code, sequence, now, &turn->last, frame, sizeof frame, &used);
+    number = hd_report_turn(store, sizeof store, table, sizeof table, sequence, now, &last, frame, sizeof frame, &used);
     if (number == HD_NOTHING_TO_SEND)
         return;
     if (number != HD_OK)
@@ -219,98 +191,25 @@ static int tick(const char *text)
     return 1;
 }
 
-/* A two-byte number of the store, and one that is written there. */
-static uint16_t two_at(size_t at)
-{
-    return (uint16_t)(store[at] + 256u * store[at + 1]);
-}
-
-static void put_two(size_t at, size_t number)
-{
-    store[at] = (uint8_t)number;
-    store[at + 1] = (uint8_t)(number >> 8);
-}
-
-/* Where an attribute's value stands, as its entry says; 0 where there is no such attribute. An entry of the second form has a code behind the id. */
-static size_t place_of(uint16_t code, uint16_t id)
-{
-    const size_t size = form == HD_FORM_FIRST ? FIRST_ENTRY : SECOND_ENTRY, end = HEAD + size * two_at(2);
-    size_t at;
-
-    for (at = HEAD; at < end; at += size)
-        if (two_at(at) == id && (form == HD_FORM_FIRST ? HD_NO_CODE : two_at(at + CODE)) == code)
-            return two_at(at + size - 4);
-    return 0;
-}
-
 /* 'set ID VALUE', from behind the first blank. */
 static int set(const char *text)
 {
-    const size_t digits = strcspn(text, " ");
-    uint8_t name[4] = { 0 };
+    uint8_t id[2];
     uint64_t value;
-    size_t at, i, k;
+    size_t i, k;
 
-    if ((digits != 4 && digits != 8) || text[digits] != ' ' || !hex_read(text, digits, name + 4 - digits / 2, digits / 2))
+    if (strlen(text) < 6 || text[4] != ' ' || !hex_read(text, 4, id, sizeof id))
         return 0;
     for (i = 0; i < sizeof wires / sizeof wires[0]; i++) {
-        if (wires[i].code != 256 * name[0] + name[1] || wires[i].id != 256 * name[2] + name[3])
+        if (wires[i].id != 256 * id[0] + id[1])
             continue;
-        at = place_of(wires[i].code, wires[i].id);
-        if (at == 0 || !decimal(text + digits + 1, wires[i].least, wires[i].most, &value))
+        if (!decimal(text + 5, wires[i].least, wires[i].most, &value))
             return 0;
         for (k = 0; k < wires[i].width; k++)
-            store[at + k] = (uint8_t)(value >> (8 * k));
+            store[wires[i].at + k] = (uint8_t)(value >> (8 * k));
         return 1;
     }
     return 0;
-}
-
-/* Says which form the store is in. */
-static void print_form(void)
-{
-    printf("form %u, %u bytes\n", form, (unsigned)store_len);
-}
-
-/* 'to-second' and 'to-first'. A move writes its store elsewhere, so that a refused one leaves the box's as it was. */
-static void move(uint8_t to)
-{
-    uint8_t moved[STORE_ROOM], number;
-    size_t used;
-
-    if (to == HD_FORM_SECOND)
-        number = hd_to_second(store, store_len, moved, sizeof moved, &used);
-    else
-        number = hd_to_first(store, store_len, moved, sizeof moved, &used);
-    if (number != HD_OK) {
-        printf("%u\n", number);
-        return;
-    }
-    memcpy(store, moved, sizeof store);
-    store_len = used;
-    form = to;
-    print_form();
-}
-
-/*
- * 'lamp', once, in the second form. The entry comes behind the others, whose code is less: their values move on by its length, and its own comes last.
- */
-static int lamp(void)
-{
-    const size_t many = two_at(2), contents = HEAD + SECOND_ENTRY * many;
-    size_t at;
-
-    if (form != HD_FORM_SECOND || place_of(LAMP_CODE, LAMP) != 0)
-        return 0;
-    memmove(store + contents + SECOND_ENTRY, store + contents, store_len - contents);
-    memcpy(store + contents, lamp_entry, SECOND_ENTRY);
-    put_two(2, many + 1);
-    for (at = HEAD; at < contents; at += SECOND_ENTRY)
-        put_two(at + PLACE, two_at(at + PLACE) + SECOND_ENTRY);
-    store[STORE_ROOM - 1] = LAMP_VALUE;
-    store_len = STORE_ROOM;
-    print_form();
-    return 1;
 }
 
 /* 'save'. Only requests and saved forms configure this table, and neither sets intervals that are not saved: it has a form, and the buffer holds any. */
@@ -333,13 +232,11 @@ static void save(void)
 static int restore(const char *text, size_t digits)
 {
     uint8_t saved[HD_SAVED_BYTES], number;
-    size_t i;
 
     if (digits == 0 || !hex_read(text, digits, saved, sizeof saved))
         return 0;
     memset(table, 0xa5, sizeof table);
-    for (i = 0; i < TURNS; i++)
-        turns[i].last = HD_NO_ID;
+    last = HD_NO_ID;
     number = hd_restore(table, sizeof table, saved, digits / 2);
     if (number != HD_OK)
         printf("%u\n", number);
@@ -350,7 +247,6 @@ static int restore(const char *text, size_t digits)
 static int happens(const char *line, size_t n)
 {
     uint8_t request[FRAME_BYTES];
-    size_t i;
 
     if (n == 0 || line[0] == '#')
         return 1;
@@ -367,20 +263,12 @@ static int happens(const char *line, size_t n)
     } else if (strncmp(line, "restore ", RESTORE_CHARS) == 0) {
         if (!restore(line + RESTORE_CHARS, n - RESTORE_CHARS))
             return 0;
-    } else if (strcmp(line, "to-second") == 0) {
-        move(HD_FORM_SECOND);
-    } else if (strcmp(line, "to-first") == 0) {
-        move(HD_FORM_FIRST);
-    } else if (strcmp(line, "lamp") == 0) {
-        if (!lamp())
-            return 0;
     } else if (hex_read(line, n, request, sizeof request)) {
         serve(request, n / 2);
     } else {
         return 0;
     }
-    for (i = 0; i < TURNS; i++)
-        report_turn(&turns[i]);
+    report_turn();
     return 1;
 }
 
@@ -427,7 +315,7 @@ int main(int argc, char **argv)
     while ((found = next_line(line, &n)) != NO_LINE) {
         count++;
         if (found == LONG_LINE || !happens(line, n)) {
-            fprintf(stderr, "line %lu: %s\n", count, found == LONG_LINE ? "too long" : "nothing that happens to a box");
+            fprintf(stderr, "line %lu: %s\n", count, found == LONG_LINE ? "too long" : "no request, tick, set, save or restore");
             status = 1;
         }
     }

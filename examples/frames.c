@@ -1,7 +1,7 @@
 /*
  * Document 01's bench frames, 7 as request 2 of document 02 has it, from C: what each request says back, byte for byte, with the reply
- * buffer behind it, and the store afterwards; over the store in both its forms. Then requests with a manufacturer code. A test: it prints each check
- * that fails and how many there were, and ends non-zero when one failed.
+ * buffer behind it, and the store afterwards. A test: it prints each check that fails and how many there were, and ends non-zero when one
+ * failed.
  */
 #include <stdio.h>
 #include <string.h>
@@ -9,19 +9,10 @@
 #include "check.h"
 #include "hingedrift.h"
 
-enum { CLUSTER = 0xfc21, LAMP_CODE = 0x1234, MOST = 96 };
+enum { CLUSTER = 0xfc21, LEVEL = 40, MOST = 64 };
 
 /* Store T: a counter with its top bit set, a level, a temperature, a name. */
 static const char T[] = "21fc0400" "0000230224000400" "0100200128000100" "0500290329000200" "070042012b000500" "00000080" "07" "38ff" "0254560000";
-
-/* The same in the second form; and with a lamp driver's attribute behind it, which has the counter's number and a code. */
-static const char T2[] = "21fc0400" "000000002302" "2c000400" "010000002001" "30000100" "050000002903" "31000200" "070000004201" "33000500"
-                         "00000080" "07" "38ff" "0254560000";
-static const char D[] = "21fc0500" "000000002302" "36000400" "010000002001" "3a000100" "050000002903" "3b000200" "070000004201" "3d000500"
-                        "000034122003" "42000100" "00000080" "07" "38ff" "0254560000" "2a";
-
-/* Where the level, 7, stands in each, and in the last the lamp's byte, 42. */
-enum { LEVEL = 40, LEVEL2 = 48, LAMP = 66 };
 
 static unsigned digit(char c)
 {
@@ -38,36 +29,22 @@ static size_t bytes(const char *digits, uint8_t *out)
     return n;
 }
 
-/* A request over a store and an empty table: number and reply as said, zeros behind it, and the store afterwards, of which one byte may be another. */
-static void serves_over(const char *lent, uint8_t form, const char *which, const char *request, size_t room, uint8_t number, const char *reply, size_t at,
-                        uint8_t byte)
+/* A request over store T and an empty table: number and reply as said, zeros behind it, and the level afterwards. */
+static void serves(const char *which, const char *request, size_t room, uint8_t number, const char *reply, uint8_t level)
 {
     uint8_t store[MOST], after[MOST], table[HD_TABLE_BYTES], frame[MOST], said[MOST], expected[MOST];
-    size_t store_len = bytes(lent, store), n = bytes(request, frame), used = 77;
+    size_t store_len = bytes(T, store), n = bytes(request, frame), used = 77;
 
     memcpy(after, store, store_len);
-    after[at] = byte;
+    after[LEVEL] = level;
     memset(said, 0xaa, sizeof said);
     memset(expected, 0, sizeof expected);
     check(hd_table_new(table, sizeof table) == HD_OK, which, "a table");
-    check(hd_handle_request(store, store_len, form, table, sizeof table, CLUSTER, 1, frame, n, said, room, &used) == number, which, "the number");
+    check(hd_handle_request(store, store_len, table, sizeof table, CLUSTER, 1, frame, n, said, room, &used) == number, which, "the number");
     check(used == bytes(reply, expected), which, "the length");
     check(memcmp(said, expected, room) == 0, which, "the reply and the zeros behind it");
     check(said[room] == 0xaa, which, "nothing behind the buffer");
     check(memcmp(store, after, store_len) == 0, which, "the store");
-}
-
-/* Over T in both forms, the level afterwards as said. */
-static void serves(const char *which, const char *request, size_t room, uint8_t number, const char *reply, uint8_t level)
-{
-    serves_over(T, HD_FORM_FIRST, which, request, room, number, reply, LEVEL, level);
-    serves_over(T2, HD_FORM_SECOND, which, request, room, number, reply, LEVEL2, level);
-}
-
-/* Over the store with the lamp driver's attribute, that one afterwards as said. */
-static void serves_lamp(const char *which, const char *request, size_t room, uint8_t number, const char *reply, uint8_t lamp)
-{
-    serves_over(D, HD_FORM_SECOND, which, request, room, number, reply, LAMP, lamp);
 }
 
 static void commands(void)
@@ -98,55 +75,6 @@ static void commands(void)
     serves("a cluster command of its number", "01000b", 60, 0, "18000b0b81", 7);
 }
 
-/* Requests with a code: the reply carries it, and needs two bytes more. */
-static void coded(void)
-{
-    serves("code 0000 is none", "0400002a0000000900", 14, 0, "182a010000002300000080090086", 7);
-    serves("code 0000 is none, room 3", "0400002a0000000900", 3, 0, "182a01", 7);
-    serves("T has no codes: read", "0434122a0000000100", 60, 0, "1c34122a01000086010086", 7);
-    serves("T has no codes: write", "0434122b0201002009", 60, 0, "1c34122b04860100", 7);
-    serves("T has no codes: undivided", "0434122b0301002009", 60, 0, "1c34122b04860100", 7);
-    serves("T has no codes: without response", "0434122b0501002009", 60, HD_NOTHING_TO_SEND, "", 7);
-    serves("T has no codes: discover", "0434122c0c0000ff", 60, 0, "1c34122c0d01", 7);
-    serves("T has no codes: configure", "0434122d06000500290a003c003200", 60, 0, "1c34122d0786000500", 7);
-    serves("T has no codes: read configuration", "0434122d08000500", 60, 0, "1c34122d0986000500", 7);
-    serves("a coded command that is not served", "0434122e0a", 60, 0, "1c34122e0b0a81", 7);
-    serves("a coded command that is not served, room 7", "0434122e0a", 7, 0, "1c34122e0b0a81", 7);
-    serves("a coded command that is not served, room 6", "0434122e0a", 6, HD_TOO_LONG, "", 7);
-    serves("a coded cluster command", "0534122e00", 60, 0, "1c34122e0b0081", 7);
-    serves("a coded Default Response", "1c34122e0b0a81", 60, HD_NOTHING_TO_SEND, "", 7);
-    serves("other bits are not echoed", "dc34122e0a", 60, 0, "1c34122e0b0a81", 7);
-    serves("a coded header, cut behind the code", "04341200", 60, HD_HEADER_SHORT, "", 7);
-    serves("a coded header, cut in the code", "043412", 60, HD_HEADER_SHORT, "", 7);
-    serves("a reserved frame type with a code", "0634122e00", 60, HD_RESERVED_FRAME_TYPE, "", 7);
-
-    serves_lamp("our own 0000", "002a0000000900", 14, 0, "182a010000002300000080090086", 42);
-    serves_lamp("the lamp's 0000", "0434122a0000000900", 13, 0, "1c34122a01000000202a090086", 42);
-    serves_lamp("the lamp's 0000, room 12", "0434122a0000000900", 12, 0, "1c34122a01000000202a", 42);
-    serves_lamp("the lamp's 0000, room 10", "0434122a0000000900", 10, 0, "1c34122a01000000202a", 42);
-    serves_lamp("the lamp's 0000, room 9", "0434122a0000000900", 9, 0, "1c34122a01000089", 42);
-    serves_lamp("the lamp's 0000, room 5", "0434122a0000000900", 5, 0, "1c34122a01", 42);
-    serves_lamp("the lamp's 0000, room 4", "0434122a0000000900", 4, HD_TOO_LONG, "", 42);
-    serves_lamp("the lamp has no 0001", "0434122a000100", 60, 0, "1c34122a01010086", 42);
-    serves_lamp("another code", "0421432a000000", 60, 0, "1c21432a01000086", 42);
-    serves_lamp("the lamp is written", "0434122b0200002063", 6, 0, "1c34122b0400", 99);
-    serves_lamp("the lamp is written, room 5", "0434122b0200002063", 5, HD_TOO_LONG, "", 99);
-    serves_lamp("the lamp is written, room 4", "0434122b0200002063", 4, HD_TOO_LONG, "", 42);
-    serves_lamp("the lamp, undivided", "0434122b0300002063", 6, 0, "1c34122b0400", 99);
-    serves_lamp("the lamp, undivided, and what it lacks", "0434122b03000020630100200a", 60, 0, "1c34122b04860100", 42);
-    serves_lamp("the lamp, without response", "0434122b0500002063", 0, HD_NOTHING_TO_SEND, "", 99);
-    serves_lamp("our own 0000 is read-only, whatever the lamp's", "002b0200002063", 60, 0, "182b04880000", 42);
-    serves_lamp("discover lists one code", "0434122c0c0000ff", 60, 0, "1c34122c0d01000020", 42);
-    serves_lamp("discover, room 9", "0434122c0c0000ff", 9, 0, "1c34122c0d01000020", 42);
-    serves_lamp("discover, room 8: it is not complete", "0434122c0c0000ff", 8, 0, "1c34122c0d00", 42);
-    serves_lamp("discover, room 5", "0434122c0c0000ff", 5, HD_TOO_LONG, "", 42);
-    serves_lamp("discover without a code", "002c0c0000ff", 60, 0, "182c0d01000023010020050029070042", 42);
-    serves_lamp("the lamp is configured", "0434122d06000000200a003c0005", 6, 0, "1c34122d0700", 42);
-    serves_lamp("the lamp is configured, room 5", "0434122d06000000200a003c0005", 5, HD_TOO_LONG, "", 42);
-    serves_lamp("our own 0000 has another type", "002d06000000200a003c0005", 60, 0, "182d078d000000", 42);
-    serves_lamp("nothing is configured for the lamp", "0434122d08000000", 60, 0, "1c34122d098b000000", 42);
-}
-
 /* Frame 11: configured by a request, then asked. */
 static void reporting(void)
 {
@@ -157,12 +85,12 @@ static void reporting(void)
     size_t store_len = bytes(T, store), n = bytes("002d06000500290a003c003200", frame), used, i;
 
     check(hd_table_new(table, sizeof table) == HD_OK, "frame 11", "a table");
-    check(hd_handle_request(store, store_len, HD_FORM_FIRST, table, sizeof table, CLUSTER, 1, frame, n, reply, MOST, &used) == HD_OK, "frame 11", "the number");
+    check(hd_handle_request(store, store_len, table, sizeof table, CLUSTER, 1, frame, n, reply, MOST, &used) == HD_OK, "frame 11", "the number");
     check(used == bytes("182d0700", expected) && memcmp(reply, expected, used) == 0, "frame 11", "the reply");
-    check(hd_mark(table, sizeof table, CLUSTER, HD_NO_CODE, 5, 100, -200) == HD_OK, "frame 11", "the mark");
+    check(hd_mark(table, sizeof table, CLUSTER, 5, 100, -200) == HD_OK, "frame 11", "the mark");
     for (i = 0; i < sizeof asks / sizeof asks[0]; i++) {
         due = 77;
-        check(hd_ask(table, sizeof table, CLUSTER, HD_NO_CODE, 5, asks[i].now, asks[i].value, &due) == HD_OK, "frame 11", "an ask");
+        check(hd_ask(table, sizeof table, CLUSTER, 5, asks[i].now, asks[i].value, &due) == HD_OK, "frame 11", "an ask");
         check(due == asks[i].due, "frame 11", "whether it is due");
     }
 }
@@ -183,14 +111,14 @@ static void by_type(void)
         store_len = bytes(types[i].store, store);
         n = bytes(types[i].request, frame);
         check(hd_table_new(table, sizeof table) == HD_OK, "by type", "a table");
-        check(hd_handle_request(store, store_len, HD_FORM_FIRST, table, sizeof table, CLUSTER, 1, frame, n, reply, MOST, &used) == HD_OK, "by type", "the number");
+        check(hd_handle_request(store, store_len, table, sizeof table, CLUSTER, 1, frame, n, reply, MOST, &used) == HD_OK, "by type", "the number");
         check(used == bytes("182d0700", expected) && memcmp(reply, expected, used) == 0, "by type", "the reply");
-        check(hd_configuration(table, sizeof table, CLUSTER, HD_NO_CODE, 10, &found, &minimum, &maximum, &change, &mark) == HD_OK && found == 1, "by type", "configured");
+        check(hd_configuration(table, sizeof table, CLUSTER, 10, &found, &minimum, &maximum, &change, &mark) == HD_OK && found == 1, "by type", "configured");
         check(minimum == 0 && maximum == 60 && change == 2 && mark == types[i].mark, "by type", "the mark");
-        check(hd_mark(table, sizeof table, CLUSTER, HD_NO_CODE, 10, 100, 0) == HD_OK, "by type", "a report of 0");
-        check(hd_ask(table, sizeof table, CLUSTER, HD_NO_CODE, 10, 100, -1, &due) == HD_OK && due == types[i].due, "by type", "whether all ones are due");
+        check(hd_mark(table, sizeof table, CLUSTER, 10, 100, 0) == HD_OK, "by type", "a report of 0");
+        check(hd_ask(table, sizeof table, CLUSTER, 10, 100, -1, &due) == HD_OK && due == types[i].due, "by type", "whether all ones are due");
         n = bytes("002e08000a00", frame);
-        check(hd_handle_request(store, store_len, HD_FORM_FIRST, table, sizeof table, CLUSTER, 1, frame, n, reply, MOST, &used) == HD_OK, "by type", "read back");
+        check(hd_handle_request(store, store_len, table, sizeof table, CLUSTER, 1, frame, n, reply, MOST, &used) == HD_OK, "by type", "read back");
         check(used == 3 + 9 + 8 && reply[used - 8] == 2 && reply[used - 1] == 0, "by type", "without the mark");
     }
 }
@@ -202,26 +130,11 @@ static void numbers(void)
     size_t store_len = bytes(T, store);
     int64_t value = 77;
 
-    check(hd_number(store, store_len, HD_FORM_FIRST, HD_NO_CODE, 0, &value) == HD_OK && value == INT64_C(2147483648), "frame 12", "the counter is not negative");
-    check(hd_number(store, store_len, HD_FORM_FIRST, HD_NO_CODE, 5, &value) == HD_OK && value == -200, "frame 12", "the temperature is");
-    check(hd_number(store, store_len, HD_FORM_FIRST, HD_NO_CODE, 7, &value) == HD_NO_NUMBER && value == 0, "a number", "a string has none");
-    check(hd_number(store, store_len, HD_FORM_FIRST, HD_NO_CODE, 9, &value) == HD_NO_NUMBER && value == 0, "a number", "an absent attribute has none");
-    check(hd_number(store, store_len, HD_FORM_FIRST, LAMP_CODE, 0, &value) == HD_NO_NUMBER && value == 0, "a number", "there is none under a code");
-    check(hd_number(store, store_len - 1, HD_FORM_FIRST, HD_NO_CODE, 0, &value) == HD_NOT_A_STORE && value == 0, "a number", "a cut store has none");
-}
-
-/* The same numbers in the second form, the lamp's beside them. */
-static void numbers_by_code(void)
-{
-    uint8_t store[MOST];
-    size_t store_len = bytes(D, store);
-    int64_t value = 77;
-
-    check(hd_number(store, store_len, HD_FORM_SECOND, HD_NO_CODE, 0, &value) == HD_OK && value == INT64_C(2147483648), "by code", "the counter");
-    check(hd_number(store, store_len, HD_FORM_SECOND, HD_NO_CODE, 5, &value) == HD_OK && value == -200, "by code", "the temperature");
-    check(hd_number(store, store_len, HD_FORM_SECOND, LAMP_CODE, 0, &value) == HD_OK && value == 42, "by code", "the lamp's");
-    check(hd_number(store, store_len, HD_FORM_SECOND, LAMP_CODE, 5, &value) == HD_NO_NUMBER && value == 0, "by code", "the lamp has no temperature");
-    check(hd_number(store, store_len, HD_FORM_SECOND, LAMP_CODE + 1, 0, &value) == HD_NO_NUMBER && value == 0, "by code", "another code");
+    check(hd_number(store, store_len, 0, &value) == HD_OK && value == INT64_C(2147483648), "frame 12", "the counter is not negative");
+    check(hd_number(store, store_len, 5, &value) == HD_OK && value == -200, "frame 12", "the temperature is");
+    check(hd_number(store, store_len, 7, &value) == HD_NO_NUMBER && value == 0, "a number", "a string has none");
+    check(hd_number(store, store_len, 9, &value) == HD_NO_NUMBER && value == 0, "a number", "an absent attribute has none");
+    check(hd_number(store, store_len - 1, 0, &value) == HD_NOT_A_STORE && value == 0, "a number", "a cut store has none");
 }
 
 /* The damages of T, with a table or without: 7 comes before 8. */
@@ -247,7 +160,7 @@ static void damages(void)
             store[12] = 0;
         memset(reply, 0xaa, sizeof reply);
         used = 77;
-        check(hd_handle_request(store, len, HD_FORM_FIRST, table, sizeof table, kind == 4 ? 1 : CLUSTER, 1, frame, n, reply, MOST, &used) == number, "a damage", "the number");
+        check(hd_handle_request(store, len, table, sizeof table, kind == 4 ? 1 : CLUSTER, 1, frame, n, reply, MOST, &used) == number, "a damage", "the number");
         check(used == 0 && reply[0] == 0 && reply[MOST - 1] == 0, "a damage", "no reply");
     }
 }
@@ -265,41 +178,15 @@ static void others(void)
     check(hd_unsupported_cluster(served, 1, CLUSTER, 0, frame, n, reply, MOST, &used) == HD_NOTHING_TO_SEND, "the responder", "no unicast");
     check(hd_unsupported_cluster(served, 0, CLUSTER, 1, frame, n, reply, 4, &used) == HD_TOO_LONG, "the responder", "one byte short");
     check(hd_unsupported_cluster(served, 0, CLUSTER, 1, frame, 2, reply, MOST, &used) == HD_HEADER_SHORT, "the responder", "a short header");
-    n = bytes("0734122f00", frame);
-    check(hd_unsupported_cluster(served, 1, CLUSTER, 1, frame, n, reply, 7, &used) == HD_OK, "the responder", "a code is answered");
-    check(used == bytes("1c34122f0b00c3", expected) && memcmp(reply, expected, used) == 0, "the responder", "the reply with the code");
-    check(hd_unsupported_cluster(served, 1, CLUSTER, 1, frame, n, reply, 6, &used) == HD_TOO_LONG && used == 0, "the responder", "one byte short with the code");
-    check(hd_unsupported_cluster(served, 1, CLUSTER, 1, frame, 4, reply, MOST, &used) == HD_HEADER_SHORT, "the responder", "a short header with a code");
-    n = bytes("0434122f0b", frame);
-    check(hd_unsupported_cluster(served, 1, CLUSTER, 1, frame, n, reply, MOST, &used) == HD_NOTHING_TO_SEND, "the responder", "a Default Response with a code");
     n = bytes("002f0b", frame);
     check(hd_unsupported_cluster(served, 1, CLUSTER, 1, frame, n, reply, MOST, &used) == HD_NOTHING_TO_SEND && used == 0, "the responder", "a Default Response");
 
-    check(hd_report(store, store_len, HD_FORM_FIRST, HD_NO_CODE, 0x30, ids, 3, frame, MOST, &used) == HD_OK, "a report", "the number");
+    check(hd_report(store, store_len, 0x30, ids, 3, frame, MOST, &used) == HD_OK, "a report", "the number");
     check(used == bytes("18300a" "05002938ff" "00002300000080" "05002938ff", expected) && memcmp(frame, expected, used) == 0, "a report", "the frame");
-    check(hd_report(store, store_len, HD_FORM_FIRST, HD_NO_CODE, 0x30, ids, 3, frame, used - 1, &used) == HD_TOO_LONG && used == 0, "a report", "one byte short");
-    check(hd_report(store, store_len, HD_FORM_FIRST, HD_NO_CODE, 0x30, ids, 0, frame, MOST, &used) == HD_EMPTY_REPORT, "a report", "an empty list");
-    check(hd_report(store, store_len, HD_FORM_FIRST, HD_NO_CODE, 0x30, ids, 0, frame, 2, &used) == HD_TOO_LONG, "a report", "the header before the empty list");
-    check(hd_report(store, store_len, HD_FORM_FIRST, HD_NO_CODE, 0x30, readable, 1, frame, MOST, &used) == HD_NOT_REPORTABLE, "a report", "not reportable");
-}
-
-/* A report frame is for one code. */
-static void reports_by_code(void)
-{
-    static const uint16_t ids[] = { 0, 0 }, ours[] = { 5 };
-    uint8_t store[MOST], frame[MOST], expected[MOST];
-    size_t store_len = bytes(D, store), used;
-
-    check(hd_report(store, store_len, HD_FORM_SECOND, LAMP_CODE, 0x30, ids, 2, frame, MOST, &used) == HD_OK, "a coded report", "the number");
-    check(used == bytes("1c3412300a" "0000202a" "0000202a", expected) && memcmp(frame, expected, used) == 0, "a coded report", "the frame");
-    check(hd_report(store, store_len, HD_FORM_SECOND, LAMP_CODE, 0x30, ids, 2, frame, used - 1, &used) == HD_TOO_LONG && used == 0, "a coded report", "one byte short");
-    check(hd_report(store, store_len, HD_FORM_SECOND, HD_NO_CODE, 0x30, ids, 1, frame, MOST, &used) == HD_OK, "a report beside it", "the number");
-    check(used == bytes("18300a" "00002300000080", expected) && memcmp(frame, expected, used) == 0, "a report beside it", "the frame");
-    check(hd_report(store, store_len, HD_FORM_SECOND, LAMP_CODE, 0x30, ours, 1, frame, MOST, &used) == HD_NOT_REPORTABLE, "a coded report", "ours alone");
-    check(hd_report(store, store_len, HD_FORM_SECOND, LAMP_CODE, 0x30, ids, 0, frame, 5, &used) == HD_EMPTY_REPORT, "a coded report", "an empty list");
-    check(hd_report(store, store_len, HD_FORM_SECOND, LAMP_CODE, 0x30, ids, 0, frame, 4, &used) == HD_TOO_LONG, "a coded report", "the header before it");
-    store_len = bytes(T, store);
-    check(hd_report(store, store_len, HD_FORM_FIRST, LAMP_CODE, 0x30, ids, 1, frame, MOST, &used) == HD_NOT_REPORTABLE, "a coded report", "of the first form");
+    check(hd_report(store, store_len, 0x30, ids, 3, frame, used - 1, &used) == HD_TOO_LONG && used == 0, "a report", "one byte short");
+    check(hd_report(store, store_len, 0x30, ids, 0, frame, MOST, &used) == HD_EMPTY_REPORT, "a report", "an empty list");
+    check(hd_report(store, store_len, 0x30, ids, 0, frame, 2, &used) == HD_TOO_LONG, "a report", "the header before the empty list");
+    check(hd_report(store, store_len, 0x30, readable, 1, frame, MOST, &used) == HD_NOT_REPORTABLE, "a report", "not reportable");
 }
 
 /* Length 0, with pointers one past the end of an array: each is a refusal that the header names, or an empty list. */
@@ -311,27 +198,24 @@ static void nothing_lent(void)
     int64_t value = 77;
 
     check(hd_table_new(table, sizeof table) == HD_OK && hd_table_new(end, 0) == HD_NOT_A_TABLE, "length 0", "a table");
-    check(hd_handle_request(end, 0, HD_FORM_FIRST, table, sizeof table, CLUSTER, 1, frame, n, reply, MOST, &used) == HD_NOT_A_STORE, "length 0", "the store");
-    check(hd_handle_request(store, store_len, HD_FORM_FIRST, end, 0, CLUSTER, 1, frame, n, reply, MOST, &used) == HD_NOT_A_TABLE, "length 0", "the table");
-    check(hd_handle_request(store, store_len, HD_FORM_FIRST, table, sizeof table, CLUSTER, 1, end, 0, reply, MOST, &used) == HD_HEADER_SHORT, "length 0", "the request");
-    check(hd_handle_request(store, store_len, HD_FORM_FIRST, table, sizeof table, CLUSTER, 1, frame, n, end, 0, &used) == HD_TOO_LONG, "length 0", "the reply");
+    check(hd_handle_request(end, 0, table, sizeof table, CLUSTER, 1, frame, n, reply, MOST, &used) == HD_NOT_A_STORE, "length 0", "the store");
+    check(hd_handle_request(store, store_len, end, 0, CLUSTER, 1, frame, n, reply, MOST, &used) == HD_NOT_A_TABLE, "length 0", "the table");
+    check(hd_handle_request(store, store_len, table, sizeof table, CLUSTER, 1, end, 0, reply, MOST, &used) == HD_HEADER_SHORT, "length 0", "the request");
+    check(hd_handle_request(store, store_len, table, sizeof table, CLUSTER, 1, frame, n, end, 0, &used) == HD_TOO_LONG, "length 0", "the reply");
     check(hd_unsupported_cluster(ids + 1, 0, CLUSTER, 1, frame, n, reply, MOST, &used) == HD_OK && used == 5, "length 0", "the served clusters");
-    check(hd_report(store, store_len, HD_FORM_FIRST, HD_NO_CODE, 0, ids + 1, 0, reply, MOST, &used) == HD_EMPTY_REPORT && used == 0, "length 0", "the report's attributes");
-    check(hd_number(end, 0, HD_FORM_FIRST, HD_NO_CODE, 0, &value) == HD_NOT_A_STORE && value == 0, "length 0", "a number's store");
+    check(hd_report(store, store_len, 0, ids + 1, 0, reply, MOST, &used) == HD_EMPTY_REPORT && used == 0, "length 0", "the report's attributes");
+    check(hd_number(end, 0, 0, &value) == HD_NOT_A_STORE && value == 0, "length 0", "a number's store");
     check(hd_read_check(end, 0, &used) == HD_HEADER_SHORT && used == 0, "length 0", "a reply to read");
 }
 
 int main(void)
 {
     commands();
-    coded();
     reporting();
     by_type();
     numbers();
-    numbers_by_code();
     damages();
     others();
-    reports_by_code();
     nothing_lent();
     printf("frames: %u checks, %u failed\n", checks, failures);
     return failures != 0;

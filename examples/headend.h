@@ -10,23 +10,13 @@
 
 #include "hingedrift.h"
 
-/* The box's attributes, by the numbers that both sides know, and the lamp driver's, whose number counts under its maker's code. */
+/* The box's attributes, by the numbers that both sides know. */
 enum { COUNTER = 0x0000, LEVEL = 0x0001, TEMPERATURE = 0x0005, NAME = 0x0007, METER = 0x000a };
-enum { LAMP_CODE = 0x1234, LAMP = 0x0000 };
 
 enum { UINT64 = 0x27, CHARACTER_STRING = 0x42, INVALID_STRING = 0xff };
 
-/* The number in a record names an attribute together with the code in the frame's header. */
-static void print_attribute(uint16_t code, uint16_t id)
+static void print_attribute(uint16_t id)
 {
-    if (code == LAMP_CODE && id == LAMP) {
-        printf("lamp");
-        return;
-    }
-    if (code != HD_NO_CODE) {
-        printf("%04x of code %04x", id, code);
-        return;
-    }
     switch (id) {
     case COUNTER:     printf("counter"); break;
     case LEVEL:       printf("level"); break;
@@ -55,9 +45,9 @@ static void print_status(uint8_t status)
 }
 
 /* An attribute that was refused, in any reply that lists failures. */
-static void print_failure(uint16_t code, uint16_t id, uint8_t status)
+static void print_failure(uint16_t id, uint8_t status)
 {
-    print_attribute(code, id);
+    print_attribute(id);
     printf(": ");
     print_status(status);
 }
@@ -89,11 +79,11 @@ static void print_hundredths(int64_t number)
  * An attribute and its value. The sign is the reader's affair: a counter with its top bit set is no negative number here. But for eight bytes: these
  * come as they are, and for a Uint64 they are taken without a sign here.
  */
-static void print_value(uint16_t code, uint16_t id, uint8_t type, const uint8_t *value, size_t len, uint8_t numbered, int64_t number)
+static void print_value(uint16_t id, uint8_t type, const uint8_t *value, size_t len, uint8_t numbered, int64_t number)
 {
-    print_attribute(code, id);
+    print_attribute(id);
     putchar(' ');
-    if (numbered && code == HD_NO_CODE && id == TEMPERATURE)
+    if (numbered && id == TEMPERATURE)
         print_hundredths(number);
     else if (numbered && type == UINT64)
         printf("%" PRIu64, (uint64_t)number);
@@ -112,7 +102,7 @@ static void print_comma(size_t k)
         printf(", ");
 }
 
-static uint8_t print_read(uint16_t code, const uint8_t *frame, size_t n)
+static uint8_t print_read(const uint8_t *frame, size_t n)
 {
     uint8_t found, status, type, numbered, answer;
     uint16_t id;
@@ -124,14 +114,14 @@ static uint8_t print_read(uint16_t code, const uint8_t *frame, size_t n)
         answer = hd_read_record(frame, n, k, &found, &id, &status, &type, &value, &len, &numbered, &number);
         print_comma(k);
         if (status == HD_STATUS_SUCCESS)
-            print_value(code, id, type, frame + value, len, numbered, number);
+            print_value(id, type, frame + value, len, numbered, number);
         else
-            print_failure(code, id, status);
+            print_failure(id, status);
     }
     return answer;
 }
 
-static uint8_t print_write(uint16_t code, const uint8_t *frame, size_t n)
+static uint8_t print_write(const uint8_t *frame, size_t n)
 {
     uint8_t found, status, answer;
     uint16_t id;
@@ -143,12 +133,12 @@ static uint8_t print_write(uint16_t code, const uint8_t *frame, size_t n)
     for (k = 0; k < failures; k++) {
         answer = hd_write_record(frame, n, k, &found, &status, &id);
         print_comma(k);
-        print_failure(code, id, status);
+        print_failure(id, status);
     }
     return answer;
 }
 
-static uint8_t print_configure(uint16_t code, const uint8_t *frame, size_t n)
+static uint8_t print_configure(const uint8_t *frame, size_t n)
 {
     uint8_t found, status, direction, answer;
     uint16_t id;
@@ -160,12 +150,12 @@ static uint8_t print_configure(uint16_t code, const uint8_t *frame, size_t n)
     for (k = 0; k < failures; k++) {
         answer = hd_configure_record(frame, n, k, &found, &status, &direction, &id);
         print_comma(k);
-        print_failure(code, id, status);
+        print_failure(id, status);
     }
     return answer;
 }
 
-static uint8_t print_configuration(uint16_t code, const uint8_t *frame, size_t n)
+static uint8_t print_configuration(const uint8_t *frame, size_t n)
 {
     uint8_t found, status, direction, type, answer;
     uint16_t id, minimum, maximum;
@@ -177,16 +167,16 @@ static uint8_t print_configuration(uint16_t code, const uint8_t *frame, size_t n
         answer = hd_configuration_record(frame, n, k, &found, &status, &direction, &id, &type, &minimum, &maximum, &change);
         print_comma(k);
         if (status == HD_STATUS_SUCCESS) {
-            print_attribute(code, id);
+            print_attribute(id);
             printf(" every %u to %u seconds by %" PRIu64, minimum, maximum, change);
         } else {
-            print_failure(code, id, status);
+            print_failure(id, status);
         }
     }
     return answer;
 }
 
-static uint8_t print_discover(uint16_t code, const uint8_t *frame, size_t n)
+static uint8_t print_discover(const uint8_t *frame, size_t n)
 {
     uint8_t complete, found, type, answer;
     uint16_t id;
@@ -196,7 +186,7 @@ static uint8_t print_discover(uint16_t code, const uint8_t *frame, size_t n)
     for (k = 0; k < records; k++) {
         answer = hd_discover_record(frame, n, k, &found, &id, &type);
         print_comma(k);
-        print_attribute(code, id);
+        print_attribute(id);
         printf(" of type %02x", type);
     }
     if (answer == HD_OK)
@@ -216,7 +206,7 @@ static uint8_t print_default(const uint8_t *frame, size_t n)
     return answer;
 }
 
-static uint8_t print_report(uint16_t code, const uint8_t *frame, size_t n)
+static uint8_t print_report(const uint8_t *frame, size_t n)
 {
     uint8_t found, type, numbered, answer;
     uint16_t id;
@@ -227,28 +217,27 @@ static uint8_t print_report(uint16_t code, const uint8_t *frame, size_t n)
     for (k = 0; k < records; k++) {
         answer = hd_report_record(frame, n, k, &found, &id, &type, &value, &len, &numbered, &number);
         print_comma(k);
-        print_value(code, id, type, frame + value, len, numbered, number);
+        print_value(id, type, frame + value, len, numbered, number);
     }
     return answer;
 }
 
-/* A frame from the box, as text. The header says by its command who reads it, and whose attributes are in it. Returns the reader's number. */
+/*
+ * A frame from the box, as text. A box's frames have no manufacturer code, so the command is the third byte; a reader looks at the header
+ * itself, so that a wrong guess here ends in HD_NOT_SUCH_A_REPLY and not in a wrong text. Returns the reader's number.
+ */
 static uint8_t print_frame(const uint8_t *frame, size_t n)
 {
-    uint8_t control, sequence, command, answer;
-    uint16_t code;
-
-    answer = hd_header(frame, n, &control, &code, &sequence, &command);
-    if (answer != HD_OK)
-        return answer;
-    switch (command) {
-    case HD_READ_REPLY:               return print_read(code, frame, n);
-    case HD_WRITE_REPLY:              return print_write(code, frame, n);
-    case HD_CONFIGURE_REPLY:          return print_configure(code, frame, n);
-    case HD_READ_CONFIGURATION_REPLY: return print_configuration(code, frame, n);
-    case HD_DISCOVER_REPLY:           return print_discover(code, frame, n);
+    if (n < 3)
+        return HD_HEADER_SHORT;
+    switch (frame[2]) {
+    case HD_READ_REPLY:               return print_read(frame, n);
+    case HD_WRITE_REPLY:              return print_write(frame, n);
+    case HD_CONFIGURE_REPLY:          return print_configure(frame, n);
+    case HD_READ_CONFIGURATION_REPLY: return print_configuration(frame, n);
+    case HD_DISCOVER_REPLY:           return print_discover(frame, n);
     case HD_DEFAULT_RESPONSE:         return print_default(frame, n);
-    case HD_REPORT:                   return print_report(code, frame, n);
+    case HD_REPORT:                   return print_report(frame, n);
     default:                          return HD_NOT_SUCH_A_REPLY;
     }
 }

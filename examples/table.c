@@ -9,8 +9,8 @@
 
 #include "hingedrift.h"
 
-/* The attribute that is reported. Its asks below are document 01's bench frame 11. Another maker's attribute of the same number has a code. */
-enum { CLUSTER = 0xfc21, ATTRIBUTE = 0x0005, LAMP_CODE = 0x1234 };
+/* The attribute that is reported. Its asks below are document 01's bench frame 11. */
+enum { CLUSTER = 0xfc21, ATTRIBUTE = 0x0005 };
 
 /* The table lives as long as the driver does. */
 static uint8_t table[HD_TABLE_BYTES];
@@ -29,7 +29,7 @@ static void ask(uint32_t now, int64_t value, int expected)
 {
     uint8_t due;
 
-    expect(hd_ask(table, sizeof table, CLUSTER, HD_NO_CODE, ATTRIBUTE, now, value, &due) == HD_OK, "an ask was refused");
+    expect(hd_ask(table, sizeof table, CLUSTER, ATTRIBUTE, now, value, &due) == HD_OK, "an ask was refused");
     printf("ask at %" PRIu32 " with %" PRId64 ": %s\n", now, value, due ? "report" : "not yet");
     expect(due == expected, "the ask has another answer");
 }
@@ -45,17 +45,17 @@ int main(void)
     printf("new table: %u of 128 configured\n", table[0]);
 
     /* At least 10 seconds apart, at most 60, and in between when the value has moved by 50 or more; the value is an Int, and so has a sign. */
-    expect(hd_configure(table, sizeof table, CLUSTER, HD_NO_CODE, ATTRIBUTE, 10, 60, 50, HD_SIGNED, &accepted) == HD_OK, "configure was refused");
+    expect(hd_configure(table, sizeof table, CLUSTER, ATTRIBUTE, 10, 60, 50, HD_SIGNED, &accepted) == HD_OK, "configure was refused");
     expect(accepted == 1, "there was no room");
     printf("configured: %u of 128\n", table[0]);
 
-    expect(hd_configuration(table, sizeof table, CLUSTER, HD_NO_CODE, ATTRIBUTE, &found, &minimum, &maximum, &change, &mark) == HD_OK, "configuration was refused");
+    expect(hd_configuration(table, sizeof table, CLUSTER, ATTRIBUTE, &found, &minimum, &maximum, &change, &mark) == HD_OK, "configuration was refused");
     expect(found == 1 && minimum == 10 && maximum == 60 && change == 50 && mark == HD_SIGNED, "another configuration");
     printf("configuration: %u to %u seconds, change %" PRIu64 ", %s\n", minimum, maximum, change, mark == HD_SIGNED ? "signed" : "unsigned");
 
     /* The first ask is a yes. A report that was sent is marked, with its time and value. */
     ask(100, -200, 1);
-    expect(hd_mark(table, sizeof table, CLUSTER, HD_NO_CODE, ATTRIBUTE, 100, -200) == HD_OK, "mark was refused");
+    expect(hd_mark(table, sizeof table, CLUSTER, ATTRIBUTE, 100, -200) == HD_OK, "mark was refused");
     printf("marked at 100 with -200\n");
 
     ask(109, 0, 0);     /* under the minimum, however far the value moved */
@@ -72,18 +72,11 @@ int main(void)
     expect(hd_restore(table, sizeof table, saved, used) == HD_OK, "restore was refused");
     printf("restored: %u of 128 configured\n", table[0]);
     ask(3, -200, 1);    /* configured, and not reported yet */
-    expect(hd_mark(table, sizeof table, CLUSTER, HD_NO_CODE, ATTRIBUTE, 3, -200) == HD_OK, "mark was refused");
+    expect(hd_mark(table, sizeof table, CLUSTER, ATTRIBUTE, 3, -200) == HD_OK, "mark was refused");
     ask(12, 0, 0);      /* the minimum is 10 again */
 
-    /* The other maker's attribute is an entry of its own: both are configured, and the clear takes out one of them. */
-    expect(hd_configure(table, sizeof table, CLUSTER, LAMP_CODE, ATTRIBUTE, 1, 30, 5, HD_UNSIGNED, &accepted) == HD_OK, "configure was refused");
-    expect(accepted == 1, "there was no room");
-    printf("configured: %u of 128\n", table[0]);
-    expect(hd_clear(table, sizeof table, CLUSTER, HD_NO_CODE, ATTRIBUTE) == HD_OK, "clear was refused");
+    expect(hd_clear(table, sizeof table, CLUSTER, ATTRIBUTE) == HD_OK, "clear was refused");
     printf("cleared: %u of 128 configured\n", table[0]);
     ask(1000, 0, 0);
-    expect(hd_configuration(table, sizeof table, CLUSTER, LAMP_CODE, ATTRIBUTE, &found, &minimum, &maximum, &change, &mark) == HD_OK, "configuration was refused");
-    expect(found == 1 && minimum == 1 && maximum == 30 && change == 5 && mark == HD_UNSIGNED, "another configuration");
-    printf("configuration under code %04x: %u to %u seconds\n", LAMP_CODE, minimum, maximum);
     return 0;
 }

@@ -5,20 +5,13 @@
  * It also reads what a server sends back: the replies, and Report Attributes frames.
  *
  * The caller keeps the store and the table as bytes and lends them to each call, with their length. A table is HD_TABLE_BYTES bytes;
- * hd_table_new makes them one, and docs/TABLE.md has the layout. A store comes in one of two forms, and the caller says in which, HD_FORM_FIRST or
- * HD_FORM_SECOND: nothing in the bytes tells it. Any other form, like bytes that are no store of the form, gets HD_NOT_A_STORE.
- *
- * An attribute is named by a manufacturer code and a number together, so that two makers may use one number. HD_NO_CODE is for none; all attributes
- * of a store in the first form are without one.
+ * hd_table_new makes them one, and docs/TABLE.md has the layout. A store's layout is that of document 01.
  *
  * Every function returns one of the numbers below. A refusal, any number but HD_OK, writes 0 through every pointer to a result and
  * zeros to the whole reply buffer. Store and table are then as they were, with three exceptions of hd_handle_request: after HD_RECORD_CUT
  * what the earlier records did stays done, after HD_TOO_LONG what the records up to there did, and after HD_NOTHING_TO_SEND all that the
  * command did; and one of hd_restore, which leaves an empty table after HD_NOT_A_SAVED_FORM. What goes in and comes back through one pointer, the last id
- * of hd_report_turn, is as it came. A reply buffer is also where a report frame, a saved form or a store in another form goes.
- *
- * Of several refusals HD_NOT_A_STORE comes first and HD_NOT_A_TABLE next; hd_handle_request then has HD_OTHER_CLUSTER, HD_HEADER_SHORT and
- * HD_RESERVED_FRAME_TYPE before those of the command. The comments below name the others in the order in which they come.
+ * of hd_report_turn, is as it came.
  *
  * No pointer may be null, also not one that is lent with length 0; otherwise a length of 0 may come with any pointer, one past the end of an
  * array too, since nothing is read or written there. Between the buffers and results of one call no byte may be shared: lent buffers do not
@@ -34,23 +27,11 @@
 extern "C" {
 #endif
 
-/* The bytes of a table. It has room for 128 attributes, of all clusters and codes together. */
-#define HD_TABLE_BYTES 4097
+/* The bytes of a table. It has room for 128 attributes. */
+#define HD_TABLE_BYTES 3841
 
-/* The bytes of the longest saved form of a table: one byte, and 21 for each of 128 attributes. */
-#define HD_SAVED_BYTES 2689
-
-/*
- * The form of a store: a cluster and a count n, 2 bytes each, n entries, then the values in the order of the entries without gaps, as document 01 has it.
- * In the first form an entry has 8 bytes: number (2), type and access (1 each), offset and room (2 each). Numbers ascend, and the whole is 4096 bytes at
- * most.
- */
-#define HD_FORM_FIRST 1
-/* In the second it has 10, the code (2) behind the number. Entries ascend by code and then number, and the whole is 4096 + 2 n bytes at most. */
-#define HD_FORM_SECOND 2
-
-/* No manufacturer code. */
-#define HD_NO_CODE 0
+/* The bytes of the longest saved form of a table: one byte, and 19 for each of 128 attributes. */
+#define HD_SAVED_BYTES 2433
 
 /* What a call returns: that it was done, */
 #define HD_OK 0
@@ -66,7 +47,7 @@ extern "C" {
 #define HD_TOO_LONG 5
 /* By rule nothing is to be sent. */
 #define HD_NOTHING_TO_SEND 6
-/* The bytes are no store of the form that is said, or there is no such form. */
+/* The bytes are no store. */
 #define HD_NOT_A_STORE 7
 /* The bytes are no table: their length is another, or they are in no form that these functions write. */
 #define HD_NOT_A_TABLE 8
@@ -82,8 +63,6 @@ extern "C" {
 #define HD_NOT_A_SAVED_FORM 13
 /* or a mark is neither HD_SIGNED nor HD_UNSIGNED. */
 #define HD_NOT_A_MARK 13
-/* A store in the second form has an attribute with a code, so it has no first form. */
-#define HD_CANNOT_GO_BACK 14
 
 /* The mark of an attribute's configuration: how its numbers compare. Int types with their sign, */
 #define HD_SIGNED 0
@@ -93,7 +72,7 @@ extern "C" {
 /* No attribute, for hd_report_turn, and so is every number above it: an attribute's number is ffff at most. */
 #define HD_NO_ID 0x10000
 
-/* The commands of requests, and of replies and reports: the last byte of a frame's header, which hd_header tells. */
+/* The commands of requests, and of replies and reports: the last byte of a frame's header. */
 #define HD_READ 0x00
 #define HD_READ_REPLY 0x01
 #define HD_WRITE 0x02
@@ -133,102 +112,79 @@ uint8_t hd_table_new(uint8_t *table, size_t table_len);
  * that configures sets the mark of its type. Writes 1 to *accepted, or 0 where 128 other attributes are configured: the table is then as it was,
  * and HD_OK is returned.
  */
-uint8_t hd_configure(uint8_t *table, size_t table_len, uint16_t cluster, uint16_t code, uint16_t attribute, uint16_t minimum, uint16_t maximum, uint64_t change, uint8_t mark, uint8_t *accepted);
+uint8_t hd_configure(uint8_t *table, size_t table_len, uint16_t cluster, uint16_t attribute, uint16_t minimum, uint16_t maximum, uint64_t change, uint8_t mark, uint8_t *accepted);
 
 /* Takes the attribute's configuration and last report out of the table. Where there is none, the table is as it was. */
-uint8_t hd_clear(uint8_t *table, size_t table_len, uint16_t cluster, uint16_t code, uint16_t attribute);
+uint8_t hd_clear(uint8_t *table, size_t table_len, uint16_t cluster, uint16_t attribute);
 
 /* Writes 1 to *found, and what hd_configure was given for the attribute; or five zeros where nothing is configured. */
-uint8_t hd_configuration(const uint8_t *table, size_t table_len, uint16_t cluster, uint16_t code, uint16_t attribute, uint8_t *found, uint16_t *minimum, uint16_t *maximum, uint64_t *change, uint8_t *mark);
+uint8_t hd_configuration(const uint8_t *table, size_t table_len, uint16_t cluster, uint16_t attribute, uint8_t *found, uint16_t *minimum, uint16_t *maximum, uint64_t *change, uint8_t *mark);
 
 /*
  * Writes to *due whether the attribute should be reported at the time `now`, in seconds, if its value is `value`: 1 or 0.
  * From hd_configure to the first hd_mark it is 1, unless the maximum is ffff; an attribute that is not configured gets 0.
  */
-uint8_t hd_ask(const uint8_t *table, size_t table_len, uint16_t cluster, uint16_t code, uint16_t attribute, uint32_t now, int64_t value, uint8_t *due);
+uint8_t hd_ask(const uint8_t *table, size_t table_len, uint16_t cluster, uint16_t attribute, uint32_t now, int64_t value, uint8_t *due);
 
 /*
  * Keeps the time and the value of a report that was sent; later asks are held to it. For an attribute that is not configured
  * the table is as it was.
  */
-uint8_t hd_mark(uint8_t *table, size_t table_len, uint16_t cluster, uint16_t code, uint16_t attribute, uint32_t now, int64_t value);
+uint8_t hd_mark(uint8_t *table, size_t table_len, uint16_t cluster, uint16_t attribute, uint32_t now, int64_t value);
 
 /*
  * Writes the saved form of the table to the start of `saved`, zeros behind it, and its length to *saved_used: what a box keeps in flash, so that
  * its reports outlive a power cut. It tells what is configured, and no last report; docs/TABLE.md has its layout. HD_SAVED_BYTES are enough. A
  * table is not saved, HD_NOT_A_SAVED_FORM, if an attribute stands in it twice, or with intervals that no request can set: a maximum of ffff, a
- * maximum of 0 with a minimum of ffff, or a maximum that is not 0 and below the minimum; then HD_TOO_LONG where the form does not fit. The table stays
- * as it is.
+ * maximum of 0 with a minimum of ffff, or a maximum that is not 0 and below the minimum. The table stays as it is.
  */
 uint8_t hd_save(const uint8_t *table, size_t table_len, uint8_t *saved, size_t saved_len, size_t *saved_used);
 
 /*
  * Makes a table of a saved form, whatever the table's bytes were: its attributes are configured, and none is reported yet. `saved_len` is the
- * form's own length, as hd_save gave it. Shorter forms, which were saved before there was what they lack, are read too, told by their length and count:
- * one byte and 19 for each attribute is without codes and read with HD_NO_CODE, one byte and 18 is without marks as well and read as HD_SIGNED. Bytes
- * that are no saved form get HD_NOT_A_SAVED_FORM and make an empty table. HD_NOT_A_TABLE where table_len is not HD_TABLE_BYTES; then the bytes are as
+ * form's own length, as hd_save gave it; a form from before there were marks, one byte and 18 for each attribute, is read as HD_SIGNED. Bytes that
+ * are no saved form get HD_NOT_A_SAVED_FORM and make an empty table. HD_NOT_A_TABLE where table_len is not HD_TABLE_BYTES; then the bytes are as
  * they were.
  */
 uint8_t hd_restore(uint8_t *table, size_t table_len, const uint8_t *saved, size_t saved_len);
 
 /*
- * Moves a store from the first form to the second, where each attribute has HD_NO_CODE: writes it to the start of `out`, zeros behind it, and its length,
- * two bytes more for each attribute, to *out_used. 4224 bytes hold any. HD_NOT_A_STORE for bytes that are no store of the first form, HD_TOO_LONG where
- * it does not fit. The store lent stays as it is. hd_to_first gives its bytes back.
- */
-uint8_t hd_to_second(const uint8_t *store, size_t store_len, uint8_t *out, size_t out_len, size_t *out_used);
-
-/*
- * Moves a store from the second form back to the first, in the same way. HD_NOT_A_STORE for bytes that are no store of the second form, HD_CANNOT_GO_BACK
- * where some attribute has a code, and then HD_TOO_LONG where it does not fit. hd_to_second gives its bytes back.
- */
-uint8_t hd_to_first(const uint8_t *store, size_t store_len, uint8_t *out, size_t out_len, size_t *out_used);
-
-/*
  * Writes the number of an attribute's value to *value: Int types with their sign, every other type without one, but that a value of
  * eight bytes keeps its bit pattern.
  */
-uint8_t hd_number(const uint8_t *store, size_t store_len, uint8_t form, uint16_t code, uint16_t attribute, int64_t *value);
+uint8_t hd_number(const uint8_t *store, size_t store_len, uint16_t attribute, int64_t *value);
 
 /*
  * Serves one request, the bytes of a ZCL frame that came for `cluster`; `unicast` is 0 where it was not sent to this device alone. Writes
  * the reply to the start of `reply`, zeros behind it, and its length to *reply_used. A Default Response that came gets
  * HD_NOTHING_TO_SEND and changes nothing, whatever is in it: so devices that hand each other their replies stop after two at most.
- *
- * The manufacturer code in the request's header, together with the numbers in its records, names the attributes: those of that code alone are read,
- * written, configured and discovered. A header without a code, or with code 0000, is for the attributes without one. The reply to a request with another
- * code carries it, whether the store has it or not: its header is 1c, the code, then as without one, five bytes instead of three.
  */
-uint8_t hd_handle_request(uint8_t *store, size_t store_len, uint8_t form, uint8_t *table, size_t table_len, uint16_t cluster, uint8_t unicast, const uint8_t *request, size_t request_len, uint8_t *reply, size_t reply_len, size_t *reply_used);
+uint8_t hd_handle_request(uint8_t *store, size_t store_len, uint8_t *table, size_t table_len, uint16_t cluster, uint8_t unicast, const uint8_t *request, size_t request_len, uint8_t *reply, size_t reply_len, size_t *reply_used);
 
 /*
  * Answers a request for a cluster that is not among the `served_len` served ones, with UNSUPPORTED_CLUSTER. Ask it last, after every
- * store of the endpoint: a served cluster gets HD_NOTHING_TO_SEND. Then comes HD_HEADER_SHORT; HD_NOTHING_TO_SEND for a Default Response, and where
- * `unicast` is 0; and HD_TOO_LONG. The reply has five bytes, or seven where the request has a code, which stands in it.
+ * store of the endpoint: a served cluster gets HD_NOTHING_TO_SEND, and so does a Default Response.
  */
 uint8_t hd_unsupported_cluster(const uint16_t *served, size_t served_len, uint16_t cluster, uint8_t unicast, const uint8_t *request, size_t request_len, uint8_t *reply, size_t reply_len, size_t *reply_used);
 
 /*
- * Writes a Report Attributes frame of these attributes of one code, in their order, to the start of `frame`, zeros behind it, and its length to
- * *frame_used. The header has three bytes, or five with a code: HD_TOO_LONG where it does not fit, HD_EMPTY_REPORT, then for each attribute in turn
- * HD_NOT_REPORTABLE, also where the store has it under another code alone, or HD_TOO_LONG.
+ * Writes a Report Attributes frame of these attributes, in their order, to the start of `frame`, zeros behind it, and its length to
+ * *frame_used.
  */
-uint8_t hd_report(const uint8_t *store, size_t store_len, uint8_t form, uint16_t code, uint8_t sequence, const uint16_t *ids, size_t ids_len, uint8_t *frame, size_t frame_len, size_t *frame_used);
+uint8_t hd_report(const uint8_t *store, size_t store_len, uint8_t sequence, const uint16_t *ids, size_t ids_len, uint8_t *frame, size_t frame_len, size_t *frame_used);
 
 /*
- * A report turn: one Report Attributes frame of all that is due of one code. Writes it to the start of `frame`, zeros behind it, and its length to
- * *frame_used, and keeps the time `now`, in seconds, and the value of each attribute in it, as hd_mark does. What is due is what hd_ask would say of the
- * attribute and its value, where a value without a number counts as 0. The store's attributes of the code come in ascending order, each once, from the
- * first above *last on and going round, up to the first that does not fit. One that is configured and gone from the store, or not reportable, is passed
- * over.
+ * A report turn: one Report Attributes frame of all that is due. Writes it to the start of `frame`, zeros behind it, and its length to *frame_used, and
+ * keeps the time `now`, in seconds, and the value of each attribute in it, as hd_mark does. What is due is what hd_ask would say of the attribute and
+ * its value, where a value without a number counts as 0. The store's attributes come in ascending order, each once, from the first above *last on and
+ * going round, up to the first that does not fit. One that is configured and gone from the store, or not reportable, is passed over.
  *
- * *last goes in and comes back: HD_NO_ID at first, then what the turn before left there, the last attribute that it wrote. Each code has a last attribute
- * of its own. So none waits for ever where not all fit: as long as each of them fits alone, and none is configured or cleared between, an attribute that
- * is due in as many turns in a row as the cluster has attributes of the code configured is in one of their frames. HD_TOO_LONG where the header does not
- * fit, three bytes or five with a code, HD_NOTHING_TO_SEND where nothing is due, HD_TOO_LONG where the first that is due does not fit. A turn that is
- * refused marks nothing.
+ * *last goes in and comes back: HD_NO_ID at first, then what the turn before left there, the last attribute that it wrote. So none waits for ever where
+ * not all fit: as long as each of them fits alone, and none is configured or cleared between, an attribute that is due in as many turns in a row as the
+ * cluster has attributes configured is in one of their frames. HD_NOTHING_TO_SEND where nothing is due, HD_TOO_LONG where the first that is due does
+ * not fit, or no header. A turn that is refused marks nothing.
  */
-uint8_t hd_report_turn(const uint8_t *store, size_t store_len, uint8_t form, uint8_t *table, size_t table_len, uint16_t code, uint8_t sequence, uint32_t now, uint32_t *last, uint8_t *frame, size_t frame_len, size_t *frame_used);
+uint8_t hd_report_turn(const uint8_t *store, size_t store_len, uint8_t *table, size_t table_len, uint8_t sequence, uint32_t now, uint32_t *last, uint8_t *frame, size_t frame_len, size_t *frame_used);
 
 /*
  * The readers: what a device sent back, the bytes of a ZCL frame. For a reply with records there is a check, which counts them, and a
@@ -237,20 +193,13 @@ uint8_t hd_report_turn(const uint8_t *store, size_t store_len, uint8_t form, uin
  *   HD_HEADER_SHORT      it is too short for a header;
  *   HD_RECORD_CUT        a record is cut, a value has no extent, or a body that cannot be empty is; also where that is behind record k;
  *   HD_NOT_SUCH_A_REPLY  it is no global command, its command is another, or bytes stand in it that no such reply has.
- * Of several faults the first in the frame counts. After a refusal every result is 0. A manufacturer code in the header is passed over; hd_header
- * tells it.
+ * Of several faults the first in the frame counts. After a refusal every result is 0. A manufacturer code in the header is passed over.
  *
  * A status is its byte as it came. A value is told by its type, by `value`, the offset of its first byte in the frame, and by its
- * length; a string's length field is part of it. *numbered is 1 where its type has a number, and *number is that number, as hd_number gives it: Int types
- * with their sign, every other type without one and so never negative, but that a value of eight bytes keeps its bit pattern. Types of 16 bytes and of no
- * fixed length have none: *numbered and *number are then 0.
+ * length; a string's length field is part of it. *numbered is 1 where its type has a number, and *number is that number, as hd_number gives it: Int types with their sign, every
+ * other type without one and so never negative, but that a value of eight bytes keeps its bit pattern. Types of 16 bytes and of no fixed
+ * length have none: *numbered and *number are then 0.
  */
-
-/*
- * The header of any frame by itself: its control byte, of which bits 0 and 1 are the frame type, its manufacturer code, HD_NO_CODE where bit 2 of the
- * control byte says that there is none, its sequence number and its command. HD_HEADER_SHORT where it is cut: it has three bytes, or five with a code.
- */
-uint8_t hd_header(const uint8_t *frame, size_t frame_len, uint8_t *control, uint16_t *code, uint8_t *sequence, uint8_t *command);
 
 /* Writes to *records how many records the reply to Read Attributes has. */
 uint8_t hd_read_check(const uint8_t *frame, size_t frame_len, size_t *records);

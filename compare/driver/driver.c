@@ -8,9 +8,6 @@
  * these bytes of the buffers, one behind the other: all that follow in a buffer are as the last that is told, so that a table's blank slots cost
  * nothing. What a function does not have is 0.
  *
- * An attribute is told by its name, its manufacturer code times 65536 and its number. Of a report and a turn the fifth argument is the code, and of all that
- * take a store the sixth is its form less HD_FORM_FIRST: so 0 is no code, and the first form.
- *
  * Function 0 is no call: it ends a batch. The answers are kept until then, so that the other end can write a whole batch before it reads.
  *
  * An answer: six numbers (what the function returned; 5 results), then each buffer as it is afterwards: how many bytes are told, and these between
@@ -106,33 +103,32 @@ static void show(const uint8_t *buffer, uint64_t length)
 /* Makes the call. Lists of 16-bit numbers have lengths in bytes on the pipe. */
 static uint8_t answer(uint64_t function, const uint64_t *a, uint8_t *const *b, const uint64_t *len, union result *r)
 {
-    const uint16_t cluster = (uint16_t)a[0], code = (uint16_t)(a[1] >> 16), attribute = (uint16_t)a[1];
-    const uint8_t form = (uint8_t)(a[5] + HD_FORM_FIRST);
+    const uint16_t cluster = (uint16_t)a[0], attribute = (uint16_t)a[1];
     void *list;
 
     switch (function) {
     case 1:
         return hd_table_new(b[0], len[0]);
     case 2:
-        return hd_configure(b[0], len[0], cluster, code, attribute, (uint16_t)a[2], (uint16_t)a[3], a[4], (uint8_t)a[5], &r[0].byte);
+        return hd_configure(b[0], len[0], cluster, attribute, (uint16_t)a[2], (uint16_t)a[3], a[4], (uint8_t)a[5], &r[0].byte);
     case 3:
-        return hd_clear(b[0], len[0], cluster, code, attribute);
+        return hd_clear(b[0], len[0], cluster, attribute);
     case 4:
-        return hd_configuration(b[0], len[0], cluster, code, attribute, &r[0].byte, &r[1].word, &r[2].word, &r[3].change, &r[4].byte);
+        return hd_configuration(b[0], len[0], cluster, attribute, &r[0].byte, &r[1].word, &r[2].word, &r[3].change, &r[4].byte);
     case 5:
-        return hd_ask(b[0], len[0], cluster, code, attribute, (uint32_t)a[2], (int64_t)a[3], &r[0].byte);
+        return hd_ask(b[0], len[0], cluster, attribute, (uint32_t)a[2], (int64_t)a[3], &r[0].byte);
     case 6:
-        return hd_mark(b[0], len[0], cluster, code, attribute, (uint32_t)a[2], (int64_t)a[3]);
+        return hd_mark(b[0], len[0], cluster, attribute, (uint32_t)a[2], (int64_t)a[3]);
     case 7:
-        return hd_number(b[0], len[0], form, (uint16_t)(a[0] >> 16), (uint16_t)a[0], &r[0].value);
+        return hd_number(b[0], len[0], (uint16_t)a[0], &r[0].value);
     case 8:
-        return hd_handle_request(b[0], len[0], form, b[1], len[1], cluster, (uint8_t)a[1], b[2], len[2], b[3], len[3], &r[0].used);
+        return hd_handle_request(b[0], len[0], b[1], len[1], cluster, (uint8_t)a[1], b[2], len[2], b[3], len[3], &r[0].used);
     case 9:
         list = b[0];
         return hd_unsupported_cluster(list, len[0] / 2, cluster, (uint8_t)a[1], b[1], len[1], b[2], len[2], &r[0].used);
     case 10:
         list = b[1];
-        return hd_report(b[0], len[0], form, (uint16_t)a[4], (uint8_t)a[0], list, len[1] / 2, b[2], len[2], &r[0].used);
+        return hd_report(b[0], len[0], (uint8_t)a[0], list, len[1] / 2, b[2], len[2], &r[0].used);
     case 11:
         list = b[1];
         return read_rows(b[0], len[0], list, len[1] / sizeof(struct row));
@@ -142,13 +138,7 @@ static uint8_t answer(uint64_t function, const uint64_t *a, uint8_t *const *b, c
         return hd_restore(b[0], len[0], b[1], len[1]);
     case 14:
         r[1].last = (uint32_t)a[2];
-        return hd_report_turn(b[0], len[0], form, b[1], len[1], (uint16_t)a[4], (uint8_t)a[0], (uint32_t)a[1], &r[1].last, b[2], len[2], &r[0].used);
-    case 15:
-        return hd_to_second(b[0], len[0], b[1], len[1], &r[0].used);
-    case 16:
-        return hd_to_first(b[0], len[0], b[1], len[1], &r[0].used);
-    case 17:
-        return hd_header(b[0], len[0], &r[0].byte, &r[1].word, &r[2].byte, &r[3].byte);
+        return hd_report_turn(b[0], len[0], b[1], len[1], (uint8_t)a[0], (uint32_t)a[1], &r[1].last, b[2], len[2], &r[0].used);
     default:
         end("there is no such function");
         return 0;

@@ -18,7 +18,7 @@ static void make_request(const struct call *call)
 {
     size_t used;
 
-    hd_handle_request(chosen.store, chosen.store_len, HD_FORM_FIRST, chosen.table, HD_TABLE_BYTES, call->cluster, 1, call->frame, call->length, reply,
+    hd_handle_request(chosen.store, chosen.store_len, chosen.table, HD_TABLE_BYTES, call->cluster, 1, call->frame, call->length, reply,
                       call->room, &used);
 }
 
@@ -26,19 +26,19 @@ static void make_report(const struct call *call)
 {
     size_t used;
 
-    hd_report(chosen.store, chosen.store_len, HD_FORM_FIRST, HD_NO_CODE, call->sequence, call->ids, call->length, reply, call->room, &used);
+    hd_report(chosen.store, chosen.store_len, call->sequence, call->ids, call->length, reply, call->room, &used);
 }
 
 static void make_ask(const struct call *call)
 {
     uint8_t due;
 
-    hd_ask(chosen.table, HD_TABLE_BYTES, call->cluster, HD_NO_CODE, call->attribute, call->now, call->value, &due);
+    hd_ask(chosen.table, HD_TABLE_BYTES, call->cluster, call->attribute, call->now, call->value, &due);
 }
 
 static void make_mark(const struct call *call)
 {
-    hd_mark(chosen.table, HD_TABLE_BYTES, call->cluster, HD_NO_CODE, call->attribute, call->now, call->value);
+    hd_mark(chosen.table, HD_TABLE_BYTES, call->cluster, call->attribute, call->now, call->value);
 }
 
 static void (*const make[KINDS])(const struct call *call) = { make_request, make_report, make_ask, make_mark };

@@ -14,7 +14,7 @@ static uint8_t store[] = {
     0x21, 0xfc, 4, 0, 0, 0, 0x23, 2, 36, 0, 4, 0, 1, 0, 0x20, 1, 40, 0, 1, 0, 5, 0, 0x29, 3, 41, 0, 2, 0, 7, 0, 0x42, 1, 43, 0, 5, 0,
     0, 0, 0, 0x80, 7, 0x38, 0xff, 2, 'T', 'V', 0, 0
 };
-static uint8_t table[4097];
+static uint8_t table[3841];
 static uint8_t reply[64];
 
 struct row {
@@ -63,13 +63,13 @@ int main(void)
 
     table[0] = 16;
     for (i = 0; i < 16; i++) {
-        uint8_t *slot = table + 1 + 32 * i;
+        uint8_t *slot = table + 1 + 30 * i;
         slot[0] = 0x21;
         slot[1] = 0xfc;
         slot[2] = i == 15 ? 5 : (uint8_t)(100 + i);
-        slot[6] = 10;
-        slot[8] = 60;
-        slot[10] = 50;
+        slot[4] = 10;
+        slot[6] = 60;
+        slot[8] = 50;
     }
     printf("%-22s %-24s %8s %8s\n", "request", "table", "ns", "stack");
     for (row = rows; row < rows + sizeof rows / sizeof rows[0]; row++)

@@ -6,8 +6,7 @@
  * Arguments and return address count; what else a call of an empty function takes is subtracted. Every function is called on every row: the server's
  * with its requests, the readers with what was asked and what was said, the table's with the attributes of its store and with its asks. A table is saved
  * and restored as it stands in a row, and first one of 16 entries and a full one. A report turn is taken over a row's store and table as they stand, and
- * with the store's attributes configured and all due. All this is done with a row's store as it stands, in its second form, and there with every attribute
- * under a manufacturer code, which calls and requests then name.
+ * with the store's attributes configured and all due.
  *
  * Prints a line a function: its name, bytes, and the row and frame. Exits with 1 where one was never called, never said HD_OK or took no stack.
  */
@@ -15,13 +14,8 @@
 #include "painted.h"
 #include "rows.h"
 
-/* The bytes of a row and of a body in the saved form, and of a row without a code and a body without a mark. The entries of a full table have both. */
-enum { ROW = 8, BODY = 13, OLD_ROW = 6, OLD_BODY = 12, ENTRIES = (HD_SAVED_BYTES - 1) / (ROW + BODY) };
-
-/* The ways in which a row's store is lent, the code in the last of them, and what the second form may have more than the first. */
-enum way { FIRST, SECOND, CODED, WAYS };
-enum { CODE = 0x1234, MORE = 2 * 64 };
-static const char *const ways[WAYS] = { "", ", second form", ", with a code" };
+/* The entries of a full table: each has a row and a body in the saved form. */
+enum { ENTRIES = (HD_SAVED_BYTES - 1) / (6 + 13) };
 
 /* What the calls below are given: a row, one of its calls, a copy of its table, a frame to serve or to read, a record's number; */
 static struct row row;
@@ -29,14 +23,6 @@ static const struct call *call;
 static uint8_t table[HD_TABLE_BYTES];
 static const uint8_t *frame;
 static size_t frame_len, k;
-/* the row's store in the second form, moved back, and a copy of the row's table for it; */
-static uint8_t second[BYTES + MORE], back[BYTES], second_table[HD_TABLE_BYTES];
-static size_t second_len;
-/* the store that is lent, its form, the code, and the table for requests; */
-static enum way way;
-static uint8_t *store, *served, form;
-static size_t store_len;
-static uint16_t code;
 /* a saved form's bytes and how many of them are lent; */
 static uint8_t saved[HD_SAVED_BYTES];
 static size_t saved_len;
@@ -50,8 +36,8 @@ static uint32_t last;
 /* and what they return. */
 static volatile uint8_t said;
 
-#define STORE store, store_len, form
-#define KEY table, sizeof table, call->cluster, code, call->attribute
+#define STORE row.store, row.store_len
+#define KEY table, sizeof table, call->cluster, call->attribute
 #define FRAME frame, frame_len
 #define REPLY reply, call->room, &used
 
@@ -65,14 +51,11 @@ static volatile uint8_t said;
     F(hd_mark, KEY, call->now, call->value) \
     F(hd_save, table, sizeof table, saved, saved_len, &used) \
     F(hd_restore, table, sizeof table, saved, saved_len) \
-    F(hd_to_second, row.store, row.store_len, second, sizeof second, &used) \
-    F(hd_to_first, second, second_len, back, sizeof back, &used) \
-    F(hd_number, STORE, code, call->attribute, &value) \
-    F(hd_handle_request, STORE, served, HD_TABLE_BYTES, call->cluster, 1, FRAME, REPLY) \
+    F(hd_number, STORE, call->attribute, &value) \
+    F(hd_handle_request, STORE, row.table, sizeof row.table, call->cluster, 1, FRAME, REPLY) \
     F(hd_unsupported_cluster, &w1, 0, call->cluster, 1, FRAME, REPLY) \
-    F(hd_report, STORE, code, call->sequence, call->ids, call->length, REPLY) \
-    F(hd_report_turn, STORE, table, sizeof table, code, call->sequence, call->now, &last, REPLY) \
-    F(hd_header, FRAME, &b1, &w1, &b2, &b3) \
+    F(hd_report, STORE, call->sequence, call->ids, call->length, REPLY) \
+    F(hd_report_turn, STORE, table, sizeof table, call->sequence, call->now, &last, REPLY) \
     F(hd_read_check, FRAME, &records) \
     F(hd_read_record, FRAME, k, &b1, &w1, &b2, &b3, &place, &length, &b4, &value) \
     F(hd_write_check, FRAME, &records) \
@@ -131,7 +114,7 @@ static void measure(void (*run)(void))
     function->done += said == HD_OK;
     if (bytes > function->most) {
         function->most = bytes;
-        snprintf(function->on, sizeof function->on, "%s%s %s", name, ways[way], what);
+        snprintf(function->on, sizeof function->on, "%s %s", name, what);
     }
 }
 
@@ -161,7 +144,6 @@ static void read_back(const uint8_t *bytes, size_t n)
     size_t i;
 
     lend(bytes, n);
-    measure(call_hd_header);
     measure(call_hd_default_response);
     for (i = 0; i < sizeof readers / sizeof *readers; i++) {
         measure(readers[i][0]);
@@ -170,70 +152,9 @@ static void read_back(const uint8_t *bytes, size_t n)
     }
 }
 
-/* The size of an entry of the store that is lent. */
-static size_t entry_size(void)
-{
-    return form == HD_FORM_FIRST ? 8 : 10;
-}
-
-/* How many entries it has, at most those that are there. */
-static size_t entries(void)
-{
-    const size_t said = store_len < 4 ? 0 : store[2] + 256u * store[3], there = store_len < 4 ? 0 : (store_len - 4) / entry_size();
-
-    return said < there ? said : there;
-}
-
-/* Lends the row's store in a way. Where it is none, its second form is no byte. */
-static void lend_store(enum way as)
-{
-    size_t i;
-
-    way = as;
-    code = HD_NO_CODE;
-    form = HD_FORM_FIRST;
-    store = row.store;
-    store_len = row.store_len;
-    served = row.table;
-    if (way == FIRST)
-        return;
-    strcpy(what, "moved");
-    measure(call_hd_to_second);
-    second_len = used;
-    measure(call_hd_to_first);
-    form = HD_FORM_SECOND;
-    store = second;
-    store_len = second_len;
-    memcpy(second_table, row.table, sizeof second_table);
-    served = second_table;
-    if (way == SECOND)
-        return;
-    code = CODE;
-    for (i = 0; i < entries(); i++) {
-        second[4 + 10 * i + 2] = CODE & 0xff;
-        second[4 + 10 * i + 3] = CODE >> 8;
-    }
-    measure(call_hd_to_first);
-}
-
-/* The call's frame; where a code is to be named, with that code in its header if it has none. */
-static void lend_request(void)
-{
-    static uint8_t coded[BYTES + 2];
-
-    lend(call->frame, call->length);
-    if (code == HD_NO_CODE || call->length == 0 || (call->frame[0] & 4) != 0)
-        return;
-    coded[0] = call->frame[0] | 4;
-    coded[1] = CODE & 0xff;
-    coded[2] = CODE >> 8;
-    memcpy(coded + 3, call->frame + 1, call->length - 1);
-    lend(coded, call->length + 2);
-}
-
 static void serve(void (*run)(void))
 {
-    lend_request();
+    lend(call->frame, call->length);
     measure(run);
     if (said == HD_OK)
         read_back(reply, used);
@@ -247,51 +168,40 @@ static void report(void)
         read_back(reply, used);
 }
 
-/* Makes of the newest form one that was saved before there were codes, or also before there were marks, whose bodies have OLD_BODY bytes. */
-static void older(const uint8_t *newest, size_t body)
+/* Makes the form what it was before there were marks: a body has its first 12 bytes, and stands so much earlier. */
+static void without_marks(void)
 {
-    const size_t n = newest[0];
+    const size_t n = saved[0], rows = 1 + 6 * n;
     size_t i;
 
-    saved[0] = newest[0];
     for (i = 0; i < n; i++) {
-        const size_t at = 1 + OLD_ROW * n + body * i;
+        const size_t at = rows + 12 * i;
 
-        memcpy(saved + 1 + OLD_ROW * i, newest + 1 + ROW * i, OLD_ROW - 2);
-        saved[1 + OLD_ROW * i + 4] = (uint8_t)at;
-        saved[1 + OLD_ROW * i + 5] = (uint8_t)(at >> 8);
-        memcpy(saved + at, newest + 1 + ROW * n + BODY * i, body);
+        memmove(saved + at, saved + rows + 13 * i, 12);
+        saved[1 + 6 * i + 4] = (uint8_t)at;
+        saved[1 + 6 * i + 5] = (uint8_t)(at >> 8);
     }
-    saved_len = 1 + (OLD_ROW + body) * n;
+    saved_len = rows + 12 * n;
 }
 
-/*
- * A save and a restore, each first refused: there is no buffer, and the form's first byte alone is lent. Then the same form without codes, and without
- * marks.
- */
+/* A save and a restore, each first refused: there is no buffer, and the form's first byte alone is lent. Then the same form without marks. */
 static void save_and_restore(void)
 {
-    static uint8_t newest[HD_SAVED_BYTES];
-    size_t body;
-
     saved_len = 0;
     measure(call_hd_save);
     saved_len = sizeof saved;
     measure(call_hd_save);
     if (said != HD_OK)
         return;
-    memcpy(newest, saved, sizeof newest);
     saved_len = 1;
     measure(call_hd_restore);
     saved_len = used;
     measure(call_hd_restore);
-    for (body = BODY; body >= OLD_BODY; body--) {
-        older(newest, body);
-        measure(call_hd_restore);
-        if (said != HD_OK) {
-            fprintf(stderr, "stack: a form without codes was not read\n");
-            exit(1);
-        }
+    without_marks();
+    measure(call_hd_restore);
+    if (said != HD_OK) {
+        fprintf(stderr, "stack: a form without marks was not read\n");
+        exit(1);
     }
 }
 
@@ -304,8 +214,8 @@ static void filled(unsigned many)
     sprintf(what, "of %u entries", many);
     hd_table_new(table, sizeof table);
     for (i = 0; i < many; i++) {
-        hd_configure(table, sizeof table, 0x0402, HD_NO_CODE, i, 10, 300, 50, HD_SIGNED, &b1);
-        hd_mark(table, sizeof table, 0x0402, HD_NO_CODE, i, 100000, -5);
+        hd_configure(table, sizeof table, 0x0402, i, 10, 300, 50, HD_SIGNED, &b1);
+        hd_mark(table, sizeof table, 0x0402, i, 100000, -5);
     }
     save_and_restore();
 }
@@ -327,18 +237,9 @@ static void keep(void)
     save_and_restore();
 }
 
-/* The number of an attribute by its place in the store that is lent. */
-static uint16_t attribute_at(size_t i)
+/* A report turn over the row's store and table, and over a table of the `n` attributes of the store, as many as it holds. */
+static void turn(size_t n)
 {
-    const uint8_t *entry = store + 4 + entry_size() * i;
-
-    return (uint16_t)(entry[0] + 256u * entry[1]);
-}
-
-/* A report turn over the row's store and table, and over a table of the store's attributes, as many as it holds. */
-static void turn(void)
-{
-    const size_t n = entries();
     size_t i;
 
     sprintf(what, "a turn over %u attributes", (unsigned)n);
@@ -347,34 +248,44 @@ static void turn(void)
     measure(call_hd_report_turn);
     hd_table_new(table, sizeof table);
     for (i = 0; i < n; i++)
-        hd_configure(table, sizeof table, call->cluster, code, attribute_at(i), 10, 60, 50, HD_SIGNED, &b1);
+        hd_configure(table, sizeof table, call->cluster, (uint16_t)(row.store[4 + 8 * i] + 256u * row.store[5 + 8 * i]), 10, 60, 50, HD_SIGNED, &b1);
     measure(call_hd_report_turn);
     if (said == HD_OK)
         read_back(reply, used);
 }
 
-/* Each attribute of the store that is lent: its number, a report of it alone, and the table; then a report turn over all. */
+/* Each attribute of the row's store: its number, a report of it alone, and the table; then a report turn over all. */
 static void attributes(void)
 {
     static struct call made;
-    size_t i;
+    size_t n = row.store_len < 4 ? 0 : row.store[2] + 256u * row.store[3], i;
 
     call = &made;
     made.room = ROOM;
     made.length = 1;
-    for (i = 0; i < entries(); i++) {
-        made.cluster = (uint16_t)(store[0] + 256u * store[1]);
-        made.attribute = made.ids[0] = attribute_at(i);
+    for (i = 0; i < n && 4 + 8 * (i + 1) <= row.store_len; i++) {
+        const uint8_t *entry = row.store + 4 + 8 * i;
+
+        made.cluster = (uint16_t)(row.store[0] + 256u * row.store[1]);
+        made.attribute = made.ids[0] = (uint16_t)(entry[0] + 256u * entry[1]);
         keep();
         measure(call_hd_number);
         report();
     }
-    turn();
+    turn(i);
 }
 
-/* The call, over the store as it is lent. */
-static void make_call(void)
+/* A row's line, or the line of a call. */
+static void take(const char *first)
 {
+    if (strcmp(first, "row") == 0) {
+        snprintf(name, sizeof name, "%s", word());
+        read_row(&row);
+        attributes();
+        return;
+    }
+    call = read_call(&row, first);
+    row.many = 0;
     if (call->kind == REPORT) {
         report();
     } else if (call->kind != REQUEST) {
@@ -382,30 +293,7 @@ static void make_call(void)
     } else {
         serve(call_hd_handle_request);
         serve(call_hd_unsupported_cluster);
-        lend_request();
-        read_back(frame, frame_len);
-    }
-}
-
-/* A row's line, or the line of a call. What a call changes is kept in the row's own store and table; in the other ways it has copies of them. */
-static void take(const char *first)
-{
-    int as;
-
-    if (strcmp(first, "row") == 0) {
-        snprintf(name, sizeof name, "%s", word());
-        read_row(&row);
-        for (as = FIRST; as < WAYS; as++) {
-            lend_store((enum way)as);
-            attributes();
-        }
-        return;
-    }
-    call = read_call(&row, first);
-    row.many = 0;
-    for (as = FIRST; as < WAYS; as++) {
-        lend_store((enum way)as);
-        make_call();
+        read_back(call->frame, call->length);
     }
 }
 

@@ -7,7 +7,7 @@ use cases::Random;
 use cases::histories::kinds::{self, Kinds};
 use cases::histories::{Answer, History};
 use ours::{Driver, Held};
-use reading::table::{ENTRIES, FLAG, LAST, MARK, SIZE, SLOT, entries};
+use reading::table::{ENTRIES, SIZE, SLOT, entries};
 
 use crate::MARKS;
 use crate::call::{leaving, on};
@@ -51,9 +51,9 @@ fn place(table: &[u8], random: &mut Random) -> usize {
     let slot = 1 + SLOT * random.below(count + 1).min(ENTRIES - 1);
     match random.below(9) {
         0 => 0,
-        1 => slot + MARK,
-        2 => slot + FLAG,
-        3 => slot + LAST + random.below(12),
+        1 => slot + 16,
+        2 => slot + 17,
+        3 => slot + 18 + random.below(12),
         4 if count < ENTRIES => 1 + SLOT * count + random.below(SLOT),
         _ => random.below(SIZE),
     }
@@ -72,11 +72,6 @@ fn every_call(bytes: &[u8], random: &mut Random, kinds: &mut Kinds) -> Result<Ve
             answer: leaving(Answer::NO_TABLE, bytes),
         }),
     });
-    if read.is_err() {
-        for call in &calls {
-            kinds.count_listed(&kinds::of_coded(&held, call, Answer::NO_TABLE.number));
-        }
-    }
     [Ok(table_new(bytes))].into_iter().chain(each).collect()
 }
 

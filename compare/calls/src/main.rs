@@ -49,41 +49,24 @@ fn main() -> ExitCode {
     }
 }
 
-/// How many calls there were, in how many histories, and of which kinds.
-#[derive(Default)]
-struct Made {
-    calls: usize,
-    histories: usize,
-    kinds: Kinds,
-}
-
-/// Holds a side to the Rust and to the reading, by at least so many calls.
-fn all(driver: &mut Driver, least: usize) -> Result<Made, String> {
+fn run() -> Result<(), String> {
+    let start = Instant::now();
+    let driver = &mut Driver::start()?;
     let random = &mut Random::new(0x6869_6e67_6564_7269);
-    let mut made = Made::default();
+    let kinds = &mut Kinds::default();
+    let (mut calls, mut histories) = (0, 0);
     let mut kept = Vec::new();
     driver.agree(&[damaged::table_new(&[0x5a; SIZE])])?;
     for smallest in &SMALLEST {
         listed(driver, smallest)?;
     }
-    while made.calls < least {
-        made.calls += history(driver, random, &mut made.kinds, &mut kept)?;
-        made.histories += 1;
+    while calls < CALLS {
+        calls += history(driver, random, kinds, &mut kept)?;
+        histories += 1;
     }
     for table in &kept {
-        damaged::compare(driver, table, random, &mut made.kinds)?;
+        damaged::compare(driver, table, random, kinds)?;
     }
-    Ok(made)
-}
-
-fn run() -> Result<(), String> {
-    let start = Instant::now();
-    let driver = &mut Driver::start()?;
-    let Made {
-        calls,
-        histories,
-        kinds,
-    } = all(driver, CALLS)?;
     let seconds = start.elapsed().as_secs_f64();
     println!("calls: {calls} in {histories} histories agree, {seconds:.1} s");
     print!("{}", kinds.list(&kinds::ALL));
@@ -141,7 +124,6 @@ fn history(
             return Err(disagreement(driver, &calls));
         };
         kinds.count(kinds::of(&given.before, &call, &given.answer));
-        kinds.count_listed(&kinds::of_coded(&given.before, &call, given.answer.number));
         if let Some(rust) = &given.rust
             && let Some(kind) = kinds::of_marked(&given.before, &call, &given.answer, rust)
         {
@@ -216,26 +198,5 @@ fn replayed(driver: &mut Driver, calls: &[Call]) -> Result<(), Wrong> {
             before: list(&befores[at]),
             trouble,
         }),
-    }
-}
-
-#[cfg(test)]
-mod tests {
-    use ours::{Broken, StandIn};
-
-    use super::*;
-
-    #[test]
-    fn a_run_shows_enough() {
-        let right = &mut Driver::stand_in(StandIn(None));
-        let made = all(right, 100_000).expect("it agrees with itself");
-        assert_eq!(made.kinds.missing(&kinds::ALL), [""; 0]);
-    }
-
-    #[test]
-    fn a_key_without_its_code_is_caught() {
-        let wrong = &mut Driver::stand_in(StandIn(Some(Broken::PlainKey)));
-        let trouble = all(wrong, 100_000).err().expect("it is seen");
-        assert!(trouble.starts_with("a disagreement; of "), "{trouble}");
     }
 }

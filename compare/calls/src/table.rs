@@ -197,7 +197,10 @@ mod tests {
 
     #[test]
     fn marks_that_are_none() {
-        let key = Key::plain(0xfc21, 5);
+        let key = Key {
+            cluster: 0xfc21,
+            attribute: 5,
+        };
         let config = Config {
             minimum: 0,
             maximum: 60,

@@ -3,8 +3,7 @@
 use std::fmt;
 
 use reading::commands::serve_lent;
-use reading::header;
-use reading::store::{Form, NO_CODE, Scope, cluster_of};
+use reading::store::cluster_of;
 use reading::table::{Entry, SIGNED, entries, to_bytes};
 
 use crate::hex::hex;
@@ -12,7 +11,6 @@ use crate::hex::hex;
 #[derive(Debug, Clone, PartialEq, Eq)]
 pub struct Case {
     pub store: Vec<u8>,
-    pub form: Form,
     /// As it is lent.
     pub table: Vec<u8>,
     pub cluster: u16,
@@ -35,12 +33,10 @@ pub struct Seen {
 }
 
 impl Case {
-    /// A unicast request to the own cluster of a store of the first form, with an
-    /// empty table.
+    /// A unicast request to the store's own cluster, with an empty table.
     pub fn over(store: &[u8], request: &[u8], room: usize) -> Self {
         Self {
             store: store.to_vec(),
-            form: Form::FIRST,
             table: to_bytes(&[]),
             cluster: cluster_of(store).unwrap_or(0),
             unicast: 1,
@@ -56,7 +52,6 @@ impl Case {
         let unicast = self.unicast != 0;
         let answer = serve_lent(
             &mut store,
-            self.form,
             &mut table,
             self.cluster,
             unicast,
@@ -73,39 +68,6 @@ impl Case {
     }
 }
 
-impl Case {
-    /// The same without a manufacturer code in the header.
-    pub fn without_code(&self) -> Self {
-        Self {
-            request: without_code(&self.request),
-            ..self.clone()
-        }
-    }
-
-    /// What the request can name.
-    pub fn scope(&self) -> Scope {
-        scope(self.form, &self.request)
-    }
-}
-
-/// A frame without a manufacturer code in its header; one without a whole header as
-/// it is.
-pub fn without_code(request: &[u8]) -> Vec<u8> {
-    match header(request) {
-        Some(header) if header.manufacturer_code.is_some() => {
-            [&[header.control & !0x04], &request[3..]].concat()
-        }
-        _ => request.to_vec(),
-    }
-}
-
-/// What a request can name in a store of this form. It has no code where it has no
-/// whole header.
-pub fn scope(form: Form, request: &[u8]) -> Scope {
-    let code = header(request).map_or(NO_CODE, |header| header.code());
-    Scope { form, code }
-}
-
 impl Seen {
     /// The reply; nothing where there is none.
     pub fn reply(&self) -> &[u8] {
@@ -116,7 +78,6 @@ impl Seen {
 /// In the form of compare/FRAMES.md.
 impl fmt::Display for Case {
     fn fmt(&self, f: &mut fmt::Formatter<'_>) -> fmt::Result {
-        writeln!(f, "  form     {}", self.form.0)?;
         writeln!(f, "  store    {}", or_none(&self.store))?;
         writeln!(f, "  table    {}", shown(&self.table))?;
         writeln!(f, "  cluster  {:04x}", self.cluster)?;

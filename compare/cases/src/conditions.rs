@@ -3,10 +3,8 @@
 //! knows. It reads a value so to step over it where it is not
 //! stored: so a frame meets a condition by a value that the Rust steps over.
 
-use reading::store::Form;
 use reading::{Extent, FrameType, Kind};
 
-use crate::case::scope;
 use crate::records::{body_of, records};
 
 #[derive(Debug, Clone, Copy, PartialEq, Eq, Hash)]
@@ -66,12 +64,12 @@ impl Condition {
     /// that the Rust steps over: of a write, with or without response, in a
     /// record that fails, of an undivided write in any record. And how long the
     /// frame is without that record and what follows.
-    pub fn of_frame(store: &[u8], form: Form, request: &[u8]) -> Option<(Self, usize)> {
+    pub fn of_frame(store: &[u8], request: &[u8]) -> Option<(Self, usize)> {
         let (header, body) = body_of(request)?;
         if header.frame_type != FrameType::Global || !matches!(header.command, 0x02 | 0x03 | 0x05) {
             return None;
         }
-        let (records, _) = records(store, scope(form, request), body);
+        let (records, _) = records(store, body);
         records
             .iter()
             .filter(|record| header.command == 0x03 || record.status != 0x00)

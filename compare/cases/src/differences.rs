@@ -1,7 +1,7 @@
 //! The listed differences of the Rust in what is said to a frame, and the one
 //! answer that each lets the Rust give.
 
-use reading::store::{NO_CODE, cluster_of};
+use reading::store::cluster_of;
 use reading::table::{Entry, entries};
 use reading::{FrameType, Header};
 
@@ -16,8 +16,6 @@ pub enum Difference {
     Value(Condition),
     /// The Rust answers a received Default Response.
     DefaultResponse,
-    /// The Rust ignores a request's manufacturer code.
-    Coded,
     /// The Rust finds in the second pass of an undivided write that a string is
     /// too long.
     Divided,
@@ -27,7 +25,7 @@ impl Difference {
     /// All of them, in the order of docs/DIFFERENCES.md.
     pub fn all() -> impl Iterator<Item = Self> {
         let values = Condition::ALL.into_iter().map(Self::Value);
-        values.chain([Self::DefaultResponse, Self::Divided, Self::Coded])
+        values.chain([Self::DefaultResponse, Self::Divided])
     }
 
     /// Its name in docs/DIFFERENCES.md.
@@ -36,34 +34,22 @@ impl Difference {
             Self::Value(condition) => condition.name(),
             Self::DefaultResponse => "a received Default Response",
             Self::Divided => "an undivided write that divides",
-            Self::Coded => "a request with a manufacturer code",
         }
     }
 
     /// The one that a frame meets, over a store and a table that the Rust can be
     /// given, and what the Rust says then. An undivided write that meets two of
-    /// them counts under the value: the Rust refuses that in the first pass. A
-    /// request with a code counts under that, whatever it meets besides; but for a
-    /// Default Response, which gets nothing with a code and without.
+    /// them counts under the value: the Rust refuses that in the first pass.
     pub fn of(case: &Case) -> Option<(Self, Said)> {
         let (header, _) = body_of(&case.request)?;
         let own = cluster_of(&case.store) == Some(case.cluster);
-        if !own || header.frame_type == FrameType::Reserved {
+        if !own || header.frame_type != FrameType::Global {
             return None;
         }
-        let global = header.frame_type == FrameType::Global;
-        if global && header.command == 0x0b {
+        if header.command == 0x0b {
             return Some((Self::DefaultResponse, unsupported(case, &header)));
         }
-        if header.code() != NO_CODE {
-            return Some((Self::Coded, Said::rust(&case.without_code())));
-        }
-        if !global {
-            return None;
-        }
-        if let Some((condition, length)) =
-            Condition::of_frame(&case.store, case.form, &case.request)
-        {
+        if let Some((condition, length)) = Condition::of_frame(&case.store, &case.request) {
             return Some((Self::Value(condition), refused(case, &header, length)));
         }
         Some((Self::Divided, divided(case)?))
@@ -86,19 +72,6 @@ impl Said {
             reply: None,
             store: case.store.clone(),
             table: unmarked(&entries(&case.table).unwrap_or_default()),
-        }
-    }
-
-    /// What the Rust says to a request without a code.
-    fn rust(case: &Case) -> Self {
-        if let Some((_, said)) = Difference::of(case) {
-            return said;
-        }
-        let seen = case.document();
-        Self {
-            reply: (seen.number == 0).then(|| seen.reply().to_vec()),
-            table: unmarked(&entries(&seen.table).unwrap_or_default()),
-            store: seen.store,
         }
     }
 
@@ -184,23 +157,6 @@ mod tests {
         assert_eq!(Difference::of(&elsewhere), None, "another cluster");
     }
 
-    /// As without the code, whatever is asked.
-    #[test]
-    fn codes() {
-        let says = |reply, rest| is(Difference::Coded, reply, rest);
-        assert_eq!(of("0401002a00 0100", 64), says("182a010100002007", REST));
-        assert_eq!(of("0401002a00 0100", 2), says("none", REST));
-        assert_eq!(of("0501002a00", 64), says("182a0b0081", REST));
-        assert_eq!(of("0401002b02 01002009", 64), says("182b0400", WITH_9));
-        assert_eq!(of("0401002b05 01002009", 64), says("none", WITH_9));
-        let frame_7 = "0401002b03 01002009 070042054142434445";
-        assert_eq!(of(frame_7, 64), says("182b04870700", WITH_9));
-        assert_eq!(of("040100000200001002", 64), says("none", REST));
-        assert_eq!(of("0600012a00", 64), None, "reserved");
-        assert_eq!(of("0400002a00 0100", 64), None, "code 0000");
-        assert_eq!(of("040100", 64), None, "short");
-    }
-
     #[test]
     fn values() {
         let boolean = |rest| is(Difference::Value(Condition::BooleanAboveOne), "none", rest);
@@ -245,7 +201,6 @@ mod tests {
         for (difference, frame) in [
             (Difference::DefaultResponse, "`00000b`"),
             (Difference::Divided, "`000003` `01002000`"),
-            (Difference::Coded, "`0401000000`"),
         ] {
             let row = format!("\n| {} | {frame}", difference.name());
             assert_eq!(page.matches(&row).count(), 1, "{row}");

@@ -10,7 +10,7 @@ use crate::records::{End, Record, body_of, records};
 /// document 01 had it before request 2. Nothing for any other frame.
 pub fn divided(case: &Case) -> Option<Said> {
     let (header, body) = body_of(&case.request)?;
-    let (records, end) = records(&case.store, case.scope(), body);
+    let (records, end) = records(&case.store, body);
     let too_long = |record: &Record<'_>| record.of_three == 0x00 && record.status != 0x00;
     if header.command != 0x03 || !records.iter().any(too_long) {
         return None;

@@ -6,15 +6,14 @@ pub mod stores;
 pub mod tables;
 
 use reading::commands::serve_lent;
-use reading::store::{Form, attributes, cluster_of};
+use reading::store::{attributes, cluster_of};
 
 use crate::case::{Case, Seen};
 use crate::random::Random;
 use crate::records::body_of;
-use crate::requests::{code, header, request};
+use crate::requests::{header, request};
 
-pub use list::{List, name, small_room};
-pub use tables::Codes;
+pub use list::{List, id, small_room};
 
 const COMMANDS: [u8; 7] = [0x00, 0x02, 0x03, 0x05, 0x06, 0x08, 0x0c];
 
@@ -22,43 +21,26 @@ const COMMANDS: [u8; 7] = [0x00, 0x02, 0x03, 0x05, 0x06, 0x08, 0x0c];
 const FRAMES: usize = 40;
 
 /// What the next frame meets.
+#[derive(Default)]
 pub struct Given {
     store: Vec<u8>,
-    form: Form,
     table: Vec<u8>,
     left: usize,
-}
-
-impl Default for Given {
-    fn default() -> Self {
-        Self {
-            store: Vec::new(),
-            form: Form::FIRST,
-            table: Vec::new(),
-            left: 0,
-        }
-    }
 }
 
 impl Given {
     pub fn next(&mut self, random: &mut Random) -> Case {
         if self.left == 0 {
-            (self.store, self.form) = stores::any(random);
-            let attributes = attributes(&self.store, self.form).unwrap_or_default();
+            self.store = stores::any(random);
+            let attributes = attributes(&self.store).unwrap_or_default();
             let cluster = cluster_of(&self.store).unwrap_or(0);
-            // the Rust can be given the table where no key has a code
-            let codes = match self.form {
-                Form::FIRST if !random.one_in(16) => Codes::None,
-                _ => Codes::Some,
-            };
-            self.table = tables::any(random, cluster, &attributes, codes);
+            self.table = tables::any(random, cluster, &attributes);
             self.left = FRAMES;
         }
         self.left -= 1;
         let own = cluster_of(&self.store).unwrap_or(0);
         let mut case = Case {
             store: self.store.clone(),
-            form: self.form,
             table: self.table.clone(),
             cluster: match random.below(40) {
                 0 => own.swap_bytes(),
@@ -66,7 +48,7 @@ impl Given {
                 _ => own,
             },
             unicast: random.of(&[0, 1, 1, 0x80]),
-            request: frame(random, &self.store, self.form),
+            request: frame(random, &self.store),
             room: 0,
         };
         case.room = room(random, &case);
@@ -84,8 +66,8 @@ impl Given {
     }
 }
 
-fn frame(random: &mut Random, store: &[u8], form: Form) -> Vec<u8> {
-    let attributes = attributes(store, form).unwrap_or_default();
+fn frame(random: &mut Random, store: &[u8]) -> Vec<u8> {
+    let attributes = attributes(store).unwrap_or_default();
     let command = random.of(&COMMANDS);
     match random.below(32) {
         // another global command, a received Default Response among them
@@ -101,14 +83,12 @@ fn frame(random: &mut Random, store: &[u8], form: Form) -> Vec<u8> {
         1 => {
             let control = random.of(&[0x01, 0x05, 0x09, 0x11, 0x19, 0x02, 0x03, 0x06]);
             let more = random.below(4);
-            let code = code(random, &attributes);
-            [header(random, control, code, command), random.bytes(more)].concat()
+            [header(random, control, command), random.bytes(more)].concat()
         }
         // no whole header
         2 => {
             let control = random.byte();
-            let code = code(random, &attributes);
-            let head = header(random, control, code, command);
+            let head = header(random, control, command);
             head[..random.below(head.len())].to_vec()
         }
         3 => {
@@ -139,8 +119,7 @@ fn room(random: &mut Random, case: &Case) -> usize {
         _ => {
             let (store, table) = (&mut case.store.clone(), &mut case.table.clone());
             let unicast = case.unicast != 0;
-            let (form, cluster, request) = (case.form, case.cluster, &case.request);
-            let ample = serve_lent(store, form, table, cluster, unicast, request, 8192);
+            let ample = serve_lent(store, table, case.cluster, unicast, &case.request, 8192);
             match random.below(3) {
                 0 => random.below(ample.reply.len() + 1),
                 1 => ample.reply.len(),

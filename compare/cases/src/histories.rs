@@ -4,7 +4,6 @@ mod call;
 pub mod kinds;
 pub mod middle;
 
-use reading::store::NO_CODE;
 use reading::table::{Config, ENTRIES, Entry, Key, SIGNED};
 
 use crate::random::Random;
@@ -14,9 +13,6 @@ pub use call::{Answer, Call, settings, shown};
 /// Some are others with their bytes, or cluster and attribute, exchanged.
 const CLUSTERS: [u16; 5] = [0xfc21, 0x0006, 0x21fc, 0x0000, 0xffff];
 const ATTRIBUTES: [u16; 8] = [5, 0, 6, 0x0500, 0xfc21, 7, 0x0006, 0xffff];
-
-/// Some are others with their bytes, or code and attribute, exchanged.
-const CODES: [u16; 6] = [NO_CODE, NO_CODE, 5, 0x0500, 0xfc21, 0xffff];
 
 const INTERVALS: [u16; 12] = [0, 1, 2, 10, 59, 60, 61, 0x00ff, 0x0100, 65533, 65534, 65535];
 const CHANGES: [u64; 10] = [
@@ -87,8 +83,6 @@ pub struct History {
     first: usize,
     /// Those that a configuration is given.
     marks: &'static [u8],
-    /// Those that keys have.
-    codes: &'static [u16],
     mix: [usize; 5],
     now: u32,
     value: i64,
@@ -99,32 +93,25 @@ impl History {
     pub fn new(random: &mut Random) -> Self {
         let many = random.of(&FEW);
         Self {
-            keys: (0..many).map(|_| key(random, &[NO_CODE])).collect(),
+            keys: (0..many).map(|_| key(random)).collect(),
             first: 0,
             marks: &[SIGNED],
-            codes: &[NO_CODE],
             mix: random.of(&MIXES),
             now: random.of(&TIMES),
             value: random.of(&VALUES),
         }
     }
 
-    /// With these marks, half of them with codes; and one in four has so many keys
-    /// that the table is soon full.
+    /// With these marks; and one in four has so many keys that the table is soon
+    /// full.
     pub fn marked(random: &mut Random, marks: &'static [u8]) -> Self {
         let mut history = Self {
             marks,
             ..Self::new(random)
         };
-        if random.one_in(2) {
-            history.codes = &CODES;
-            for key in &mut history.keys {
-                key.code = random.of(&CODES);
-            }
-        }
         if random.one_in(4) {
             let many = random.of(&MANY);
-            history.keys = (0..many).map(|_| far_key(random, history.codes)).collect();
+            history.keys = (0..many).map(|_| far_key(random)).collect();
             history.first = many;
         }
         history
@@ -172,10 +159,9 @@ impl History {
         match random.below(32) {
             0 => Key {
                 cluster: random.short(),
-                code: one_of(random, self.codes),
                 attribute: random.short(),
             },
-            1..4 => key(random, self.codes),
+            1..4 => key(random),
             4..16 if !entries.is_empty() => entries[random.below(entries.len())].key,
             _ => self.keys[random.below(self.keys.len())],
         }
@@ -231,27 +217,18 @@ impl History {
     }
 }
 
-fn key(random: &mut Random, codes: &[u16]) -> Key {
+fn key(random: &mut Random) -> Key {
     Key {
         cluster: random.of(&CLUSTERS),
-        code: one_of(random, codes),
         attribute: random.of(&ATTRIBUTES),
     }
 }
 
-/// One alone takes no number of the row.
-fn one_of<T: Copy>(random: &mut Random, some: &[T]) -> T {
-    match some {
-        [one] => *one,
-        _ => random.of(some),
-    }
-}
-
 /// Of more than a table has room for.
-fn far_key(random: &mut Random, codes: &[u16]) -> Key {
+fn far_key(random: &mut Random) -> Key {
     Key {
         attribute: random.short(),
-        ..key(random, codes)
+        ..key(random)
     }
 }
 
@@ -270,7 +247,11 @@ fn config(random: &mut Random, marks: &[u8]) -> Config {
             1 => random.byte().into(),
             _ => random.of(&CHANGES),
         },
-        mark: one_of(random, marks),
+        // one alone takes no number of the row
+        mark: match marks {
+            [mark] => *mark,
+            _ => random.of(marks),
+        },
     }
 }
 

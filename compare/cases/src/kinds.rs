@@ -3,7 +3,6 @@
 
 mod allowed;
 mod bodies;
-mod forms;
 mod others;
 mod read_back;
 mod readers;
@@ -14,12 +13,11 @@ mod writes;
 use std::collections::HashMap;
 use std::fmt;
 
-pub use allowed::{ALLOWED, MOVES, OTHERS, SERVED, VALUES};
-pub use forms::{Coding, Forms};
-pub use others::{of_move, of_number, of_report, of_unsupported};
+pub use allowed::{ALLOWED, OTHERS, SERVED, VALUES};
+pub use others::{of_number, of_report, of_unsupported};
 pub use read_back::of_readings;
 pub use readers::READERS;
-pub use served::{Call, head, of};
+pub use served::{Call, of};
 
 /// What there is to say besides command and number. An answer may have several.
 #[derive(Debug, Clone, Copy, PartialEq, Eq, Hash)]

@@ -1,7 +1,6 @@
 //! What the programs of the comparison share: the inputs that they make, the
 //! listed differences, and the table of what document 01 lets a call answer.
 
-mod by_code;
 mod case;
 mod conditions;
 mod differences;
@@ -10,7 +9,6 @@ pub mod given;
 mod hex;
 pub mod histories;
 pub mod kinds;
-mod lines;
 mod random;
 mod records;
 pub mod requests;
@@ -18,12 +16,10 @@ mod shorter;
 pub mod stores;
 pub mod values;
 
-pub use by_code::{room_without, with_code};
-pub use case::{Case, Seen, scope, shown, unmarked, without_code};
+pub use case::{Case, Seen, shown, unmarked};
 pub use conditions::Condition;
 pub use differences::{Difference, Said};
 pub use hex::{hex, unhex};
-pub use lines::Lines;
 pub use random::Random;
 pub use records::{End, Record, body_of, records};
 pub use shorter::{fewest, shorter};

@@ -2,7 +2,7 @@
 //! checks give it. A status depends on the contents of a store, and no write
 //! changes these: so it is the same at every moment of the request.
 
-use reading::store::{Scope, check, writable};
+use reading::store::{check, writable};
 use reading::{Extent, Header, extent, header};
 
 pub struct Record<'a> {
@@ -32,7 +32,7 @@ pub fn body_of(request: &[u8]) -> Option<(Header, &[u8])> {
 }
 
 /// The records of a body up to the first that cannot be read.
-pub fn records<'a>(store: &[u8], scope: Scope, body: &'a [u8]) -> (Vec<Record<'a>>, End) {
+pub fn records<'a>(store: &[u8], body: &'a [u8]) -> (Vec<Record<'a>>, End) {
     let mut records = Vec::new();
     let mut at = 0;
     while at < body.len() {
@@ -47,15 +47,13 @@ pub fn records<'a>(store: &[u8], scope: Scope, body: &'a [u8]) -> (Vec<Record<'a
         };
         let id = u16::from_le_bytes([low, high]);
         let value = &body[at + 2..end];
-        let name = scope.name(id);
-        let all_four = writable(store, scope.form, name, code, &value[1..]);
-        let three = check(store, scope.form, name, code);
+        let all_four = writable(store, id, code, &value[1..]);
         records.push(Record {
             at,
             id,
             value,
             status: all_four.err().unwrap_or(0x00),
-            of_three: three.err().unwrap_or(0x00),
+            of_three: check(store, id, code).err().unwrap_or(0x00),
         });
         at = end;
     }

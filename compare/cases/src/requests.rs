@@ -2,9 +2,8 @@
 //! whole and damaged.
 
 use reading::Kind;
-use reading::store::{Attribute, NO_CODE};
+use reading::store::Attribute;
 
-use crate::given::stores::CODES;
 use crate::random::Random;
 use crate::stores::word;
 use crate::values::{COLLECTIONS, made};
@@ -25,19 +24,7 @@ const UNKNOWN: [u8; 8] = [0x01, 0x07, 0x32, 0x45, 0x4d, 0x52, 0xeb, 0xff];
 
 /// A global frame of `command`.
 pub fn request(random: &mut Random, attributes: &[Attribute], command: u8) -> Vec<u8> {
-    let control = random.of(&CONTROLS);
-    let code = match control & 4 {
-        0 => NO_CODE,
-        _ => code(random, attributes),
-    };
-    let of_code = |attribute: &&Attribute| attribute.name.code == code;
-    let own: Vec<Attribute> = attributes.iter().filter(of_code).copied().collect();
-    let named = match &own[..] {
-        [] => attributes,
-        _ if random.one_in(8) => attributes,
-        own => own,
-    };
-    let body = body(random, named, command);
+    let body = body(random, attributes, command);
     let body = match random.below(16) {
         0..3 => body[..random.below(body.len() + 1)].to_vec(),
         3 => changed(random, body),
@@ -51,28 +38,14 @@ pub fn request(random: &mut Random, attributes: &[Attribute], command: u8) -> Ve
         }
         _ => body,
     };
-    [header(random, control, code, command), body].concat()
+    let control = random.of(&CONTROLS);
+    [header(random, control, command), body].concat()
 }
 
-/// A whole header, with the code where the control byte says so.
-pub fn header(random: &mut Random, control: u8, code: u16, command: u8) -> Vec<u8> {
-    let code = code.to_le_bytes();
-    let code = if control & 4 == 0 { &[] } else { &code[..] };
-    [&[control], code, &[random.byte(), command]].concat()
-}
-
-/// A code for a header that has one: one of the store's, the same with its bytes
-/// exchanged, 0000, or any.
-pub fn code(random: &mut Random, attributes: &[Attribute]) -> u16 {
-    let codes = attributes.iter().map(|attribute| attribute.name.code);
-    let own: Vec<u16> = codes.filter(|&code| code != NO_CODE).collect();
-    match random.below(12) {
-        0 => random.short(),
-        1 => random.of(&CODES),
-        2 if !own.is_empty() => random.of(&own).swap_bytes(),
-        3..10 if !own.is_empty() => random.of(&own),
-        _ => NO_CODE,
-    }
+/// A whole header.
+pub fn header(random: &mut Random, control: u8, command: u8) -> Vec<u8> {
+    let code = if control & 4 == 0 { 0 } else { 2 };
+    [vec![control], random.bytes(code + 1), vec![command]].concat()
 }
 
 fn changed(random: &mut Random, mut body: Vec<u8>) -> Vec<u8> {
@@ -116,7 +89,7 @@ fn repeat(many: usize, one: impl FnMut() -> Vec<u8>) -> Vec<u8> {
 fn id(random: &mut Random, attributes: &[Attribute]) -> [u8; 2] {
     let one = match attributes {
         [] => 0,
-        _ => random.of(attributes).name.id,
+        _ => random.of(attributes).id,
     };
     match random.below(20) {
         0 => one.wrapping_add(1),
@@ -131,9 +104,7 @@ fn id(random: &mut Random, attributes: &[Attribute]) -> [u8; 2] {
 /// The type of the attribute with these bytes as its id.
 fn type_of(attributes: &[Attribute], id: [u8; 2]) -> Option<u8> {
     let id = u16::from_le_bytes(id);
-    let found = attributes
-        .iter()
-        .find(|attribute| attribute.name.id == id)?;
+    let found = attributes.iter().find(|attribute| attribute.id == id)?;
     Some(found.type_code)
 }
 

@@ -1,7 +1,7 @@
 //! Stores, built from their parts.
 
 use reading::Kind;
-use reading::store::{Form, Name, attributes};
+use reading::store::attributes;
 
 use crate::random::Random;
 
@@ -23,23 +23,17 @@ pub fn bench() -> Vec<u8> {
 /// An attribute to build a store of.
 #[derive(Clone)]
 pub struct Part {
-    pub name: Name,
-    /// Of its type.
+    pub id: u16,
     pub code: u8,
     pub access: u8,
     pub body: Vec<u8>,
 }
 
 impl Part {
-    /// Without a manufacturer's code.
     pub fn new(id: u16, code: u8, access: u8, body: &[u8]) -> Self {
-        Self::named(Name::plain(id), code, access, body)
-    }
-
-    pub fn named(name: Name, code: u8, access: u8, body: &[u8]) -> Self {
         let body = body.to_vec();
         Self {
-            name,
+            id,
             code,
             access,
             body,
@@ -50,19 +44,12 @@ impl Part {
 /// Contents and bodies as document 01 lays them out. Whether the parts may
 /// stand in a store is not looked at.
 pub fn built(parts: &[Part]) -> Vec<u8> {
-    built_in(Form::FIRST, parts)
-}
-
-/// The same in a form; the first has no place for a manufacturer's code.
-pub fn built_in(form: Form, parts: &[Part]) -> Vec<u8> {
-    let entry = form.entry().expect("one of the two");
     let mut contents = [[0x21, 0xfc], word(parts.len())].concat();
     let mut bodies = Vec::new();
     for part in parts {
-        contents.extend(part.name.id.to_le_bytes());
-        contents.extend(&part.name.code.to_le_bytes()[..entry - 8]);
+        contents.extend(part.id.to_le_bytes());
         contents.extend([part.code, part.access]);
-        contents.extend(word(4 + entry * parts.len() + bodies.len()));
+        contents.extend(word(4 + 8 * parts.len() + bodies.len()));
         contents.extend(word(part.body.len()));
         bodies.extend(&part.body);
     }
@@ -70,20 +57,20 @@ pub fn built_in(form: Form, parts: &[Part]) -> Vec<u8> {
 }
 
 /// The parts of a store.
-pub fn parts(store: &[u8], form: Form) -> Vec<Part> {
-    attributes(store, form)
+pub fn parts(store: &[u8]) -> Vec<Part> {
+    attributes(store)
         .unwrap_or_default()
         .iter()
         .map(|entry| {
             let body = &store[entry.offset..entry.offset + entry.room];
-            Part::named(entry.name, entry.type_code, entry.access, body)
+            Part::new(entry.id, entry.type_code, entry.access, body)
         })
         .collect()
 }
 
 /// A store of these parts, and of the cluster of another.
-pub fn rebuilt(store: &[u8], form: Form, parts: &[Part]) -> Vec<u8> {
-    let mut rebuilt = built_in(form, parts);
+pub fn rebuilt(store: &[u8], parts: &[Part]) -> Vec<u8> {
+    let mut rebuilt = built(parts);
     rebuilt[..2].copy_from_slice(&store[..2]);
     rebuilt
 }
@@ -168,7 +155,7 @@ mod tests {
                         070042012b00050000000080073\
                         8ff0254560000";
         assert_eq!(hex(&bench()), expected);
-        assert!(is_store(&bench(), Form::FIRST));
+        assert!(is_store(&bench()));
     }
 
     #[test]
@@ -178,9 +165,8 @@ mod tests {
         for _ in 0..2_000 {
             let parts = random_parts(&mut random);
             let store = built(&parts);
-            assert!(is_store(&store, Form::FIRST), "{}", hex(&store));
-            let parts_of = super::parts(&store, Form::FIRST);
-            assert_eq!(rebuilt(&store, Form::FIRST, &parts_of), store);
+            assert!(is_store(&store), "{}", hex(&store));
+            assert_eq!(rebuilt(&store, &super::parts(&store)), store);
             assert!(store.len() <= 4 + 5 * 24);
             strings += parts.iter().filter(|part| part.code == 0x41).count();
         }
@@ -191,6 +177,6 @@ mod tests {
     fn the_largest_store() {
         let largest = built(&strings(&most_rooms()));
         assert_eq!(largest.len(), 4096);
-        assert!(is_store(&largest, Form::FIRST));
+        assert!(is_store(&largest));
     }
 }

@@ -1,7 +1,7 @@
 //! One frame given to the Rust and to the reading of document 01.
 
 use cases::kinds::{self, Call, Kind};
-use cases::{Case, Difference, Seen};
+use cases::{Case, Seen};
 use frames::sides::{self, Stands};
 use oracle::Oracle;
 use reading::commands::Answer;
@@ -12,9 +12,6 @@ use reading::table::entries;
 pub struct Compared {
     pub seen: Seen,
     pub rust: Stands,
-    /// How the Rust stands to the request without its code, over what that names
-    /// alone: of those that it cannot be given as they are, and of those with a code.
-    pub by_code: Option<Stands>,
 }
 
 /// Holds the Rust to document 01's answer but for the listed differences.
@@ -23,40 +20,15 @@ pub fn compare(oracle: &mut Oracle, case: &Case) -> Result<Compared, String> {
     let rust = sides::rust(oracle, case, &seen)?;
     // the store that the Rust is given is the reading's: what it keeps to is
     // looked at here
-    if is_store(&case.store, case.form) && !still_sound(case, &seen.store) {
+    if is_store(&case.store) && !still_sound(&case.store, &seen.store) {
         return Err(format!("no store is left, by document 01:\n{seen}"));
     }
-    let by_code = match rust {
-        Stands::NotAsked | Stands::Differs(Difference::Coded) => by_code(oracle, case, &seen)?,
-        Stands::Agrees | Stands::Differs(_) => None,
-    };
-    Ok(Compared {
-        seen,
-        rust,
-        by_code,
-    })
-}
-
-/// Holds the reading to the law of codes, and the Rust to what that says.
-fn by_code(oracle: &mut Oracle, case: &Case, seen: &Seen) -> Result<Option<Stands>, String> {
-    let Some(plain) = case.by_code() else {
-        return Ok(None);
-    };
-    let alone = plain.document();
-    if !case.is_as_by_code(seen, &alone) {
-        return Err(format!(
-            "not as without its code:\n{seen}over what it names alone\n{plain}{alone}"
-        ));
-    }
-    let stands = sides::rust(oracle, &plain, &alone);
-    let stands = stands.map_err(|trouble| format!("{trouble}without its code:\n{plain}"))?;
-    Ok(Some(stands))
+    Ok(Compared { seen, rust })
 }
 
 /// Whether a store is one afterwards too, with the same contents.
-fn still_sound(case: &Case, after: &[u8]) -> bool {
-    let contents = |store| attributes(store, case.form);
-    is_store(after, case.form) && contents(&case.store) == contents(after)
+fn still_sound(before: &[u8], after: &[u8]) -> bool {
+    is_store(after) && attributes(before) == attributes(after)
 }
 
 /// The kinds of the answer.
@@ -67,7 +39,6 @@ pub fn kinds(case: &Case, seen: &Seen) -> Vec<Kind> {
     };
     kinds::of(&Call {
         store: &case.store,
-        form: case.form,
         table: &entries(&case.table).unwrap_or_default(),
         unicast: case.unicast != 0,
         request: &case.request,

@@ -12,8 +12,8 @@ pub fn shorten(case: &Case, mut wrong: impl FnMut(&Case) -> bool) -> Case {
     if let Ok(held) = entries(&case.table) {
         case = fewest(&held, |held| with_entries(&case, held), &mut wrong);
     }
-    if is_store(&case.store, case.form) {
-        let parts = parts(&case.store, case.form);
+    if is_store(&case.store) {
+        let parts = parts(&case.store);
         case = fewest(&parts, |parts| with_parts(&case, parts), &mut wrong);
     }
     let bytes = case.request.clone();
@@ -42,7 +42,7 @@ fn with_request(case: &Case, request: &[u8]) -> Case {
 
 fn with_parts(case: &Case, parts: &[Part]) -> Case {
     Case {
-        store: rebuilt(&case.store, case.form, parts),
+        store: rebuilt(&case.store, parts),
         ..case.clone()
     }
 }
@@ -69,7 +69,7 @@ mod tests {
         let mut tried = 0;
         while tried < 20 {
             let case = given.next(random);
-            if !wrong(&case) || !is_store(&case.store, case.form) {
+            if !wrong(&case) || !is_store(&case.store) {
                 continue;
             }
             let short = shorten(&case, wrong);

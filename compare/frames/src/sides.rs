@@ -2,14 +2,13 @@
 
 use cases::{Case, Difference, Seen, unmarked};
 use oracle::{Oracle, Outcome, Request};
-use reading::store::{Form, NO_CODE, is_store};
-use reading::table::{Entry, entries};
+use reading::store::is_store;
+use reading::table::entries;
 
 /// How the Rust stands to document 01's answer.
 #[derive(Debug, Clone, Copy, PartialEq, Eq)]
 pub enum Stands {
-    /// A store or a table that has no counterpart in the Rust: bytes that are none,
-    /// a store of the second form, a key with a code.
+    /// A store or a table that has no counterpart in the Rust.
     NotAsked,
     Agrees,
     /// As a listed difference lets it.
@@ -50,13 +49,9 @@ pub fn difference(
 /// What the Rust says and leaves; nothing for a store or a table that has no
 /// counterpart in it. An error where it panics.
 pub fn asked(oracle: &mut Oracle, case: &Case) -> Result<Option<Outcome>, String> {
-    let (true, Ok(table)) = (is_store(&case.store, case.form), entries(&case.table)) else {
+    let (true, Ok(table)) = (is_store(&case.store), entries(&case.table)) else {
         return Ok(None);
     };
-    let coded = |entry: &Entry| entry.key.code != NO_CODE;
-    if case.form != Form::FIRST || table.iter().any(coded) {
-        return Ok(None);
-    }
     let request = Request {
         cluster: case.cluster,
         unicast: case.unicast != 0,

@@ -1,8 +1,8 @@
 //! The oracle: the held Rust's `ClusterServer` over a store that keeps
-//! document 01's store rules, so one of the first form, and its
-//! `ReportingTable`, with room for as many entries as a table has by document
-//! 02's request 7. The Rust has no store, so `reading`'s is taken, and its
-//! extents where a value is stored; nothing else of it.
+//! document 01's store rules, and its `ReportingTable`, with room for as many
+//! entries as a table has by document 02's request 7. The Rust has no
+//! store, so `reading`'s is taken, and its extents where a value is stored;
+//! nothing else of it.
 
 mod calls;
 mod lists;

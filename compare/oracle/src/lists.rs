@@ -3,7 +3,7 @@
 
 use std::collections::HashMap;
 
-use reading::store::{Attribute, Form, attributes};
+use reading::store::{Attribute, attributes};
 use zigbee_cluster_library::types::descriptors::{AccessFlags, AttrInfo};
 use zigbee_cluster_library::types::ids::{AttributeId, TypeId};
 
@@ -12,7 +12,7 @@ pub struct Lists(HashMap<Vec<u8>, &'static [AttrInfo]>);
 
 impl Lists {
     pub fn of(&mut self, store: &[u8]) -> &'static [AttrInfo] {
-        let attributes = attributes(store, Form::FIRST).expect("the store is sound");
+        let attributes = attributes(store).expect("the store is sound");
         let contents = &store[..4 + 8 * attributes.len()];
         if let Some(list) = self.0.get(contents) {
             return list;
@@ -34,7 +34,7 @@ fn info(attribute: &Attribute) -> AttrInfo {
         access = access.union(AccessFlags::REPORTABLE);
     }
     AttrInfo {
-        id: AttributeId(attribute.name.id),
+        id: AttributeId(attribute.id),
         type_id: TypeId::from_u8(attribute.type_code),
         access,
     }

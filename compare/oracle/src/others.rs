@@ -1,6 +1,6 @@
 //! The Rust's responder for unserved clusters, and its report frames.
 
-use reading::store::{Form, Name, find};
+use reading::store::find;
 use zigbee_cluster_library::reporting::AttributeReportBuilder;
 use zigbee_cluster_library::server::UnsupportedClusterResponder;
 use zigbee_cluster_library::types::codec::ZclKind;
@@ -29,8 +29,7 @@ pub fn unsupported_cluster(served: &[u16], request: &Request<'_>) -> Option<Vec<
 pub fn report(store: &[u8], sequence: u8, ids: &[u16], frame: &mut [u8]) -> Option<usize> {
     let mut builder = AttributeReportBuilder::new(frame, sequence).ok()?;
     for &id in ids {
-        let attribute = find(store, Form::FIRST, Name::plain(id))
-            .filter(|attribute| attribute.access & 2 != 0)?;
+        let attribute = find(store, id).filter(|attribute| attribute.access & 2 != 0)?;
         builder = pushed(builder, id, attribute.type_code, attribute.value(store)?)?;
     }
     Some(builder.finish().ok()?.asdu().len())

@@ -2,7 +2,7 @@
 
 use std::cell::{Ref, RefCell};
 
-use reading::store::{Form, Name, check, cluster_of, find};
+use reading::store::{check, cluster_of, find};
 use reading::table::{ENTRIES, Entry};
 use reading::{Extent, extent};
 use zigbee_cluster_library::frame::Status;
@@ -64,7 +64,7 @@ impl ClusterServer for Server {
 
     fn encode_value(&self, id: AttributeId, out: &mut [u8], offset: &mut usize) -> Status {
         let store = self.store.borrow();
-        let attribute = find(&store, Form::FIRST, Name::plain(id.0));
+        let attribute = find(&store, id.0);
         let value = attribute.and_then(|attribute| attribute.value(&store));
         let (Some(attribute), Some(value)) = (attribute, value) else {
             return Status::UnsupportedAttribute;
@@ -89,7 +89,7 @@ impl ClusterServer for Server {
     ) -> Status {
         let mut store = self.store.borrow_mut();
         let code = type_id.as_u8();
-        let attribute = match check(&store, Form::FIRST, Name::plain(id.0), code) {
+        let attribute = match check(&store, id.0, code) {
             Ok(attribute) => attribute,
             Err(status) => return status_of(status),
         };

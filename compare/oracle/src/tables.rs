@@ -1,7 +1,6 @@
 //! Entries into the Rust's table and out of it. It has no marks, and compares
-//! with the sign: what comes out is marked so. Its keys have no code.
+//! with the sign: what comes out is marked so.
 
-use reading::store::NO_CODE;
 use reading::table::{Config, Entry, Key, SIGNED};
 use zigbee_cluster_library::Shown;
 use zigbee_cluster_library::reporting::{ReportingConfig, ReportingTable};
@@ -19,7 +18,6 @@ pub fn entries<const N: usize>(table: &ReportingTable<N>) -> Vec<Entry> {
 }
 
 fn to_rust(entry: &Entry) -> Shown {
-    assert_eq!(entry.key.code, NO_CODE, "there is no place for a code");
     (
         ClusterId(entry.key.cluster),
         AttributeId(entry.key.attribute),
@@ -34,7 +32,10 @@ fn to_rust(entry: &Entry) -> Shown {
 
 fn from_rust((cluster, attribute, config, last): Shown) -> Entry {
     Entry {
-        key: Key::plain(cluster.0, attribute.0),
+        key: Key {
+            cluster: cluster.0,
+            attribute: attribute.0,
+        },
         config: Config {
             minimum: config.min_interval,
             maximum: config.max_interval,

@@ -83,7 +83,10 @@ fn configures() {
     let outcome = handled("002d0600050029 0a003c003200", 64);
     assert_eq!(outcome.reply, Some(bytes("182d0700")));
     let entry = Entry {
-        key: Key::plain(0xfc21, 5),
+        key: Key {
+            cluster: 0xfc21,
+            attribute: 5,
+        },
         config: Config {
             minimum: 10,
             maximum: 60,

@@ -15,7 +15,7 @@ pub struct Answer {
     /// What was written through the pointers to results, in their order.
     pub results: [u64; RESULTS],
     /// The buffers, whole.
-    pub(crate) lent: [Vec<u8>; BUFFERS],
+    lent: [Vec<u8>; BUFFERS],
 }
 
 impl Answer {
@@ -137,13 +137,11 @@ impl fmt::Display for Answer {
 
 #[cfg(test)]
 mod tests {
-    use reading::store::{Form, Name};
-
     use super::*;
 
     /// The answer to hd_number over three bytes: 9, and 0 as the result.
     fn answered(change: impl Fn(&mut [u8])) -> Result<Answer, String> {
-        let call = Call::number(&[1, 2, 3], Form::FIRST, Name::plain(5));
+        let call = Call::number(&[1, 2, 3], 5);
         let mut bytes = vec![9, 0, 0, 0, 0, 0, 0, 0];
         bytes.extend([0; 8]);
         bytes.extend([BEFORE; 32]);

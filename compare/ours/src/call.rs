@@ -1,12 +1,10 @@
-//! The calls: include/hingedrift.h, function by function. Numbers and buffers of a call
-//! go over the pipe in the order in which the header has them.
+//! The calls: include/hingedrift.h, function by function.
 
 use std::fmt;
 use std::io::{self, Write};
 
 use cases::hex;
 use reading::commands::Turn;
-use reading::store::{Form, Name};
 use reading::table::{Config, Key};
 
 use crate::held::lent_list;
@@ -24,8 +22,8 @@ pub(crate) struct Lent {
 pub struct Call {
     name: &'static str,
     /// Its number on the pipe.
-    pub(crate) function: u64,
-    pub(crate) arguments: [u64; ARGUMENTS],
+    function: u64,
+    arguments: [u64; ARGUMENTS],
     pub(crate) lent: [Lent; BUFFERS],
     /// The bytes of each result, 0 where the function has fewer.
     pub(crate) results: [usize; RESULTS],
@@ -41,11 +39,10 @@ impl Call {
     }
 
     pub fn configure(table: &[u8], key: Key, config: Config) -> Self {
-        let [cluster, code, attribute] = numbers(key);
+        let [cluster, attribute] = numbers(key);
         let (minimum, maximum) = (config.minimum.into(), config.maximum.into());
         let arguments = [
             cluster,
-            code,
             attribute,
             minimum,
             maximum,
@@ -65,30 +62,30 @@ impl Call {
     }
 
     pub fn ask(table: &[u8], key: Key, now: u32, value: i64) -> Self {
-        let arguments = asked(key, now, value);
+        let [cluster, attribute] = numbers(key);
+        let arguments = [cluster, attribute, now.into(), value.cast_unsigned()];
         Self::new("ask", 5, &arguments, [closed(table)], BYTE)
     }
 
     pub fn mark(table: &[u8], key: Key, now: u32, value: i64) -> Self {
-        let arguments = asked(key, now, value);
+        let [cluster, attribute] = numbers(key);
+        let arguments = [cluster, attribute, now.into(), value.cast_unsigned()];
         Self::new("mark", 6, &arguments, [open(table)], NONE)
     }
 
-    pub fn number(store: &[u8], form: Form, name: Name) -> Self {
-        let arguments = [form.0.into(), name.code.into(), name.id.into()];
-        Self::new("number", 7, &arguments, [closed(store)], LONG)
+    pub fn number(store: &[u8], attribute: u16) -> Self {
+        Self::new("number", 7, &[attribute.into()], [closed(store)], LONG)
     }
 
     pub fn handle_request(
         store: &[u8],
-        form: Form,
         table: &[u8],
         cluster: u16,
         unicast: u8,
         request: &[u8],
         room: usize,
     ) -> Self {
-        let arguments = [form.0.into(), cluster.into(), unicast.into()];
+        let arguments = [cluster.into(), unicast.into()];
         let lent = [open(store), open(table), closed(request), reply(room)];
         Self::new("handle_request", 8, &arguments, lent, LONG)
     }
@@ -105,17 +102,9 @@ impl Call {
         Self::new("unsupported_cluster", 9, &arguments, lent, LONG)
     }
 
-    pub fn report(
-        store: &[u8],
-        form: Form,
-        code: u16,
-        sequence: u8,
-        ids: &[u16],
-        room: usize,
-    ) -> Self {
-        let arguments = [form.0.into(), code.into(), sequence.into()];
+    pub fn report(store: &[u8], sequence: u8, ids: &[u16], room: usize) -> Self {
         let lent = [closed(store), list(ids), reply(room)];
-        Self::new("report", 10, &arguments, lent, LONG)
+        Self::new("report", 10, &[sequence.into()], lent, LONG)
     }
 
     /// Rows of calls of readers, on one frame.
@@ -133,32 +122,10 @@ impl Call {
 
     /// The last id goes in as an argument, and comes back as the second result.
     pub fn report_turn(turn: &Turn<'_>, table: &[u8]) -> Self {
-        let arguments = [
-            turn.form.0.into(),
-            turn.code.into(),
-            turn.sequence.into(),
-            turn.now.into(),
-            turn.last.into(),
-        ];
+        let arguments = [turn.sequence.into(), turn.now.into(), turn.last.into()];
         let lent = [closed(turn.store), open(table), reply(turn.room)];
         let results = [8, 4, 0, 0, 0];
         Self::new("report_turn", 14, &arguments, lent, results)
-    }
-
-    pub fn to_second(store: &[u8], room: usize) -> Self {
-        let lent = [closed(store), reply(room)];
-        Self::new("to_second", 15, &[], lent, LONG)
-    }
-
-    pub fn to_first(store: &[u8], room: usize) -> Self {
-        let lent = [closed(store), reply(room)];
-        Self::new("to_first", 16, &[], lent, LONG)
-    }
-
-    /// Control, code, sequence, command.
-    pub fn header(frame: &[u8]) -> Self {
-        let results = [1, 2, 1, 1, 0];
-        Self::new("header", 17, &[], [closed(frame)], results)
     }
 
     fn new<const N: usize>(
@@ -231,15 +198,8 @@ fn reply(room: usize) -> Lent {
     open(&vec![BEFORE; room])
 }
 
-fn numbers(key: Key) -> [u64; 3] {
-    [key.cluster.into(), key.code.into(), key.attribute.into()]
-}
-
-/// Of a key at a time, with a value.
-fn asked(key: Key, now: u32, value: i64) -> [u64; 5] {
-    let [cluster, code, attribute] = numbers(key);
-    let value = value.cast_unsigned();
-    [cluster, code, attribute, now.into(), value]
+fn numbers(key: Key) -> [u64; 2] {
+    [key.cluster.into(), key.attribute.into()]
 }
 
 impl fmt::Display for Call {
@@ -258,7 +218,7 @@ mod tests {
 
     #[test]
     fn what_follows_is_as_the_last() {
-        for length in (0..600).chain([4097]) {
+        for length in (0..600).chain([3841]) {
             for run in [0, 1, 2, 255, 256, 257, 258, length] {
                 let mut bytes = vec![7; length];
                 let start = length.saturating_sub(run);

@@ -7,7 +7,6 @@ use std::process::{Child, ChildStdin, ChildStdout, Command, Stdio};
 use crate::answer::Answer;
 use crate::call::{Call, END};
 use crate::held::Held;
-use crate::stand_in::StandIn;
 
 /// Names the command that starts it.
 const VARIABLE: &str = "HINGEDRIFT_DRIVER";
@@ -20,21 +19,10 @@ const BATCH: usize = 1 << 20;
 const BUFFERED: usize = 1 << 16;
 
 pub struct Driver {
-    side: Side,
-    made: usize,
-}
-
-/// Who makes the calls.
-enum Side {
-    Archive(Process),
-    /// For tests.
-    StandIn(StandIn),
-}
-
-struct Process {
-    child: Child,
+    process: Child,
     calls: BufWriter<ChildStdin>,
     answers: BufReader<ChildStdout>,
+    made: usize,
 }
 
 impl Driver {
@@ -50,26 +38,20 @@ impl Driver {
         let program = words.next().ok_or_else(|| {
             format!("{VARIABLE} is to name the command that calls our archive, and is empty (.ci/driver makes one)")
         })?;
-        let mut child = Command::new(program)
+        let mut process = Command::new(program)
             .args(words)
             .stdin(Stdio::piped())
             .stdout(Stdio::piped())
             .spawn()
             .map_err(|trouble| format!("the driver `{command}` does not start: {trouble}"))?;
-        let calls = child.stdin.take().expect("it is piped");
-        let answers = child.stdout.take().expect("it is piped");
-        let side = Side::Archive(Process {
-            child,
+        let calls = process.stdin.take().expect("it is piped");
+        let answers = process.stdout.take().expect("it is piped");
+        Ok(Self {
+            process,
             calls: BufWriter::with_capacity(BUFFERED, calls),
             answers: BufReader::with_capacity(BUFFERED, answers),
-        });
-        Ok(Self { side, made: 0 })
-    }
-
-    /// No archive, but a stand-in for it: for tests.
-    pub fn stand_in(stand_in: StandIn) -> Self {
-        let side = Side::StandIn(stand_in);
-        Self { side, made: 0 }
+            made: 0,
+        })
     }
 
     /// How many calls were answered.
@@ -112,24 +94,13 @@ impl Driver {
     /// The answers to all of these, in their order; an error inside where ours
     /// wrote what it is not to write.
     pub fn answers(&mut self, calls: &[&Call]) -> Result<Vec<Result<Answer, String>>, String> {
-        self.made += calls.len();
-        match &mut self.side {
-            Side::Archive(process) => process.answers(calls),
-            Side::StandIn(stand_in) => {
-                Ok(calls.iter().map(|call| Ok(stand_in.answer(call))).collect())
-            }
-        }
-    }
-}
-
-impl Process {
-    fn answers(&mut self, calls: &[&Call]) -> Result<Vec<Result<Answer, String>>, String> {
         let mut answers = Vec::with_capacity(calls.len());
         let mut calls = calls.iter();
         while !calls.as_slice().is_empty() {
             self.batch(&mut calls, &mut answers)
                 .map_err(|trouble| self.ended(&trouble))?;
         }
+        self.made += answers.len();
         Ok(answers)
     }
 
@@ -157,7 +128,7 @@ impl Process {
 
     /// What is said where the pipe is broken.
     fn ended(&mut self, trouble: &io::Error) -> String {
-        let status = self.child.try_wait();
+        let status = self.process.try_wait();
         let status = status.map_or_else(
             |trouble| trouble.to_string(),
             |status| format!("{status:?}"),

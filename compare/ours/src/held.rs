@@ -2,7 +2,6 @@
 
 use cases::given::List;
 use cases::{Case, Seen};
-use reading::header;
 
 use crate::answer::Answer;
 use crate::call::Call;
@@ -23,32 +22,10 @@ impl Held {
         Self { call, answer }
     }
 
-    /// A header by itself.
-    pub fn header(frame: &[u8]) -> Self {
-        let answer = match header(frame) {
-            Some(header) => {
-                let numbers = [header.control, header.sequence, header.command].map(u64::from);
-                let [control, sequence, command] = numbers;
-                let results = [control, header.code().into(), sequence, command];
-                Answer::new(0, &results, &[frame])
-            }
-            None => Answer::new(2, &[], &[frame]),
-        };
-        let call = Call::header(frame);
-        Self { call, answer }
-    }
-
     pub fn report(list: &List, answer: &reading::commands::Answer) -> Self {
         let lent = [&list.store[..], &lent_list(&list.ids)];
         Self {
-            call: Call::report(
-                &list.store,
-                list.scope.form,
-                list.scope.code,
-                list.sequence,
-                &list.ids,
-                list.room,
-            ),
+            call: Call::report(&list.store, list.sequence, &list.ids, list.room),
             answer: replied(answer, list.room, lent),
         }
     }
@@ -59,7 +36,6 @@ impl Call {
     pub fn request(case: &Case) -> Self {
         Self::handle_request(
             &case.store,
-            case.form,
             &case.table,
             case.cluster,
             case.unicast,

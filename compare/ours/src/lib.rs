@@ -2,9 +2,6 @@
 //! calls for us over a pipe. The archive is for x86-64, and this runs on any
 //! machine.
 //!
-//! For tests there is a stand-in, which answers by the reading of the documents, or
-//! wrongly in one of some ways.
-//!
 //! Calls are made many at a time. So a call is not answered when it is made:
 //! it comes with the answer that it is to have, and is held to it later.
 
@@ -13,8 +10,6 @@ mod call;
 mod driver;
 mod held;
 mod readers;
-mod rows;
-mod stand_in;
 mod waiting;
 
 pub use answer::Answer;
@@ -22,8 +17,6 @@ pub use call::Call;
 pub use driver::Driver;
 pub use held::{Held, lent_list, replied, served};
 pub use readers::{Reader, Row, value_number, wrong_rows};
-pub use rows::rows;
-pub use stand_in::{Broken, StandIn};
 pub use waiting::{Asked, Server, Waiting};
 
 /// What stands where a function is to write, and around what it is lent.
@@ -33,7 +26,7 @@ const BEFORE: u8 = 0xa5;
 const WALL: usize = 16;
 
 /// How many of each a call and its answer have on the pipe.
-const ARGUMENTS: usize = 7;
+const ARGUMENTS: usize = 6;
 const RESULTS: usize = 5;
 const BUFFERS: usize = 4;
 

@@ -3,13 +3,10 @@
 
 use std::fmt;
 
-use reading::replies::Readings;
-
 use crate::BEFORE;
 use crate::answer::Answer;
 use crate::call::Call;
 use crate::held::Held;
-use crate::rows::rows;
 
 /// The most results that a reader has.
 const RESULTS: usize = 8;
@@ -162,18 +159,6 @@ pub fn wrong_rows(rows: &[Row], answer: &Answer) -> Vec<String> {
         .filter(|(row, came)| row.answered()[..] != came[..])
         .map(|(row, came)| format!("{row}, ours {}", shown(row.reader, came)))
         .collect()
-}
-
-/// The rows that were asked of a frame, as they are to come back: for a stand-in.
-pub(crate) fn answered_rows(frame: &[u8], asked: &[u8]) -> Vec<u8> {
-    let rows = rows(&Readings::of(frame));
-    let mut answered = Vec::with_capacity(asked.len());
-    for asked in asked.chunks(ROW) {
-        let is_asked = |row: &&Row| row.asked()[..] == *asked;
-        let row = rows.iter().find(is_asked);
-        answered.extend(row.expect("it is one of those that are given").answered());
-    }
-    answered
 }
 
 #[cfg(test)]

@@ -76,8 +76,6 @@ fn agree(call: &impl Asked, answer: Result<Answer, String>) -> Result<(), String
 
 #[cfg(test)]
 mod tests {
-    use reading::store::{Form, Name};
-
     use super::*;
 
     /// The number of no bytes, which are no store: its answer.
@@ -85,7 +83,7 @@ mod tests {
 
     impl Asked for Number {
         fn on_ours(&self) -> Call {
-            Call::number(&[], Form::FIRST, Name::plain(0))
+            Call::number(&[], 0)
         }
 
         fn answer(&self) -> &Answer {

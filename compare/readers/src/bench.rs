@@ -5,13 +5,13 @@ use cases::given::List;
 use cases::stores::bench;
 use cases::{Case, Seen, unhex};
 use reading::commands::Answer;
-use reading::store::{Form, NO_CODE, Scope, cluster_of};
+use reading::store::cluster_of;
 use reading::table::to_bytes;
 
 /// Requests and rooms, each over what those before it left of store T: frames
 /// 1 to 4, a string; 5, 6, 7; 9, 10; 11, its refusals; what it configured; a
-/// command that nobody serves; the same of a code that T does not have.
-const REQUESTS: [(&str, usize); 18] = [
+/// command that nobody serves.
+const REQUESTS: [(&str, usize); 16] = [
     ("002a00 0000 0900", 14),
     ("002a00 0000 0900", 13),
     ("002a00 0000 0900", 10),
@@ -28,8 +28,6 @@ const REQUESTS: [(&str, usize); 18] = [
     ("002d06 00010020 0a003c0001 0109003c00", 64),
     ("002e08 000500 000000 010900", 64),
     ("002fff", 64),
-    ("0434122a00 0000 0900", 64),
-    ("0434122fff", 64),
 ];
 
 /// Each request, and what is to come of it.
@@ -41,7 +39,6 @@ pub fn served() -> Vec<(Case, Seen)> {
         let case = Case {
             cluster: cluster_of(&store).expect("it is a store"),
             store,
-            form: Form::FIRST,
             table,
             unicast: 1,
             request: unhex(request),
@@ -60,10 +57,6 @@ pub fn served() -> Vec<(Case, Seen)> {
 pub fn report() -> (List, Answer) {
     let list = List {
         store: bench(),
-        scope: Scope {
-            form: Form::FIRST,
-            code: NO_CODE,
-        },
         sequence: 0x2a,
         ids: vec![0, 5],
         room: 64,

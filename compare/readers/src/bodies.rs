@@ -32,8 +32,7 @@ fn frame(random: &mut Random, command: u8) -> Vec<u8> {
         0 => random.byte(),
         _ => random.of(&CONTROLS),
     };
-    let code = random.of(&[0, 1, 0x1234]);
-    let head = header(random, control, code, command);
+    let head = header(random, control, command);
     let mut frame = [head, body(random, command)].concat();
     match random.below(8) {
         0 => frame.truncate(random.below(frame.len() + 1)),

@@ -3,42 +3,21 @@
 use std::collections::HashMap;
 
 use cases::kinds::READERS;
-use reading::header;
 use reading::replies::{Read, Readings};
-use reading::store::NO_CODE;
 
 /// What a reader may say.
 const NUMBERS: [u8; 4] = [0, 2, 4, 10];
-
-const HEADERS: [&str; 4] = [
-    "header: 2",
-    "header: 0, without a code",
-    "header: 0, with code 0000",
-    "header: 0, with a code",
-];
-
-fn of_header(frame: &[u8]) -> usize {
-    match header(frame).map(|header| header.manufacturer_code) {
-        None => 0,
-        Some(None) => 1,
-        Some(Some(NO_CODE)) => 2,
-        Some(Some(_)) => 3,
-    }
-}
 
 #[derive(Default)]
 pub struct Counted {
     pub frames: usize,
     said: HashMap<(&'static str, u8), usize>,
     records: HashMap<&'static str, usize>,
-    /// What a header by itself is.
-    headers: [usize; HEADERS.len()],
 }
 
 impl Counted {
-    pub fn count(&mut self, frame: &[u8], readings: &Readings) {
+    pub fn count(&mut self, readings: &Readings) {
         self.frames += 1;
-        self.headers[of_header(frame)] += 1;
         for (reader, number) in READERS.into_iter().zip(readings.numbers()) {
             *self.said.entry((reader, number)).or_default() += 1;
         }
@@ -54,10 +33,7 @@ impl Counted {
             let records = self.records[reader];
             format!("{reader:19}  {}, records: {records}\n", said.join(", "))
         };
-        let readers: String = READERS.into_iter().map(line).collect();
-        let header = |(name, count)| format!("{count:9}  {name}\n");
-        let headers = HEADERS.into_iter().zip(self.headers);
-        readers + &headers.map(header).collect::<String>()
+        READERS.into_iter().map(line).collect()
     }
 
     fn said(&self, reader: &'static str, number: u8) -> usize {
@@ -70,11 +46,8 @@ impl Counted {
         let never = pairs.into_iter().flatten().filter(|&(reader, number)| {
             self.said(reader, number) == 0 || self.records.get(reader).is_none_or(|&n| n == 0)
         });
-        let headers = HEADERS.into_iter().zip(self.headers);
-        let headers = headers.filter(|&(_, count)| count == 0);
         never
             .map(|(reader, number)| format!("{reader}: {number}, with records"))
-            .chain(headers.map(|(name, _)| name.to_owned()))
             .collect()
     }
 }

@@ -2,10 +2,11 @@
 
 use cases::hex;
 use cases::kinds::{Kinds, of_readings};
-use ours::{Driver, Held, Row, rows, wrong_rows};
+use ours::{Driver, Held, Row, wrong_rows};
 use reading::replies::Readings;
 
 use crate::counted::Counted;
+use crate::rows::rows;
 
 /// So many are given to ours at a time.
 const BATCH: usize = 1000;
@@ -30,7 +31,7 @@ impl Frames {
     /// Gives a frame to the reading; ours has its turn later.
     pub fn give(&mut self, frame: &[u8]) -> Result<Readings, String> {
         let readings = Readings::of(frame);
-        self.counted.count(frame, &readings);
+        self.counted.count(&readings);
         self.kinds
             .count(&of_readings(frame, &readings))
             .map_err(|trouble| format!("{trouble}: {}", hex(frame)))?;
@@ -47,15 +48,15 @@ impl Frames {
         let waiting = std::mem::take(&mut self.waiting);
         let held: Vec<Held> = waiting
             .iter()
-            .flat_map(|(frame, rows)| [Held::read(frame, rows), Held::header(frame)])
+            .map(|(frame, rows)| Held::read(frame, rows))
             .collect();
         let Some((at, trouble)) = self.driver.first_wrong(&held)? else {
             return Ok(());
         };
-        let (frame, rows) = &waiting[at / 2];
+        let (frame, rows) = &waiting[at];
         let said = match self.driver.answer(&held[at].call) {
-            Ok(answer) if at % 2 == 0 => wrong_rows(rows, &answer).join("\n  "),
-            _ => trouble,
+            Ok(answer) => wrong_rows(rows, &answer).join("\n  "),
+            Err(_) => trouble,
         };
         Err(format!("a disagreement on {}\n  {said}", hex(frame)))
     }

@@ -2,10 +2,10 @@
 //! table alone: nothing here reads a list of records.
 
 use cases::given::List;
-use cases::{Case, Seen, body_of, kinds, records};
+use cases::{Case, Seen, body_of, records};
 use reading::commands::serve;
 use reading::replies::{Failure, ReadRecord, Readings, Setting, SettingRecord, Value};
-use reading::store::{Scope, number, value};
+use reading::store::{attributes, find, number, value};
 use reading::table::{Key, entries, place};
 use reading::{FrameType, change_width};
 
@@ -18,13 +18,15 @@ pub fn is_answer(case: &Case, seen: &Seen, readings: &Readings) -> bool {
     match (header.frame_type, header.command) {
         (FrameType::Global, 0x00) => (readings.read.as_ref())
             .is_ok_and(|read| are_values(case, seen.reply(), body, read, left)),
-        (FrameType::Global, 0x02 | 0x03) => readings.write.as_ref() == Ok(&not_written(case, body)),
+        (FrameType::Global, 0x02 | 0x03) => {
+            readings.write.as_ref() == Ok(&not_written(&case.store, body))
+        }
         (FrameType::Global, 0x06) => readings.configure.as_ref() == Ok(&not_configured(case, body)),
         (FrameType::Global, 0x08) => {
             (readings.configuration.as_ref()).is_ok_and(|read| are_settings(case, body, read, left))
         }
         (FrameType::Global, 0x0c) => (readings.discover.as_ref())
-            .is_ok_and(|read| are_attributes(case, body, read.complete, &read.attributes)),
+            .is_ok_and(|read| are_attributes(&case.store, body, read.complete, &read.attributes)),
         (_, command) => (readings.default_response)
             .is_ok_and(|read| (read.command, read.status) == (command, 0x81)),
     }
@@ -34,28 +36,25 @@ pub fn is_report(list: &List, frame: &[u8], readings: &Readings) -> bool {
     readings.report.as_ref().is_ok_and(|read| {
         read.len() == list.ids.len()
             && (read.iter().zip(&list.ids)).all(|(record, &id)| {
-                record.id == id && is_value(&list.store, list.scope, frame, id, &record.value)
+                record.id == id && is_value(&list.store, frame, id, &record.value)
             })
     })
 }
 
 /// Whether a value that was read is the attribute's, with its number.
-fn is_value(store: &[u8], scope: Scope, frame: &[u8], id: u16, read: &Value) -> bool {
-    let name = scope.name(id);
-    scope
-        .find(store, id)
-        .is_some_and(|found| found.type_code == read.type_code)
-        && value(store, scope.form, name) == Some(read.bytes(frame))
-        && number(store, scope.form, name).ok() == read.number
+fn is_value(store: &[u8], frame: &[u8], id: u16, read: &Value) -> bool {
+    find(store, id).is_some_and(|found| found.type_code == read.type_code)
+        && value(store, id) == Some(read.bytes(frame))
+        && number(store, id).ok() == read.number
 }
 
 /// Ids in their order, all of them unless the room ends before.
 fn are_values(case: &Case, frame: &[u8], body: &[u8], read: &[ReadRecord], left: usize) -> bool {
-    let (mut ids, scope) = (body.chunks(2), case.scope());
+    let mut ids = body.chunks(2);
     let mut one = |record: &ReadRecord| {
-        let found = scope.find(&case.store, record.id).is_some();
+        let found = find(&case.store, record.id).is_some();
         let said = match (record.status, &record.value) {
-            (0x00, Some(value)) => is_value(&case.store, scope, frame, record.id, value),
+            (0x00, Some(value)) => is_value(&case.store, frame, record.id, value),
             (0x86, None) => !found,
             (0x89, None) => found,
             _ => false,
@@ -65,8 +64,8 @@ fn are_values(case: &Case, frame: &[u8], body: &[u8], read: &[ReadRecord], left:
     read.iter().all(&mut one) && (ids.next().is_none() || left < 3)
 }
 
-fn not_written(case: &Case, body: &[u8]) -> Vec<Failure> {
-    let (records, _) = records(&case.store, case.scope(), body);
+fn not_written(store: &[u8], body: &[u8]) -> Vec<Failure> {
+    let (records, _) = records(store, body);
     let failures = records.iter().map(|record| Failure {
         status: record.status,
         direction: None,
@@ -81,19 +80,17 @@ fn not_configured(case: &Case, body: &[u8]) -> Vec<Failure> {
     let mut store = case.store.clone();
     let mut table = entries(&case.table).unwrap_or_default();
     let mut failures = Vec::new();
-    let (mut rest, head) = (body, &case.request[..case.request.len() - body.len()]);
+    let mut rest = body;
     while let [direction, low, high, more @ ..] = rest {
         let length = match (direction, more) {
             (0, [code, ..]) => 3 + 5 + change_width(*code),
             _ => 3 + 2,
         };
         let (record, behind) = rest.split_at(length.min(rest.len()));
-        let single = [head, record].concat();
-        let (lent, form) = (&mut store, case.form);
-        let answer = serve(lent, form, &mut table, case.cluster, true, &single, 64);
-        let status = answer.reply.get(kinds::head(case.scope().code));
+        let single = [&[0x00, 0x00, 0x06], record].concat();
+        let answer = serve(&mut store, &mut table, case.cluster, true, &single, 64);
         failures.push(Failure {
-            status: status.copied().unwrap_or(0xff),
+            status: answer.reply.get(3).copied().unwrap_or(0xff),
             direction: Some(*direction),
             id: u16::from_le_bytes([*low, *high]),
         });
@@ -129,13 +126,13 @@ fn setting_record(case: &Case, asked: &[u8]) -> Option<SettingRecord> {
 
 /// What the table holds for an attribute, or the status.
 fn setting(case: &Case, direction: u8, attribute: u16) -> Result<Setting, u8> {
-    let found = case.scope().find(&case.store, attribute).ok_or(0x86)?;
+    let found = find(&case.store, attribute).ok_or(0x86)?;
     if direction != 0 || found.access & 2 == 0 {
         return Err(0x8c);
     }
     let table = entries(&case.table).unwrap_or_default();
-    let key = Key::of(case.cluster, found.name);
-    let held = table[place(&table, key).ok_or(0x8b)?].config;
+    let cluster = case.cluster;
+    let held = table[place(&table, Key { cluster, attribute }).ok_or(0x8b)?].config;
     let mut change = held.change.to_le_bytes();
     change[change_width(found.type_code)..].fill(0);
     Ok(Setting {
@@ -147,13 +144,13 @@ fn setting(case: &Case, direction: u8, attribute: u16) -> Result<Setting, u8> {
 }
 
 /// From the start on, in the store's order; complete where none is left out.
-fn are_attributes(case: &Case, body: &[u8], complete: bool, read: &[(u16, u8)]) -> bool {
+fn are_attributes(store: &[u8], body: &[u8], complete: bool, read: &[(u16, u8)]) -> bool {
     let start = u16::from_le_bytes([body[0], body[1]]);
-    let attributes = case.scope().attributes(&case.store);
+    let attributes = attributes(store).unwrap_or_default();
     let from_start: Vec<_> = attributes
         .iter()
-        .filter(|attribute| attribute.name.id >= start)
-        .map(|attribute| (attribute.name.id, attribute.type_code))
+        .filter(|attribute| attribute.id >= start)
+        .map(|attribute| (attribute.id, attribute.type_code))
         .collect();
     from_start.starts_with(read) && complete == (read.len() == from_start.len())
 }
@@ -168,7 +165,7 @@ mod tests {
         for (case, seen) in bench::served() {
             let reply = seen.reply().to_vec();
             assert!(is_answer(&case, &seen, &Readings::of(&reply)), "{case}");
-            for at in kinds::head(case.scope().code)..reply.len() {
+            for at in 3..reply.len() {
                 for change in 1..=0xff {
                     let mut other = seen.clone();
                     other.buffer[at] ^= change;

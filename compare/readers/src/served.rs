@@ -9,28 +9,32 @@ use reading::replies::Readings;
 use crate::frames::Frames;
 use crate::round_trip;
 
+const REQUESTS: usize = 440_000;
+const LISTS: usize = 110_000;
+
+/// At least so many must have a reply that is read back.
+const READ_BACK: usize = 200_000;
+
 /// So many of each are served at a time.
 const BATCH: usize = 1000;
 
-/// Serves so many batches of requests, and a fourth as many of lists. Says how many
-/// were served, and how many replies and report frames were read back.
-pub fn compare(
-    frames: &mut Frames,
-    random: &mut Random,
-    batches: usize,
-) -> Result<(usize, usize), String> {
+/// Says how many were served, and how many replies and report frames were read
+/// back.
+pub fn compare(frames: &mut Frames, random: &mut Random) -> Result<(usize, usize), String> {
     let before = frames.counted.frames;
     let mut given = Given::default();
-    let lists_of = batches / 4;
-    for _ in 0..batches {
+    for _ in 0..REQUESTS / BATCH {
         requests(frames, random, &mut given)?;
     }
-    for _ in 0..lists_of {
+    for _ in 0..LISTS / BATCH {
         lists(frames, random)?;
     }
     frames.compare()?;
     let read_back = frames.counted.frames - before;
-    Ok(((batches + lists_of) * BATCH, read_back))
+    if read_back < READ_BACK {
+        return Err(format!("only {read_back} replies were read back"));
+    }
+    Ok((REQUESTS + LISTS, read_back))
 }
 
 fn requests(frames: &mut Frames, random: &mut Random, given: &mut Given) -> Result<(), String> {

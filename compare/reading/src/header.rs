@@ -1,7 +1,5 @@
 //! What stands before a frame's body.
 
-use crate::store::NO_CODE;
-
 #[derive(Debug, Clone, Copy, PartialEq, Eq)]
 pub enum FrameType {
     Global,
@@ -11,22 +9,12 @@ pub enum FrameType {
 
 #[derive(Debug, Clone, Copy, PartialEq, Eq)]
 pub struct Header {
-    /// The first byte.
-    pub control: u8,
     pub frame_type: FrameType,
     pub manufacturer_code: Option<u16>,
     pub sequence: u8,
     pub command: u8,
     /// Where the body starts.
     pub body: usize,
-}
-
-impl Header {
-    /// The code by which attributes are named. A header without one, or with code
-    /// 0000, means none (document 02, request 8).
-    pub fn code(&self) -> u16 {
-        self.manufacturer_code.unwrap_or(NO_CODE)
-    }
 }
 
 /// `None` for a frame that is too short to have one.
@@ -44,7 +32,6 @@ pub fn header(frame: &[u8]) -> Option<Header> {
         (None, 1)
     };
     Some(Header {
-        control,
         frame_type,
         manufacturer_code,
         sequence: *frame.get(at)?,

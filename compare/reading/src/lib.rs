@@ -1,5 +1,5 @@
 //! Document 01, read once more and written down in Rust, to hold answers to:
-//! as it stands with requests 1, 2, 3, 5, 6, 7 and 8 of document 02.
+//! as it stands with requests 1, 2, 3, 5 and 6 of document 02.
 //! It calls nothing else: neither the Rust that is compared nor what replaces
 //! it. It prefers the plainest form over speed.
 

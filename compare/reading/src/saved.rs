@@ -1,56 +1,20 @@
 //! The saved form of a reporting table, which a box keeps through a power cut:
-//! document 02, requests 5, 6 and 8. It tells what is configured, and no last
-//! report. Forms that were saved before there were codes, or before there were
-//! marks, are read too: without a code, and with numbers that compare as they did
-//! then.
+//! document 02, requests 5 and 6. It tells what is configured, and no last
+//! report. A form that was saved before there were marks is read too: its
+//! numbers compare as they did then.
 
 use crate::body::{Body, Cut};
 use crate::commands::{Answer, Refusal};
-use crate::store::{NO_CODE, Name};
 use crate::table::{self, Config, ENTRIES, Entry, Key, SIGNED, SIZE};
 
-/// What a form tells of each entry: the older, the less.
-#[derive(Debug, Clone, Copy, PartialEq, Eq, Hash)]
-pub enum Age {
-    /// With codes and marks: the one that is written.
-    Coded,
-    /// Without codes,
-    Marked,
-    /// and without marks.
-    Unmarked,
-}
+/// Bytes of an entry of the contents: cluster, attribute, offset.
+const CONTENT: usize = 6;
 
-impl Age {
-    pub const ALL: [Self; 3] = [Self::Coded, Self::Marked, Self::Unmarked];
+/// Bytes of a body without a mark: minimum, maximum, change.
+const UNMARKED: usize = 12;
 
-    /// Bytes of an entry of the contents: cluster, attribute, code, offset.
-    pub fn content(self) -> usize {
-        match self {
-            Self::Coded => 8,
-            Self::Marked | Self::Unmarked => 6,
-        }
-    }
-
-    /// Bytes of a body: minimum, maximum, change, mark.
-    pub fn body(self) -> usize {
-        match self {
-            Self::Coded | Self::Marked => 13,
-            Self::Unmarked => 12,
-        }
-    }
-
-    /// The bytes of a form of so many entries.
-    pub fn length(self, entries: usize) -> usize {
-        1 + (self.content() + self.body()) * entries
-    }
-
-    /// Told by a form's bytes and its entries together; by none, `Coded`, as that is
-    /// the same in all. Nothing where no form has this length.
-    pub fn of(bytes: usize, entries: usize) -> Option<Self> {
-        let has = |age: &Self| age.length(entries) == bytes;
-        Self::ALL.into_iter().find(has)
-    }
-}
+/// Bytes of a body.
+const BODY: usize = UNMARKED + 1;
 
 /// Why bytes are not a saved form, or a table has none. Where several are true,
 /// the first that is met is said; the number is the same for all.
@@ -92,43 +56,45 @@ pub fn read_within(limit: usize, saved: &[u8]) -> Result<Vec<Entry>, Fault> {
     if count > limit {
         return Err(Fault::Count);
     }
-    let age = Age::of(saved.len(), count).ok_or(Fault::Length)?;
+    let marked = !is_old(count, saved.len());
     let mut contents = Vec::new();
     for _ in 0..count {
-        contents.push(content(&mut bytes, age)?);
+        contents.push(content(&mut bytes)?);
     }
     let mut entries = Vec::new();
     for (key, offset) in contents {
         if usize::from(offset) != bytes.at() {
             return Err(Fault::Offset);
         }
-        let config = config(&mut bytes, age)?;
+        let config = config(&mut bytes, marked)?;
         let last = None;
         entries.push(Entry { key, config, last });
+    }
+    if bytes.goes_on() {
+        return Err(Fault::Length);
     }
     sound(&entries)?;
     Ok(entries)
 }
 
-/// A key, and where its body starts.
-fn content(bytes: &mut Body<'_>, age: Age) -> Result<(Key, u16), Cut> {
-    let cluster = bytes.short()?;
-    let id = bytes.short()?;
-    let code = match age {
-        Age::Coded => bytes.short()?,
-        Age::Marked | Age::Unmarked => NO_CODE,
-    };
-    Ok((Key::of(cluster, Name { code, id }), bytes.short()?))
+/// Whether a form of so many entries has no marks, by its bytes. A form of none
+/// is the same either way.
+fn is_old(count: usize, bytes: usize) -> bool {
+    bytes == old_length(count)
 }
 
-fn config(bytes: &mut Body<'_>, age: Age) -> Result<Config, Fault> {
+/// A key, and where its body starts.
+fn content(bytes: &mut Body<'_>) -> Result<(Key, u16), Cut> {
+    let cluster = bytes.short()?;
+    let attribute = bytes.short()?;
+    Ok((Key { cluster, attribute }, bytes.short()?))
+}
+
+fn config(bytes: &mut Body<'_>, marked: bool) -> Result<Config, Fault> {
     let minimum = bytes.short()?;
     let maximum = bytes.short()?;
     let change = bytes.bytes(8)?.try_into().expect("eight were taken");
-    let mark = match age {
-        Age::Coded | Age::Marked => bytes.byte()?,
-        Age::Unmarked => SIGNED,
-    };
+    let mark = if marked { bytes.byte()? } else { SIGNED };
     if !table::is_mark(mark) {
         return Err(Fault::Mark);
     }
@@ -146,9 +112,9 @@ pub fn write(entries: &[Entry]) -> Result<Vec<u8>, Fault> {
     let count = u8::try_from(entries.len()).expect("a table is short");
     let (mut contents, mut bodies) = (Vec::new(), Vec::new());
     for Entry { key, config, .. } in entries {
-        let offset = 1 + Age::Coded.content() * entries.len() + bodies.len();
+        let offset = 1 + CONTENT * entries.len() + bodies.len();
         let offset = u16::try_from(offset).expect("a table is short");
-        contents.extend([key.cluster, key.attribute, key.code, offset].map(u16::to_le_bytes));
+        contents.extend([key.cluster, key.attribute, offset].map(u16::to_le_bytes));
         bodies.extend(config.minimum.to_le_bytes());
         bodies.extend(config.maximum.to_le_bytes());
         bodies.extend(config.change.to_le_bytes());
@@ -159,7 +125,12 @@ pub fn write(entries: &[Entry]) -> Result<Vec<u8>, Fault> {
 
 /// The bytes of the form of so many entries.
 pub fn length(entries: usize) -> usize {
-    Age::Coded.length(entries)
+    1 + (CONTENT + BODY) * entries
+}
+
+/// The bytes of the form without marks of so many entries.
+pub fn old_length(entries: usize) -> usize {
+    1 + (CONTENT + UNMARKED) * entries
 }
 
 /// What a form and a table that has one keep both.

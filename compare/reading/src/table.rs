@@ -1,7 +1,5 @@
 //! The reporting table: its bytes towards C, its changes, and what an ask says.
 
-use crate::store::Name;
-
 /// A table has room for this many entries,
 pub const ENTRIES: usize = 128;
 
@@ -9,13 +7,7 @@ pub const ENTRIES: usize = 128;
 pub const FORMER_ENTRIES: usize = 16;
 
 /// An entry's bytes.
-pub const SLOT: usize = 32;
-
-/// Where the mark and the reported flag stand in a slot, and where the last report's
-/// time and value begin.
-pub const MARK: usize = 18;
-pub const FLAG: usize = 19;
-pub const LAST: usize = 20;
+pub const SLOT: usize = 30;
 
 /// The mark of an entry whose numbers compare with their sign: the Int types.
 pub const SIGNED: u8 = 0;
@@ -29,32 +21,7 @@ pub const SIZE: usize = 1 + ENTRIES * SLOT;
 #[derive(Debug, Clone, Copy, PartialEq, Eq)]
 pub struct Key {
     pub cluster: u16,
-    /// The manufacturer's, 0 for none: document 02, request 8.
-    pub code: u16,
     pub attribute: u16,
-}
-
-impl Key {
-    /// That of an attribute of a cluster.
-    pub const fn of(cluster: u16, name: Name) -> Self {
-        Self {
-            cluster,
-            code: name.code,
-            attribute: name.id,
-        }
-    }
-
-    /// That of an attribute without a code.
-    pub const fn plain(cluster: u16, attribute: u16) -> Self {
-        Self::of(cluster, Name::plain(attribute))
-    }
-
-    pub fn name(&self) -> Name {
-        Name {
-            code: self.code,
-            id: self.attribute,
-        }
-    }
 }
 
 #[derive(Debug, Clone, Copy, PartialEq, Eq)]
@@ -124,13 +91,13 @@ pub fn is_table(bytes: &[u8]) -> bool {
 }
 
 fn entry(slot: &[u8]) -> Result<Entry, Broken> {
-    let mark = slot[MARK];
+    let mark = slot[16];
     if !is_mark(mark) {
         return Err(Broken::Mark);
     }
-    let time = u32::from_le_bytes(field(slot, LAST));
-    let value = i64::from_le_bytes(field(slot, LAST + 4));
-    let last = match slot[FLAG] {
+    let time = u32::from_le_bytes(field(slot, 18));
+    let value = i64::from_le_bytes(field(slot, 22));
+    let last = match slot[17] {
         0 if (time, value) == (0, 0) => None,
         0 => return Err(Broken::Unreported),
         1 => Some((time, value)),
@@ -140,12 +107,11 @@ fn entry(slot: &[u8]) -> Result<Entry, Broken> {
         key: Key {
             cluster: u16::from_le_bytes(field(slot, 0)),
             attribute: u16::from_le_bytes(field(slot, 2)),
-            code: u16::from_le_bytes(field(slot, 4)),
         },
         config: Config {
-            minimum: u16::from_le_bytes(field(slot, 6)),
-            maximum: u16::from_le_bytes(field(slot, 8)),
-            change: u64::from_le_bytes(field(slot, 10)),
+            minimum: u16::from_le_bytes(field(slot, 4)),
+            maximum: u16::from_le_bytes(field(slot, 6)),
+            change: u64::from_le_bytes(field(slot, 8)),
             mark,
         },
         last,
@@ -178,14 +144,13 @@ fn write_slot(slot: &mut [u8], entry: &Entry) {
     let (time, value) = entry.last.unwrap_or((0, 0));
     slot[0..2].copy_from_slice(&entry.key.cluster.to_le_bytes());
     slot[2..4].copy_from_slice(&entry.key.attribute.to_le_bytes());
-    slot[4..6].copy_from_slice(&entry.key.code.to_le_bytes());
-    slot[6..8].copy_from_slice(&entry.config.minimum.to_le_bytes());
-    slot[8..10].copy_from_slice(&entry.config.maximum.to_le_bytes());
-    slot[10..18].copy_from_slice(&entry.config.change.to_le_bytes());
-    slot[MARK] = entry.config.mark;
-    slot[FLAG] = entry.last.is_some().into();
-    slot[LAST..LAST + 4].copy_from_slice(&time.to_le_bytes());
-    slot[LAST + 4..].copy_from_slice(&value.to_le_bytes());
+    slot[4..6].copy_from_slice(&entry.config.minimum.to_le_bytes());
+    slot[6..8].copy_from_slice(&entry.config.maximum.to_le_bytes());
+    slot[8..16].copy_from_slice(&entry.config.change.to_le_bytes());
+    slot[16] = entry.config.mark;
+    slot[17] = entry.last.is_some().into();
+    slot[18..22].copy_from_slice(&time.to_le_bytes());
+    slot[22..30].copy_from_slice(&value.to_le_bytes());
 }
 
 /// Whether there was room. Configuring again forgets the last report.

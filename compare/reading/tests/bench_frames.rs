@@ -52,7 +52,10 @@ fn frame_11() {
     let mut served = Served::bench();
     let frame = "002d0600050029 0a003c003200";
     assert_eq!(served.says(frame, 64), "0 182d0700");
-    let key = Key::plain(common::CLUSTER, 5);
+    let key = Key {
+        cluster: common::CLUSTER,
+        attribute: 5,
+    };
     let config = Config {
         minimum: 10,
         maximum: 60,
@@ -82,14 +85,14 @@ fn what_is_no_store() {
         let store = common::bytes(store);
         let mut served = Served {
             store: store.clone(),
-            ..Served::bench()
+            table: Vec::new(),
         };
         assert_eq!(served.says("002a00", 64), "7");
         assert_eq!(served.store, store);
     }
     let mut none = Served {
         store: common::bytes("21fc0000"),
-        ..Served::bench()
+        table: Vec::new(),
     };
     assert_eq!(none.says("002c0c000001", 64), "0 182c0d01");
 }

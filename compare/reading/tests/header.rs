@@ -4,40 +4,28 @@ use reading::{FrameType, Header, header};
 
 #[test]
 fn global() {
-    let expected = |control| Header {
-        control,
+    let expected = Header {
         frame_type: FrameType::Global,
         manufacturer_code: None,
         sequence: 0x2a,
         command: 0x0c,
         body: 3,
     };
-    assert_eq!(header(&[0x00, 0x2a, 0x0c]), Some(expected(0x00)));
-    assert_eq!(header(&[0x18, 0x2a, 0x0c, 0xff]), Some(expected(0x18)));
-    assert_eq!(expected(0x00).code(), 0);
+    assert_eq!(header(&[0x00, 0x2a, 0x0c]), Some(expected));
+    assert_eq!(header(&[0x18, 0x2a, 0x0c, 0xff]), Some(expected));
 }
 
 #[test]
 fn manufacturer_code() {
-    let expected = |control| Header {
-        control,
+    let expected = Header {
         frame_type: FrameType::Cluster,
         manufacturer_code: Some(0x1234),
         sequence: 0x2a,
         command: 0xfe,
         body: 5,
     };
-    assert_eq!(
-        header(&[0x05, 0x34, 0x12, 0x2a, 0xfe]),
-        Some(expected(0x05))
-    );
-    assert_eq!(
-        header(&[0xfd, 0x34, 0x12, 0x2a, 0xfe, 0]),
-        Some(expected(0xfd))
-    );
-    assert_eq!(expected(0x05).code(), 0x1234);
-    let zero = header(&[0x04, 0, 0, 0x2a, 0x00]).expect("long enough");
-    assert_eq!((zero.manufacturer_code, zero.code()), (Some(0), 0));
+    assert_eq!(header(&[0x05, 0x34, 0x12, 0x2a, 0xfe]), Some(expected));
+    assert_eq!(header(&[0xfd, 0x34, 0x12, 0x2a, 0xfe, 0]), Some(expected));
 }
 
 #[test]

@@ -4,7 +4,6 @@ mod common;
 
 use common::{CLUSTER, bench, bytes, hex, reply, says};
 use reading::commands::{Answer, report, serve, serve_lent, unsupported_cluster};
-use reading::store::Form;
 use reading::table::SIZE;
 
 fn shown(answer: &Answer) -> String {
@@ -22,15 +21,7 @@ fn lent(store: &[u8], broken: Option<usize>, cluster: u16, frame: &str) -> Strin
         table[at] = 0xff;
     }
     let before = (store.clone(), table.clone());
-    let answer = serve_lent(
-        &mut store,
-        Form::FIRST,
-        &mut table,
-        cluster,
-        true,
-        &bytes(frame),
-        64,
-    );
+    let answer = serve_lent(&mut store, &mut table, cluster, true, &bytes(frame), 64);
     assert_eq!((store, table), before);
     shown(&answer)
 }
@@ -73,18 +64,11 @@ fn default_response() {
         let (mut store, mut table) = (bench(), Vec::new());
         for room in [0, 64] {
             let frame = bytes(frame);
-            let answer = serve(
-                &mut store,
-                Form::FIRST,
-                &mut table,
-                CLUSTER,
-                false,
-                &frame,
-                room,
-            );
+            let answer = serve(&mut store, &mut table, CLUSTER, false, &frame, room);
             assert_eq!(shown(&answer), "6");
         }
     }
+    assert_eq!(says("05fffe2a02", 5), reply("182a0b0281"));
 }
 
 /// Whatever is in it, in any room, unicast or not.
@@ -101,15 +85,7 @@ fn default_response_received() {
         for unicast in [false, true] {
             for room in 0..7 {
                 let frame = bytes(frame);
-                let answer = serve(
-                    &mut store,
-                    Form::FIRST,
-                    &mut table,
-                    CLUSTER,
-                    unicast,
-                    &frame,
-                    room,
-                );
+                let answer = serve(&mut store, &mut table, CLUSTER, unicast, &frame, room);
                 assert_eq!(shown(&answer), "6");
                 assert_eq!(answer.buffer(room), vec![0; room]);
             }
@@ -122,15 +98,7 @@ fn default_response_received() {
 fn reading_needs_no_unicast() {
     let (mut store, mut table) = (bench(), Vec::new());
     let frame = bytes("102a000100");
-    let answer = serve(
-        &mut store,
-        Form::FIRST,
-        &mut table,
-        CLUSTER,
-        false,
-        &frame,
-        64,
-    );
+    let answer = serve(&mut store, &mut table, CLUSTER, false, &frame, 64);
     assert_eq!(shown(&answer), reply("182a01 0100002007"));
     assert_eq!(answer.buffer(10), bytes("182a01 0100002007 0000"));
 }
@@ -163,7 +131,7 @@ fn responder() {
 
 #[test]
 fn report_frames() {
-    let of = |ids: &[u16], room| shown(&report(&bench(), Form::FIRST, 0, 0x2a, ids, room));
+    let of = |ids: &[u16], room| shown(&report(&bench(), 0x2a, ids, room));
     assert_eq!(of(&[5, 0], 64), reply("182a0a 05002938ff 00002300000080"));
     assert_eq!(of(&[5, 5], 13), reply("182a0a 05002938ff 05002938ff"));
     assert_eq!(of(&[5, 0], 14), "5");
@@ -173,8 +141,5 @@ fn report_frames() {
     assert_eq!(of(&[9], 64), "12", "not found");
     assert_eq!(of(&[5, 9], 7), "5", "the first trouble");
     assert_eq!(of(&[5, 9], 8), "12");
-    assert_eq!(
-        shown(&report(&bench()[..47], Form::FIRST, 0, 0, &[], 0)),
-        "7"
-    );
+    assert_eq!(shown(&report(&bench()[..47], 0, &[], 0)), "7");
 }

@@ -8,7 +8,7 @@ use reading::table::{Config, ENTRIES, Entry, Key, SIGNED, UNSIGNED};
 fn entry(cluster: u16, attribute: u16, config: (u16, u16, u64)) -> Entry {
     let (minimum, maximum, change) = config;
     Entry {
-        key: Key::plain(cluster, attribute),
+        key: Key { cluster, attribute },
         config: Config {
             minimum,
             maximum,
@@ -22,11 +22,7 @@ fn entry(cluster: u16, attribute: u16, config: (u16, u16, u64)) -> Entry {
 /// T over these entries.
 fn over(table: Vec<Entry>) -> Served {
     let store = common::bench();
-    Served {
-        store,
-        table,
-        ..Served::bench()
-    }
+    Served { store, table }
 }
 
 #[test]
@@ -114,7 +110,7 @@ fn configured(code: u8, field: &str) -> Config {
     let head = [0x21, 0xfc, 1, 0, 1, 0, code, 2, 12, 0, low, high];
     let mut served = Served {
         store: [&head[..], &vec![0; size]].concat(),
-        ..Served::bench()
+        table: Vec::new(),
     };
     let frame = format!("000006 000100 {code:02x} 00000000 {field}");
     assert_eq!(served.says(&frame, 64), reply("180007 00"));

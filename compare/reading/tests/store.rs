@@ -1,22 +1,6 @@
-//! Bench store T, and what breaks it. All stores here are of the first form.
+//! Bench store T, and what breaks it.
 
-use reading::store::{self, Attribute, Form, Name};
-
-fn is_store(bytes: &[u8]) -> bool {
-    store::is_store(bytes, Form::FIRST)
-}
-
-fn find(bytes: &[u8], id: u16) -> Option<Attribute> {
-    store::find(bytes, Form::FIRST, Name::plain(id))
-}
-
-fn value(bytes: &[u8], id: u16) -> Option<&[u8]> {
-    store::value(bytes, Form::FIRST, Name::plain(id))
-}
-
-fn number(bytes: &[u8], id: u16) -> Result<i64, u8> {
-    store::number(bytes, Form::FIRST, Name::plain(id))
-}
+use reading::store::{attributes, find, is_store, number, value, write};
 
 fn bytes(hex: &str) -> Vec<u8> {
     let hex: String = hex.split_whitespace().collect();
@@ -53,10 +37,10 @@ fn bench_store() {
     let store = bench();
     assert_eq!(store.len(), 48);
     assert!(is_store(&store));
-    let ids: Vec<u16> = store::attributes(&store, Form::FIRST)
+    let ids: Vec<u16> = attributes(&store)
         .expect("four")
         .iter()
-        .map(|entry| entry.name.id)
+        .map(|entry| entry.id)
         .collect();
     assert_eq!(ids, [0, 1, 5, 7]);
     let last = find(&store, 7).expect("there");
@@ -219,8 +203,7 @@ fn numbers() {
 /// The status of a write to T, and the store afterwards.
 fn written(id: u16, type_code: u8, value: &str) -> (u8, Vec<u8>) {
     let mut store = bench();
-    let name = Name::plain(id);
-    let status = store::write(&mut store, Form::FIRST, name, type_code, &bytes(value));
+    let status = write(&mut store, id, type_code, &bytes(value));
     assert!(is_store(&store));
     (status, store)
 }

@@ -7,7 +7,10 @@ use reading::table::{
 };
 
 const FIRST: Entry = Entry {
-    key: Key::plain(0xfc21, 5),
+    key: Key {
+        cluster: 0xfc21,
+        attribute: 5,
+    },
     config: Config {
         minimum: 10,
         maximum: 60,
@@ -20,7 +23,6 @@ const FIRST: Entry = Entry {
 const SECOND: Entry = Entry {
     key: Key {
         cluster: 0x0102,
-        code: 0x5678,
         attribute: 0x0304,
     },
     config: Config {
@@ -46,8 +48,8 @@ const USED: usize = 1 + 2 * SLOT;
 fn two() -> Vec<u8> {
     let used = bytes(
         "02
-         21fc 0500 0000 0a00 3c00 3200000000000000 00 01 64000000 38ffffffffffffff
-         0201 0403 7856 0605 0807 100f0e0d0c0b0a09 01 00 00000000 0000000000000000",
+         21fc 0500 0a00 3c00 3200000000000000 00 01 64000000 38ffffffffffffff
+         0201 0403 0605 0807 100f0e0d0c0b0a09 01 00 00000000 0000000000000000",
     );
     assert_eq!(used.len(), USED);
     [used, vec![0; SIZE - USED]].concat()
@@ -70,7 +72,7 @@ fn two_entries_in_order() {
 #[test]
 fn the_sizes() {
     assert_eq!((ENTRIES, FORMER_ENTRIES), (128, 16));
-    assert_eq!((SLOT, SIZE), (32, 4097));
+    assert_eq!((SLOT, SIZE), (30, 3841));
 }
 
 /// A table with this count and `FIRST` in its first slots.
@@ -100,7 +102,8 @@ fn none_and_all() {
 
 #[test]
 fn other_lengths() {
-    // those that tables have had before, too: 465, 481 and 3841
+    // that of the tables that had room for sixteen, too
+    assert_eq!(1 + FORMER_ENTRIES * SLOT, 481);
     for length in (0..SIZE).chain([SIZE + 1, SIZE + SLOT, 2 * SIZE]) {
         let mut table = two();
         table.resize(length, 0);
@@ -113,7 +116,10 @@ fn counts() {
     assert_eq!(entries(&with(0, 0)), Err(Unused));
     assert_eq!(entries(&with(0, 1)), Err(Unused));
     let blank = Entry {
-        key: Key::plain(0, 0),
+        key: Key {
+            cluster: 0,
+            attribute: 0,
+        },
         config: Config {
             minimum: 0,
             maximum: 0,
@@ -149,9 +155,9 @@ fn slots_behind_the_sixteenth() {
             table(0, 0x22).map(|held| held[place].key.cluster),
             Ok(0xfc22)
         );
-        assert_eq!(table(18, 2), Err(Mark));
-        assert_eq!(table(19, 2), Err(Flag));
-        assert_eq!(table(19, 0), Err(Unreported));
+        assert_eq!(table(16, 2), Err(Mark));
+        assert_eq!(table(17, 2), Err(Flag));
+        assert_eq!(table(17, 0), Err(Unreported));
     }
 }
 
@@ -187,31 +193,31 @@ fn full() {
 #[test]
 fn flags() {
     for flag in 2..=255 {
-        assert_eq!(entries(&with(20, flag)), Err(Flag), "{flag}");
-        assert_eq!(entries(&with(52, flag)), Err(Flag), "{flag}");
+        assert_eq!(entries(&with(18, flag)), Err(Flag), "{flag}");
+        assert_eq!(entries(&with(48, flag)), Err(Flag), "{flag}");
     }
-    assert_eq!(entries(&with(20, 0)), Err(Unreported));
+    assert_eq!(entries(&with(18, 0)), Err(Unreported));
     let marked = Entry {
         last: Some((0, 0)),
         ..SECOND
     };
-    assert_eq!(entries(&with(52, 1)), Ok(vec![FIRST, marked]));
+    assert_eq!(entries(&with(48, 1)), Ok(vec![FIRST, marked]));
 }
 
 #[test]
 fn marks() {
     for mark in 2..=255 {
-        assert_eq!(entries(&with(19, mark)), Err(Mark), "{mark}");
-        assert_eq!(entries(&with(51, mark)), Err(Mark), "{mark}");
+        assert_eq!(entries(&with(17, mark)), Err(Mark), "{mark}");
+        assert_eq!(entries(&with(47, mark)), Err(Mark), "{mark}");
     }
     let changed = |at, mark| entries(&with(at, mark)).expect("a table");
-    assert_eq!(changed(19, 1)[0].config.mark, UNSIGNED);
-    assert_eq!(changed(51, 0)[1].config.mark, SIGNED);
+    assert_eq!(changed(17, 1)[0].config.mark, UNSIGNED);
+    assert_eq!(changed(47, 0)[1].config.mark, SIGNED);
 }
 
 #[test]
 fn unreported() {
-    for at in 53..65 {
+    for at in 49..61 {
         assert_eq!(entries(&with(at, 1)), Err(Unreported), "{at}");
         assert_eq!(entries(&with(at, 0x80)), Err(Unreported), "{at}");
     }
@@ -220,13 +226,13 @@ fn unreported() {
 /// Every byte of a key, an interval or a change counts, and none breaks it.
 #[test]
 fn any_numbers() {
-    for at in (1..19).chain(21..33).chain(33..51) {
+    for at in (1..17).chain(19..31).chain(31..47) {
         let changed = entries(&with(at, 0xee)).expect("a table");
         assert_ne!(changed, [FIRST, SECOND], "{at}");
     }
-    let time = entries(&with(24, 0x80)).expect("a table");
+    let time = entries(&with(22, 0x80)).expect("a table");
     assert_eq!(time[0].last, Some((0x8000_0064, -200)));
-    let value = entries(&with(32, 0x7f)).expect("a table");
+    let value = entries(&with(30, 0x7f)).expect("a table");
     assert_eq!(value[0].last, Some((100, i64::MAX - 199)));
 }
 
@@ -239,7 +245,10 @@ fn first_of_equal_keys() {
     let table = [SECOND, again, FIRST];
     assert_eq!(place(&table, FIRST.key), Some(1));
     assert_eq!(ask(&table, FIRST.key, 0, 0), Reason::NeverMarked);
-    let exchanged = Key::plain(5, 0xfc21);
+    let exchanged = Key {
+        cluster: 5,
+        attribute: 0xfc21,
+    };
     assert_eq!(place(&table, exchanged), None);
 }
 

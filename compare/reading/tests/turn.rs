@@ -6,7 +6,7 @@ use std::collections::HashMap;
 
 use common::{CLUSTER, bench, bytes, hex};
 use reading::commands::{Turn, Turned};
-use reading::store::Form;
+use reading::store::is_store;
 use reading::table::{Config, ENTRIES, Entry, Key, SIGNED, SIZE, UNSIGNED, entries, to_bytes};
 
 const NO_ID: u32 = 0x10000;
@@ -20,7 +20,7 @@ fn store() -> Vec<u8> {
          0600f1023c001000 080020014c000100 ffff27024d000800
          07 feff 0254560000 000102030405060708090a0b0c0d0e0f 08 ffffffffffffffff",
     );
-    assert!(reading::store::is_store(&store, Form::FIRST));
+    assert!(is_store(&store));
     store
 }
 
@@ -44,7 +44,10 @@ fn frame(ids: &[u16]) -> Vec<u8> {
 /// Every 0 to 60 seconds, for any move; never reported.
 fn entry(attribute: u16) -> Entry {
     Entry {
-        key: Key::plain(CLUSTER, attribute),
+        key: Key {
+            cluster: CLUSTER,
+            attribute,
+        },
         config: Config {
             minimum: 0,
             maximum: 60,
@@ -66,8 +69,6 @@ fn reported(attribute: u16, time: u32, value: i64) -> Entry {
 fn turn(store: &[u8], last: u32, room: usize) -> Turn<'_> {
     Turn {
         store,
-        form: Form::FIRST,
-        code: 0,
         sequence: 0x2a,
         now: NOW,
         last,
@@ -440,7 +441,7 @@ impl Row {
             );
         }
         store.extend(vec![7; many.into()]);
-        assert!(reading::store::is_store(&store, Form::FIRST));
+        assert!(is_store(&store));
         Self {
             ids,
             store,

@@ -3,7 +3,6 @@
 
 mod answers;
 mod buffers;
-mod coded;
 mod damaged;
 mod differences;
 mod discovers;
@@ -63,9 +62,7 @@ pub struct Counts {
 fn listed() -> Vec<(Difference, u8)> {
     let writes = |condition| [0x02, 0x03, 0x05].map(|code| (Difference::Value(condition), code));
     let values = Condition::ALL.into_iter().flat_map(writes);
-    let coded = [0x00, 0x02, 0x03, 0x05, 0x0c].map(|code| (Difference::Coded, code));
-    let divided = (Difference::Divided, 0x03);
-    values.chain([divided]).chain(coded).collect()
+    values.chain([(Difference::Divided, 0x03)]).collect()
 }
 
 pub fn lines() -> Result<(Vec<String>, Counts), String> {
@@ -88,7 +85,6 @@ fn inputs() -> Vec<Vec<u8>> {
     differences::add(&mut frames);
     random::add(&mut frames);
     undivided::add(&mut frames);
-    coded::add(&mut frames);
     frames.0.into_vec()
 }
 

@@ -162,11 +162,11 @@ fn encoded(step: Step) -> Vec<u8> {
         Step::Call(Call::Configuration(key)) => (4, Some(key), vec![0; 12]),
         Step::Len => (5, None, vec![0; 12]),
     };
-    // no key here has a code
-    let none = Key::plain(0, 0);
-    let Key {
-        cluster, attribute, ..
-    } = key.unwrap_or(none);
+    let none = Key {
+        cluster: 0,
+        attribute: 0,
+    };
+    let Key { cluster, attribute } = key.unwrap_or(none);
     let ids = [cluster, attribute].map(u16::to_le_bytes).concat();
     [&[operation], &ids[..], &more].concat()
 }
@@ -181,7 +181,10 @@ mod tests {
 
     #[test]
     fn one_entry() {
-        let key = Key::plain(0xfc21, 5);
+        let key = Key {
+            cluster: 0xfc21,
+            attribute: 5,
+        };
         let config = Config {
             minimum: 10,
             maximum: 60,
@@ -203,8 +206,7 @@ mod tests {
         let none = "00".repeat(12);
         let calls =
             format!("00{id}{settings} 02{id}{marked} 03{id}{asked} 04{id}{none} 0500000000{none}");
-        let answers =
-            format!("0001 0001 0001 0001{settings} 0001 01{id}0000{settings}0001{marked}");
+        let answers = format!("0001 0001 0001 0001{settings} 0001 01{id}{settings}0001{marked}");
         let expected = [calls, answers].map(|field| field.replace(' ', ""));
         assert_eq!(line.text(), format!("m {}", expected.join(" ")));
     }

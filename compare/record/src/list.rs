@@ -66,7 +66,7 @@ mod tests {
     fn shape() {
         let list = whole().expect("no difference but the listed ones");
         assert_eq!(list, whole().expect("again"), "two runs, one list");
-        assert!(list.is_ascii() && list.len() < 2_000_000);
+        assert!(list.is_ascii() && list.len() < 1_600_000);
 
         let mut lines: Vec<&str> = list
             .strip_suffix('\n')

@@ -47,13 +47,12 @@
 //!   as it was, or 01 and the table's count and slots. The number is document
 //!   01's, as in `c`; reply and table are the Rust's as well, but for the marks
 //!   in the slots, which are document 02's.
-//! - `y input answer answer`: a frame of command 0b, or one with a manufacturer
-//!   code, with a listed difference, input and answers as in `q`, document 01's
-//!   first, then the Rust's, whose number is 6 where it has no reply.
+//! - `y input answer answer`: a frame of command 0b with a listed difference,
+//!   input and answers as in `q`, document 01's first, then the Rust's, whose
+//!   number is 0.
 //! - `n count`: how many lines stand before this one, the last.
 //!
-//! All stores are of the first form, and no key of a table has a code. The frames
-//! of `c` and `x` are global ones of commands 00, 02, 03, 05 and 0c
+//! The frames of `c` and `x` are global ones of commands 00, 02, 03, 05 and 0c
 //! with a whole header, for the cluster of the store, which is one. The last
 //! room is past the longest reply, at most 63, and where nothing changes any
 //! more with a longer one.

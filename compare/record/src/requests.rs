@@ -3,16 +3,14 @@
 
 mod edges;
 
-use std::collections::HashSet;
-
-use cases::given::{Codes, tables};
+use cases::given::tables;
 use cases::kinds::{self, Call, Kinds};
 use cases::requests::request;
 use cases::stores::{built, random_parts, word};
 use cases::{Case, Difference, Random, Seen, hex, unmarked};
 use oracle::{Oracle, Outcome, Request};
 use reading::commands::{Answer, serve_lent};
-use reading::store::{Form, attributes, cluster_of};
+use reading::store::{attributes, cluster_of};
 use reading::table::{ENTRIES, Entry, SLOT, entries, to_bytes};
 
 use crate::rust::short;
@@ -29,12 +27,8 @@ const RANDOM: usize = 180;
 pub fn lines() -> Result<(Vec<String>, Kinds), String> {
     let (mut oracle, mut kinds) = (Oracle::default(), Kinds::default());
     let mut lines = Vec::new();
-    let mut differed = HashSet::new();
     for case in edges::all().into_iter().chain(at_random()) {
         let line = line(&case, &mut oracle, &mut kinds)?;
-        if line.starts_with("y ") {
-            differed.extend(Difference::of(&case).map(|(difference, _)| difference));
-        }
         if !lines.contains(&line) {
             lines.push(line);
         }
@@ -43,10 +37,8 @@ pub fn lines() -> Result<(Vec<String>, Kinds), String> {
     if !missing.is_empty() {
         return Err(format!("never reached: {}", missing.join("; ")));
     }
-    for difference in [Difference::DefaultResponse, Difference::Coded] {
-        if !differed.contains(&difference) {
-            return Err(format!("{} never makes a difference", difference.name()));
-        }
+    if !lines.iter().any(|line| line.starts_with("y ")) {
+        return Err("a received Default Response never makes a difference".to_owned());
     }
     Ok((lines, kinds))
 }
@@ -67,11 +59,11 @@ fn at_random() -> Vec<Case> {
     (0..RANDOM)
         .map(|turn| {
             let store = built(&random_parts(random));
-            let attributes = attributes(&store, Form::FIRST).expect("a store");
+            let attributes = attributes(&store).expect("a store");
             let cluster = cluster_of(&store).expect("a store");
             let some = random.of(&[0, 1, 3, 8, 16, 17]);
             let many = if turn % 30 == 0 { ENTRIES } else { some };
-            let table = tables::sound(random, many, cluster, &attributes, Codes::None);
+            let table = tables::sound(random, many, cluster, &attributes);
             let command = random.of(&[CONFIGURE, READ]);
             let frame = request(random, &attributes, command);
             let ample = ample(&over(&store, &table, &frame, 255));
@@ -89,8 +81,7 @@ fn at_random() -> Vec<Case> {
 /// How long the reply is with as much room as the list can say.
 fn ample(case: &Case) -> usize {
     let (store, table) = (&mut case.store.clone(), &mut case.table.clone());
-    let (form, cluster, request) = (case.form, case.cluster, &case.request);
-    let answer = serve_lent(store, form, table, cluster, true, request, case.room);
+    let answer = serve_lent(store, table, case.cluster, true, &case.request, case.room);
     answer.reply.len()
 }
 
@@ -173,7 +164,6 @@ fn count(
     };
     kinds.count(&kinds::of(&Call {
         store: &case.store,
-        form: case.form,
         table: before,
         unicast: true,
         request: &case.request,
@@ -198,7 +188,7 @@ mod tests {
         let frame = "002a06 000500 29 0a00 3c00 0200".replace(' ', "");
         let input = format!("00 3000 {} {frame}", hex(&bench())).replace(' ', "");
         let slot = format!(
-            "21fc0500 0000 0a00 3c00 02{} 00 00 {}",
+            "21fc0500 0a00 3c00 02{} 00 00 {}",
             "00".repeat(7),
             "00".repeat(12)
         );

@@ -2,13 +2,9 @@
 
 use std::collections::{BTreeSet, HashMap};
 
-use cases::Lines;
 use reading::commands::Answer;
-use reading::saved::{self, Age, Fault, length};
-use reading::store::NO_CODE;
+use reading::saved::{self, Fault, length, old_length};
 use reading::table::{Broken, ENTRIES, Entry, FORMER_ENTRIES, UNSIGNED, entries};
-
-use crate::made::told;
 
 /// What may be wrong with a table that is not written,
 const UNWRITTEN: [Fault; 4] = [
@@ -43,25 +39,17 @@ const RESTORED: [&str; 4] = [
     "restore 0: over bytes that are no table",
 ];
 
-/// By what is told of the marks,
+/// By what is told of the marks.
 const MARKED: [&str; 3] = [
     "restore 0: a form with a mark of 1",
     "restore 0: a form with marks of 0 alone",
     "restore 0: a form without marks, read as signed",
 ];
 
-/// and of the codes.
-const CODED: [&str; 4] = [
-    "restore 0: a form with a code",
-    "restore 0: a form with a code, whose attribute stands under another too",
-    "restore 0: a form with codes 0000 alone",
-    "restore 0: a form without codes",
-];
-
-/// By what is said where tables have room for sixteen: document 02, request 7.
+/// By what a box says whose tables have room for sixteen: document 02, request 7.
 const FORMER: [&str; 2] = [
-    "restore 0: a form that is read alike where there is room for sixteen",
-    "restore 0: a form that gets 13 there, for its count",
+    "restore 0: a form that a box of before reads alike",
+    "restore 0: a form to which a box of before says 13, for its count",
 ];
 
 const OTHER_LENGTH: [&str; 2] = ["restore 8: a saved form", "restore 8: before 13"];
@@ -78,32 +66,29 @@ pub const READ_BACK: [&str; 2] = [
     "saved, then restored: the same table, which had none",
 ];
 pub const SAME_BYTES: &str = "restored, then saved: the same bytes";
-/// and of requests 8 and 6.
-pub const NEW_BYTES: [&str; 2] = [
-    "restored, then saved: a form without codes gets codes 0000",
-    "restored, then saved: a form without marks gets marks of 0, and codes 0000",
-];
+/// and of request 6.
+pub const NEW_BYTES: &str = "restored, then saved: a form without marks gets marks of 0";
 
 pub struct Counted {
-    lines: Lines,
-    /// How many entries the forms had, of each age.
-    forms: HashMap<Age, BTreeSet<usize>>,
+    counts: HashMap<String, usize>,
+    /// How many entries the forms had.
+    forms: BTreeSet<usize>,
+    /// And those without marks.
+    old_forms: BTreeSet<usize>,
 }
 
 impl Counted {
     pub fn new() -> Self {
         Self {
-            lines: Lines::new(lines()),
-            forms: Age::ALL.map(|age| (age, BTreeSet::new())).into(),
+            counts: lines().into_iter().map(|line| (line, 0)).collect(),
+            forms: BTreeSet::new(),
+            old_forms: BTreeSet::new(),
         }
     }
 
     pub fn count(&mut self, line: &str) {
-        self.lines.count(line);
-    }
-
-    fn form(&mut self, age: Age, entries: usize) {
-        self.forms.entry(age).or_default().insert(entries);
+        let count = self.counts.get_mut(line);
+        *count.unwrap_or_else(|| panic!("there is no line for {line}")) += 1;
     }
 
     pub fn save(&mut self, table: &[u8], room: usize, answer: &Answer) {
@@ -118,15 +103,13 @@ impl Counted {
             }
         };
         let needed = length(held.len());
-        let coded = held.iter().any(|entry| entry.key.code != NO_CODE);
-        self.count(&by_code(answer.number, coded));
         if let Err(fault) = saved::write(&held) {
             self.count(&not_written(fault));
             if room < needed {
                 self.count(FORM_FIRST);
             }
         } else if answer.number == 0 {
-            self.form(Age::Coded, held.len());
+            self.forms.insert(held.len());
             self.count(SAVED[usize::from(room > needed)]);
         } else {
             self.count(match needed - room {
@@ -152,7 +135,6 @@ impl Counted {
                     Ok(held) => RESTORED[usize::from(!reported(&held))],
                 });
                 self.marks(&read, form);
-                self.codes(&read, form);
                 self.former(&read, form);
             }
             Err(fault) => {
@@ -167,27 +149,12 @@ impl Counted {
 
     /// Of a form that was read as these entries.
     fn marks(&mut self, read: &[Entry], form: &[u8]) {
-        if age(form) == Some(Age::Unmarked) {
+        if is_old(form) {
+            self.old_forms.insert(read.len());
             self.count(MARKED[2]);
         } else if !read.is_empty() {
             let unsigned = |entry: &Entry| entry.config.mark == UNSIGNED;
             self.count(MARKED[usize::from(!read.iter().any(unsigned))]);
-        }
-    }
-
-    /// Of a form that was read as these entries.
-    fn codes(&mut self, read: &[Entry], form: &[u8]) {
-        let Some(age) = age(form) else {
-            return;
-        };
-        self.form(age, read.len());
-        let coded = |entry: &Entry| entry.key.code != NO_CODE;
-        if !read.iter().any(coded) {
-            return self.count(CODED[if age == Age::Coded { 2 } else { 3 }]);
-        }
-        self.count(CODED[0]);
-        if told(Age::Marked, read).len() < read.len() {
-            self.count(CODED[1]);
         }
     }
 
@@ -203,50 +170,31 @@ impl Counted {
 
     /// A line for each kind.
     pub fn list(&self) -> String {
-        let each = Age::ALL.map(|age| {
-            let (here, all) = (self.forms[&age].len(), entries_of(age).count());
-            let named = named(age);
-            format!("{here:9}  numbers of entries in forms {named}, of {all}\n")
-        });
-        self.lines.list() + &each.concat()
+        let line = |line: String| format!("{:9}  {line}\n", self.counts[&line]);
+        let lines: String = lines().into_iter().map(line).collect();
+        let (here, all) = (self.forms.len(), ENTRIES + 1);
+        let old = self.old_forms.len();
+        lines
+            + &format!("{here:9}  numbers of entries in forms, of {all}\n")
+            + &format!("{old:9}  numbers of entries in forms without marks, of {ENTRIES}\n")
     }
 
     /// What must come and never came.
     pub fn never(&self) -> Vec<String> {
-        let forms = Age::ALL.into_iter().flat_map(|age| {
-            let never = move |entries: &usize| !self.forms[&age].contains(entries);
-            let named = named(age);
-            entries_of(age)
-                .filter(never)
-                .map(move |entries| format!("a form of {entries} entries {named}"))
-        });
-        self.lines.never().into_iter().chain(forms).collect()
+        let lines = lines().into_iter().filter(|line| self.counts[line] == 0);
+        let forms = (0..=ENTRIES).filter(|entries| !self.forms.contains(entries));
+        let old = (1..=ENTRIES).filter(|entries| !self.old_forms.contains(entries));
+        lines
+            .chain(forms.map(|entries| format!("a form of {entries} entries")))
+            .chain(old.map(|entries| format!("a form of {entries} entries without marks")))
+            .collect()
     }
 }
 
-/// How many entries there may be in a form: one of none is the same in all.
-fn entries_of(age: Age) -> std::ops::RangeInclusive<usize> {
-    usize::from(age != Age::Coded)..=ENTRIES
-}
-
-fn named(age: Age) -> &'static str {
-    match age {
-        Age::Coded => "with codes",
-        Age::Marked => "without codes",
-        Age::Unmarked => "without marks",
-    }
-}
-
-/// The age of a form of these bytes, by their length and the entries that they tell.
-/// One of none is the same in all.
-pub fn age(form: &[u8]) -> Option<Age> {
-    Age::of(form.len(), usize::from(*form.first()?))
-}
-
-/// A save with this number, by whether a key has a code.
-fn by_code(number: u8, coded: bool) -> String {
-    let how = ["no key has a code", "a key has a code"][usize::from(coded)];
-    format!("save {number}: {how}")
+/// Whether bytes have the length of a form without marks, of the entries that
+/// they tell. A form of none is the same with and without.
+pub fn is_old(form: &[u8]) -> bool {
+    form.len() > 1 && form.len() == old_length(form[0].into())
 }
 
 /// Whether one of them has a last report.
@@ -257,29 +205,20 @@ pub fn reported(held: &[Entry]) -> bool {
 /// All lines, in the order in which they are printed.
 fn lines() -> Vec<String> {
     let owned = |lines: &[&str]| lines.iter().map(|&line| line.to_owned()).collect();
-    let coded = [0, 5, 13].map(|number| [false, true].map(|coded| by_code(number, coded)));
-    let lines: [Vec<String>; 15] = [
+    let lines: [Vec<String>; 13] = [
         owned(&SAVED),
         owned(&TOO_SHORT),
-        coded.concat(),
         Broken::ALL.map(no_table).to_vec(),
         owned(&[TABLE_FIRST]),
         UNWRITTEN.map(not_written).to_vec(),
         owned(&[FORM_FIRST]),
         owned(&RESTORED),
         owned(&MARKED),
-        owned(&CODED),
         owned(&FORMER),
         owned(&OTHER_LENGTH),
         UNREAD.into_iter().chain(UNWRITTEN).map(not_read).collect(),
         owned(&EMPTIED),
-        owned(&[
-            READ_BACK[0],
-            READ_BACK[1],
-            SAME_BYTES,
-            NEW_BYTES[0],
-            NEW_BYTES[1],
-        ]),
+        owned(&[READ_BACK[0], READ_BACK[1], SAME_BYTES, NEW_BYTES]),
     ];
     lines.concat()
 }
@@ -324,14 +263,28 @@ mod tests {
     #[test]
     fn what_never_came_is_named() {
         let mut counted = Counted::new();
-        assert_eq!(counted.never().len(), lines().len() + 3 * ENTRIES + 1);
+        assert_eq!(counted.never().len(), lines().len() + 2 * ENTRIES + 1);
         for line in lines() {
             counted.count(&line);
         }
-        assert_eq!(counted.never().len(), 3 * ENTRIES + 1);
-        for age in Age::ALL {
-            counted.forms.insert(age, entries_of(age).collect());
-        }
+        assert_eq!(counted.never().len(), 2 * ENTRIES + 1);
+        counted.forms = (0..=ENTRIES).collect();
+        assert_eq!(counted.never().len(), ENTRIES);
+        counted.old_forms = (1..=ENTRIES).collect();
         assert!(counted.never().is_empty());
+        let line = &lines()[7];
+        counted.counts.insert(line.clone(), 0);
+        assert_eq!(counted.never(), std::slice::from_ref(line));
+    }
+
+    #[test]
+    fn each_line_once() {
+        let all: BTreeSet<String> = lines().into_iter().collect();
+        assert_eq!(all.len(), lines().len());
+    }
+    #[test]
+    #[should_panic(expected = "no line")]
+    fn other_lines_are_not_counted() {
+        Counted::new().count("any");
     }
 }

@@ -1,15 +1,14 @@
 //! Servers that are wrong, each in its way.
 
 use ours::{Answer, Server};
-use reading::saved::{Age, Fault, length, read, read_within, save, write};
-use reading::store::NO_CODE;
+use reading::saved::{Fault, length, read, read_within, save, write};
 use reading::table::{
     ENTRIES, Entry, FORMER_ENTRIES, SIGNED, SIZE, SLOT, UNSIGNED, entries, is_mark, place, to_bytes,
 };
 
 use crate::call::{Call, Given, restores, saves};
-use crate::counted::age;
-use crate::made::{form, offsets, told};
+use crate::counted::is_old;
+use crate::made::Form;
 
 /// What it makes of a call.
 pub struct Fake(pub fn(&Call) -> Answer);
@@ -24,7 +23,7 @@ impl Server<Given> for Fake {
 type Wrong = fn(&Call) -> Answer;
 
 /// With the function in which each is wrong.
-pub const ALL: [(&str, Wrong); 22] = [
+pub const ALL: [(&str, Wrong); 18] = [
     ("restore", keeps_last_reports),
     ("restore", any_offsets),
     ("restore", leaves_the_old_table),
@@ -33,9 +32,7 @@ pub const ALL: [(&str, Wrong); 22] = [
     ("restore", one_more),
     ("restore", former_limit),
     ("restore", old_as_unsigned),
-    ("restore", no_unmarked_forms),
-    ("restore", no_uncoded_forms),
-    ("restore", restores_no_codes),
+    ("restore", no_old_forms),
     ("restore", keeps_any_mark),
     ("save", saves_what_is_cleared),
     ("save", saves_a_key_twice),
@@ -43,8 +40,6 @@ pub const ALL: [(&str, Wrong); 22] = [
     ("save", room_first),
     ("save", clears_reports),
     ("save", without_marks),
-    ("save", without_codes),
-    ("save", codes_repeat),
     ("save", former_slots),
     ("save", former_length),
 ];
@@ -85,10 +80,13 @@ fn any_offsets(call: &Call) -> Answer {
 fn put_right(saved: &[u8]) -> Vec<u8> {
     let mut form = saved.to_vec();
     let count = usize::from(form.first().copied().unwrap_or(0));
-    if let Some(age) = age(&form).filter(|_| count <= ENTRIES) {
-        for (place, offset) in offsets(age, count).into_iter().enumerate() {
-            let end = 1 + age.content() * (place + 1);
-            form[end - 2..end].copy_from_slice(&offset.to_le_bytes());
+    let which = match is_old(&form) {
+        true => Form::Unmarked,
+        false => Form::Marked,
+    };
+    if form.len() == 1 + (6 + which.body()) * count && count <= ENTRIES {
+        for (place, offset) in which.offsets(count).into_iter().enumerate() {
+            form[6 * place + 5..6 * place + 7].copy_from_slice(&offset.to_le_bytes());
         }
     }
     form
@@ -112,7 +110,7 @@ fn saves_with(call: &Call, fault: Fault) -> Answer {
         && write(&held) == Err(fault)
         && *room >= length(held.len())
     {
-        let reply = form(Age::Coded, &held);
+        let reply = Form::Marked.of(&held);
         let number = 0;
         return saves(table, &reading::commands::Answer { number, reply }, *room);
     }
@@ -178,8 +176,8 @@ fn one_more(call: &Call) -> Answer {
         Call::Restore { table, saved }
             if saved.len() == length(MORE) && usize::from(saved[0]) == MORE =>
         {
-            let (contents, bodies) = saved[1..].split_at(8 * MORE);
-            let [contents, bodies] = [&contents[..8 * ENTRIES], &bodies[..13 * ENTRIES]];
+            let (contents, bodies) = saved[1..].split_at(6 * MORE);
+            let [contents, bodies] = [&contents[..6 * ENTRIES], &bodies[..13 * ENTRIES]];
             let form = [&[ENTRIES as u8], contents, bodies].concat();
             restored(table, saved, read(&put_right(&form)).ok())
         }
@@ -242,7 +240,7 @@ fn old_as_unsigned(call: &Call) -> Answer {
         return call.document();
     };
     let mut entries = read(saved).ok();
-    if age(saved) == Some(Age::Unmarked) {
+    if is_old(saved) {
         for entry in entries.iter_mut().flatten() {
             entry.config.mark = UNSIGNED;
         }
@@ -250,44 +248,12 @@ fn old_as_unsigned(call: &Call) -> Answer {
     restored(table, saved, entries)
 }
 
-/// A restore that does not know the forms of this age.
-fn without_age(call: &Call, which: Age) -> Answer {
+/// A restore that knows only the form with marks.
+fn no_old_forms(call: &Call) -> Answer {
     match call {
-        Call::Restore { table, saved } if age(saved) == Some(which) => restored(table, saved, None),
+        Call::Restore { table, saved } if is_old(saved) => restored(table, saved, None),
         _ => call.document(),
     }
-}
-
-fn no_unmarked_forms(call: &Call) -> Answer {
-    without_age(call, Age::Unmarked)
-}
-
-fn no_uncoded_forms(call: &Call) -> Answer {
-    without_age(call, Age::Marked)
-}
-
-/// A restore whose keys have no codes.
-fn restores_no_codes(call: &Call) -> Answer {
-    let Call::Restore { table, saved } = call else {
-        return call.document();
-    };
-    let mut entries = read(saved).ok();
-    for entry in entries.iter_mut().flatten() {
-        entry.key.code = NO_CODE;
-    }
-    restored(table, saved, entries)
-}
-
-/// A save that does not save a cluster's attribute twice, whatever its codes are.
-fn codes_repeat(call: &Call) -> Answer {
-    if let Call::Save { table, room } = call
-        && let Ok(held) = entries(table)
-        && told(Age::Marked, &held).len() < held.len()
-    {
-        let (number, reply) = (13, Vec::new());
-        return saves(table, &reading::commands::Answer { number, reply }, *room);
-    }
-    call.document()
 }
 
 /// A restore that takes any byte for a mark, a 2 too, and keeps it.
@@ -298,8 +264,7 @@ fn keeps_any_mark(call: &Call) -> Answer {
     if read(saved) != Err(Fault::Mark) {
         return call.document();
     }
-    let age = age(saved).expect("its length is right");
-    let bodies = 1 + age.content() * usize::from(saved[0]);
+    let bodies = 1 + 6 * usize::from(saved[0]);
     let mut form = saved.clone();
     let mut marks = Vec::new();
     for mark in form[bodies..].iter_mut().skip(12).step_by(13) {
@@ -315,22 +280,14 @@ fn keeps_any_mark(call: &Call) -> Answer {
     restored(table, saved, entries)
 }
 
-/// A save that writes the form of this age.
-fn writes_age(call: &Call, age: Age) -> Answer {
+/// A save that writes the form that there was before.
+fn without_marks(call: &Call) -> Answer {
     if let Call::Save { table, room } = call
         && save(table, *room).number == 0
     {
-        let reply = form(age, &entries(table).expect("it is saved"));
+        let reply = Form::Unmarked.of(&entries(table).expect("it is saved"));
         let number = 0;
         return saves(table, &reading::commands::Answer { number, reply }, *room);
     }
     call.document()
-}
-
-fn without_marks(call: &Call) -> Answer {
-    writes_age(call, Age::Unmarked)
-}
-
-fn without_codes(call: &Call) -> Answer {
-    writes_age(call, Age::Marked)
 }

@@ -1,14 +1,14 @@
-//! Bytes that are restored: forms with codes, without codes, and without marks, with
-//! every damage of one byte, and any bytes that look like a form.
+//! Bytes that are restored: forms with marks and without, with every damage of one
+//! byte, and any bytes that look like a form.
 
 use cases::Random;
 use ours::Server;
-use reading::saved::{Age, length};
+use reading::saved::{length, old_length};
 use reading::table::{ENTRIES, Entry, FORMER_ENTRIES, SIZE, to_bytes};
 
 use crate::call::Given;
 use crate::compared::Compared;
-use crate::made::{self, Intervals};
+use crate::made::{self, Form, Intervals};
 use crate::round_trip::restore_and_save;
 
 /// The entries of the forms of which every damage is tried,
@@ -28,7 +28,7 @@ pub fn compare_damaged(
     let before = full(random);
     for (many, others) in tried() {
         let entries = made::table(random, many, Intervals::Sound);
-        for form in Age::ALL.map(|age| made::form(age, &entries)) {
+        for form in Form::BOTH.map(|form| form.of(&entries)) {
             restore_and_save(compared, &before, &form)?;
             for damaged in damaged(&form, others) {
                 restore_and_save(compared, &before, &damaged)?;
@@ -65,9 +65,9 @@ fn full(random: &mut Random) -> Vec<u8> {
 fn damaged(form: &[u8], others: Others) -> Vec<Vec<u8>> {
     let cut = (0..form.len()).map(|at| form[..at].to_vec());
     let byte_behind = (0..=0xff).map(|byte| [form, &[byte]].concat());
-    // 21 bytes are those of an entry more, 19 without a code, 18 without a mark; the
-    // last two are lost in a length of one byte or of two
-    let lengths = [2, 8, 13, 18, 19, 21, 42, length(ENTRIES), 1 << 8, 1 << 16];
+    // 19 bytes are those of an entry more, 18 without a mark; the last two are
+    // lost in a length of one byte or of two
+    let lengths = [2, 6, 12, 13, 18, 19, 38, length(ENTRIES), 1 << 8, 1 << 16];
     let behind = lengths
         .into_iter()
         .flat_map(|length| [0, 0xff, 0xa5].map(|byte| [form, &vec![byte; length]].concat()));
@@ -132,12 +132,12 @@ fn any(random: &mut Random) -> Vec<u8> {
     if many >= 1 && random.one_in(8) {
         entries[random.below(many)].config.mark = random.of(&[2, 3, 0x80, 0xff]);
     }
-    let age = random.of(&[Age::Coded, Age::Coded, Age::Marked, Age::Unmarked]);
-    let mut offsets = made::offsets(age, many);
+    let form = random.of(&[Form::Marked, Form::Marked, Form::Unmarked]);
+    let mut offsets = form.offsets(many);
     if many >= 1 && random.one_in(4) {
         misplace(random, &mut offsets);
     }
-    let mut form = made::laid_out(age, &entries, &offsets);
+    let mut form = form.laid_out(&entries, &offsets);
     if random.one_in(8) {
         let other = random.below(2 * form.len());
         form.resize(other, random.of(&[0, 0xff]));
@@ -171,7 +171,7 @@ fn misplace(random: &mut Random, offsets: &mut [u16]) {
         }
         3 => offsets[one] = random.short(),
         _ => {
-            let by = random.of(&[-1, 1, 6, 8, 12, 13, -9]);
+            let by = random.of(&[-1, 1, 6, 12, 13, -7]);
             for offset in offsets {
                 *offset = offset.wrapping_add_signed(by);
             }
@@ -181,7 +181,7 @@ fn misplace(random: &mut Random, offsets: &mut [u16]) {
 
 /// Bytes without any order, but for their length and, mostly, the count.
 fn noise(random: &mut Random, many: usize) -> Vec<u8> {
-    let length = random.of(&Age::ALL).length(many);
+    let length = random.of(&[length, old_length])(many);
     let mut bytes = random.bytes(length);
     if !random.one_in(4) {
         bytes[0] = many as u8;
@@ -200,7 +200,7 @@ mod tests {
         let random = &mut Random::new(1);
         for (many, others) in tried() {
             let entries = made::table(random, many, Intervals::Sound);
-            for form in Age::ALL.map(|age| made::form(age, &entries)) {
+            for form in Form::BOTH.map(|form| form.of(&entries)) {
                 let all = damaged(&form, others);
                 let each = 1 + if EVERY.contains(&many) { 255 } else { 3 };
                 assert_eq!(all.len(), each * form.len() + 256 + 30);

@@ -1,16 +1,13 @@
 //! Random tables, as direct calls make them, and forms that no table has.
 
 use cases::Random;
-use reading::saved::Age;
-use reading::store::NO_CODE;
 use reading::table::{
-    Config, ENTRIES, Entry, FORMER_ENTRIES, Key, SIGNED, UNSIGNED, clear, configure, place,
+    Config, ENTRIES, Entry, FORMER_ENTRIES, Key, SIGNED, UNSIGNED, clear, configure,
 };
 
-/// Some are others with their bytes, or two of cluster, code and attribute, exchanged:
-/// keys that are almost the same.
+/// Some are others with their bytes, or cluster and attribute, exchanged: keys
+/// that are almost the same.
 const CLUSTERS: [u16; 5] = [0xfc21, 0x0006, 0x21fc, 0x0000, 0xffff];
-const CODES: [u16; 6] = [NO_CODE, NO_CODE, NO_CODE, 6, 0x0600, 0xfc21];
 const ATTRIBUTES: [u16; 7] = [0, 6, 0x0600, 0x0500, 0xfc21, 0x21fc, 0xffff];
 
 const CHANGES: [u64; 5] = [0, 1, 50, 1 << 63, u64::MAX];
@@ -28,15 +25,10 @@ pub enum Intervals {
 /// until there are so many. compare/calls holds ours to the same calls.
 pub fn table(random: &mut Random, many: usize, intervals: Intervals) -> Vec<Entry> {
     let mut entries = Vec::new();
-    // a table without codes is one of a box that has none
-    let codes = !random.one_in(4);
     // a table without any last reports is one that was just read in
     let marks = !random.one_in(4);
     while entries.len() < many {
         let mut key = key(random);
-        if !codes {
-            key.code = NO_CODE;
-        }
         // there are not so many that are almost the same
         if entries.len() >= CLUSTERS.len() * ATTRIBUTES.len() / 2 {
             key.attribute = random.short();
@@ -72,12 +64,10 @@ pub fn key(random: &mut Random) -> Key {
     match random.below(4) {
         0 => Key {
             cluster: random.short(),
-            code: random.short(),
             attribute: random.short(),
         },
         _ => Key {
             cluster: random.of(&CLUSTERS),
-            code: random.of(&CODES),
             attribute: random.of(&ATTRIBUTES),
         },
     }
@@ -138,65 +128,63 @@ fn odd(random: &mut Random) -> (u16, u16) {
     }
 }
 
-/// The form of these entries, of this age, that follows on.
-pub fn form(age: Age, entries: &[Entry]) -> Vec<u8> {
-    laid_out(age, entries, &offsets(age, entries.len()))
+/// Whether a form has marks.
+#[derive(Debug, Clone, Copy, PartialEq, Eq)]
+pub enum Form {
+    Marked,
+    /// As it was written before request 6.
+    Unmarked,
 }
 
-/// What these entries would have for a form if any entries had one, with these
-/// offsets. An older one does not tell all of them.
-pub fn laid_out(age: Age, entries: &[Entry], offsets: &[u16]) -> Vec<u8> {
-    let mut form = vec![entries.len() as u8];
-    for (Entry { key, .. }, offset) in entries.iter().zip(offsets) {
-        form.extend(key.cluster.to_le_bytes());
-        form.extend(key.attribute.to_le_bytes());
-        if age == Age::Coded {
-            form.extend(key.code.to_le_bytes());
-        }
-        form.extend(offset.to_le_bytes());
-    }
-    for Entry { config, .. } in entries {
-        form.extend(config.minimum.to_le_bytes());
-        form.extend(config.maximum.to_le_bytes());
-        form.extend(config.change.to_le_bytes());
-        if age != Age::Unmarked {
-            form.push(config.mark);
-        }
-    }
-    form
-}
+impl Form {
+    pub const BOTH: [Self; 2] = [Self::Marked, Self::Unmarked];
 
-/// The offsets that follow on.
-pub fn offsets(age: Age, entries: usize) -> Vec<u16> {
-    let first = 1 + age.content() * entries;
-    (0..entries)
-        .map(|place| (first + age.body() * place) as u16)
-        .collect()
-}
-
-/// What a form of this age tells of these entries: without codes, of each key that is
-/// then the same the first, and signed where it has no marks.
-pub fn told(age: Age, entries: &[Entry]) -> Vec<Entry> {
-    let mut told: Vec<Entry> = Vec::new();
-    for entry in entries {
-        let mut entry = *entry;
-        if age != Age::Coded {
-            entry.key.code = NO_CODE;
-        }
-        if age == Age::Unmarked {
-            entry.config.mark = SIGNED;
-        }
-        if place(&told, entry.key).is_none() {
-            told.push(entry);
+    /// The bytes of a body.
+    pub fn body(self) -> usize {
+        match self {
+            Self::Marked => 13,
+            Self::Unmarked => 12,
         }
     }
-    told
+
+    /// The form of these entries that follows on.
+    pub fn of(self, entries: &[Entry]) -> Vec<u8> {
+        self.laid_out(entries, &self.offsets(entries.len()))
+    }
+
+    /// What these entries would have for a form if any entries had one, with
+    /// these offsets.
+    pub fn laid_out(self, entries: &[Entry], offsets: &[u16]) -> Vec<u8> {
+        let mut form = vec![entries.len() as u8];
+        for (entry, offset) in entries.iter().zip(offsets) {
+            form.extend(entry.key.cluster.to_le_bytes());
+            form.extend(entry.key.attribute.to_le_bytes());
+            form.extend(offset.to_le_bytes());
+        }
+        for Entry { config, .. } in entries {
+            form.extend(config.minimum.to_le_bytes());
+            form.extend(config.maximum.to_le_bytes());
+            form.extend(config.change.to_le_bytes());
+            if self == Self::Marked {
+                form.push(config.mark);
+            }
+        }
+        form
+    }
+
+    /// The offsets that follow on.
+    pub fn offsets(self, entries: usize) -> Vec<u16> {
+        let first = 1 + 6 * entries;
+        (0..entries)
+            .map(|place| (first + self.body() * place) as u16)
+            .collect()
+    }
 }
 
 #[cfg(test)]
 mod tests {
     use super::*;
-    use reading::saved::{read, write};
+    use reading::saved::{length, old_length, write};
 
     #[test]
     fn sound_tables_have_a_form() {
@@ -205,16 +193,9 @@ mod tests {
             for _ in 0..20 {
                 let entries = table(random, many, Intervals::Sound);
                 assert_eq!(entries.len(), many);
-                assert_eq!(write(&entries), Ok(form(Age::Coded, &entries)));
-                for age in Age::ALL {
-                    assert_eq!(form(age, &entries).len(), age.length(many));
-                    let told = told(age, &entries);
-                    let read = read(&form(age, &told)).expect("a form");
-                    let keys = |entries: &[Entry]| -> Vec<(Key, Config)> {
-                        entries.iter().map(|one| (one.key, one.config)).collect()
-                    };
-                    assert_eq!(keys(&read), keys(&told));
-                }
+                assert_eq!(write(&entries), Ok(Form::Marked.of(&entries)));
+                assert_eq!(Form::Marked.of(&entries).len(), length(many));
+                assert_eq!(Form::Unmarked.of(&entries).len(), old_length(many));
             }
         }
     }

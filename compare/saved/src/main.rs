@@ -1,4 +1,4 @@
-//! Saves and restores reporting tables (document 02, requests 5 to 8), by our
+//! Saves and restores reporting tables (document 02, requests 5, 6 and 7), by our
 //! archive and by the reading of the documents, and compares after every call the
 //! number, the length and all bytes of buffer and table. The tables are random, as
 //! direct calls make them, and damaged; the forms are theirs, every damage of one
@@ -7,8 +7,8 @@
 //!
 //! What is restored is held to be the table that was saved without its last
 //! reports, and what is saved again to be the same bytes. A form that was saved
-//! before there were codes, or marks, is held to be read without a code, and as
-//! signed, and to have codes 0000, and marks of 0, when it is saved again.
+//! before there were marks is held to be read as signed, and to have marks of 0
+//! when it is saved again.
 //!
 //! It prints how often each kind of call came, and fails at the first
 //! disagreement, with its bytes, and where a kind never came.
@@ -80,7 +80,7 @@ mod tests {
     use super::*;
     use crate::call::Call;
     use crate::fakes::{self, Fake};
-    use ours::{Answer, Broken, StandIn};
+    use ours::Answer;
 
     #[test]
     fn a_run_shows_enough() {
@@ -96,16 +96,6 @@ mod tests {
             let trouble = trouble.unwrap_or_else(|| panic!("fake {place} is not seen"));
             let said = format!("a disagreement on\n  {function} ");
             assert!(trouble.starts_with(&said), "fake {place}: {trouble}");
-        }
-    }
-
-    /// The stand-ins for the archive as well.
-    #[test]
-    fn wrong_archives_are_caught() {
-        for broken in [Broken::SavesNoCode, Broken::NoOlderForms] {
-            let trouble = all(&mut Driver::stand_in(StandIn(Some(broken)))).err();
-            let trouble = trouble.unwrap_or_else(|| panic!("{broken:?} is not seen"));
-            assert!(trouble.starts_with("a disagreement on\n  "), "{trouble}");
         }
     }
 

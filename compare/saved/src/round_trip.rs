@@ -3,13 +3,13 @@
 
 use cases::{Random, hex};
 use ours::Server;
-use reading::saved::{Age, length};
+use reading::saved::length;
 use reading::table::{ENTRIES, Entry, SIGNED, SIZE, to_bytes};
 
 use crate::call::Given;
 use crate::compared::Compared;
-use crate::counted::{NEW_BYTES, READ_BACK, SAME_BYTES, age, reported};
-use crate::made::{self, Intervals};
+use crate::counted::{NEW_BYTES, READ_BACK, SAME_BYTES, is_old, reported};
+use crate::made::{self, Form, Intervals};
 
 const TABLES: usize = 5000;
 
@@ -51,24 +51,24 @@ fn there_and_back(
     as_before(compared, random, entries)
 }
 
-/// A form that these entries had before there were codes, or marks, is read without,
-/// and as signed.
+/// The form that these entries had before there were marks is read as signed.
 fn as_before(
     compared: &mut Compared<'_, impl Server<Given>>,
     random: &mut Random,
     entries: &[Entry],
 ) -> Result<(), String> {
-    for age in [Age::Marked, Age::Unmarked] {
-        let told = made::told(age, entries);
-        let form = made::form(age, &told);
-        for before in [other(random), random.bytes(SIZE)] {
-            let left = restore_and_save(compared, &before, &form)?;
-            if left != Some(unreported(&told)) {
-                return Err(format!("it is not read as what it tells: {}", hex(&form)));
-            }
-        }
-        compared.restore(&random.bytes(SIZE - 1), &form)?;
+    let form = Form::Unmarked.of(entries);
+    let mut signed = entries.to_vec();
+    for entry in &mut signed {
+        entry.config.mark = SIGNED;
     }
+    for before in [other(random), random.bytes(SIZE)] {
+        let left = restore_and_save(compared, &before, &form)?;
+        if left != Some(unreported(&signed)) {
+            return Err(format!("it is not read as signed: {}", hex(&form)));
+        }
+    }
+    compared.restore(&random.bytes(SIZE - 1), &form)?;
     Ok(())
 }
 
@@ -91,8 +91,8 @@ fn other(random: &mut Random) -> Vec<u8> {
 }
 
 /// Restores these bytes and, where they are a saved form, saves the table again:
-/// the same bytes, or of an older form the one with codes 0000, and marks of 0 where
-/// it had none. Gives that table.
+/// the same bytes, or of a form without marks the one with marks of 0. Gives that
+/// table.
 pub fn restore_and_save(
     compared: &mut Compared<'_, impl Server<Given>>,
     before: &[u8],
@@ -102,10 +102,10 @@ pub fn restore_and_save(
     if number != 0 {
         return Ok(None);
     }
-    let (expected, line) = match age(form) {
-        Some(Age::Marked) => (renewed(form, Age::Marked), NEW_BYTES[0]),
-        Some(Age::Unmarked) => (renewed(form, Age::Unmarked), NEW_BYTES[1]),
-        Some(Age::Coded) | None => (form.to_vec(), SAME_BYTES),
+    let (expected, line) = if is_old(form) {
+        (marked(form), NEW_BYTES)
+    } else {
+        (form.to_vec(), SAME_BYTES)
     };
     let again = compared.save(&table, expected.len())?;
     if again != Some(expected) {
@@ -115,21 +115,18 @@ pub fn restore_and_save(
     Ok(Some(table))
 }
 
-/// An older form, with a code of 0000 behind every attribute, and a 0 behind every
-/// body that has no mark.
-fn renewed(form: &[u8], age: Age) -> Vec<u8> {
+/// A form without marks, with a 0 behind every body.
+fn marked(form: &[u8]) -> Vec<u8> {
     let count = usize::from(form[0]);
-    let (contents, bodies) = form[1..].split_at(age.content() * count);
-    let mut renewed = vec![form[0]];
-    let offsets = made::offsets(Age::Coded, count);
-    for (content, offset) in contents.chunks(age.content()).zip(offsets) {
-        renewed.extend(&content[..4]);
-        renewed.extend([0, 0]);
-        renewed.extend(offset.to_le_bytes());
+    let (contents, bodies) = form[1..].split_at(6 * count);
+    let mut marked = vec![form[0]];
+    for (content, offset) in contents.chunks(6).zip(Form::Marked.offsets(count)) {
+        marked.extend(&content[..4]);
+        marked.extend(offset.to_le_bytes());
     }
-    for body in bodies.chunks(age.body()) {
-        renewed.extend(body);
-        renewed.resize(renewed.len() + Age::Coded.body() - age.body(), SIGNED);
+    for body in bodies.chunks(Form::Unmarked.body()) {
+        marked.extend(body);
+        marked.push(SIGNED);
     }
-    renewed
+    marked
 }

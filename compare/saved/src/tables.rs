@@ -4,16 +4,13 @@
 use cases::Random;
 use ours::Server;
 use reading::saved::length;
-use reading::table::{ENTRIES, FLAG, LAST, MARK, SIZE, SLOT, to_bytes};
+use reading::table::{ENTRIES, SIZE, SLOT, to_bytes};
 
 use crate::call::Given;
 use crate::compared::Compared;
 use crate::made::{self, Intervals};
 
 const TABLES: usize = 5000;
-
-/// The bytes of a key, at the start of a slot.
-const KEY: usize = 6;
 
 pub fn compare(
     compared: &mut Compared<'_, impl Server<Given>>,
@@ -66,8 +63,8 @@ fn damaged(table: &[u8], random: &mut Random) -> Vec<Vec<u8>> {
     if let Some(twice) = twice(table, random) {
         // no table at all, whatever is twice in it
         let [mut mark, mut flag] = [twice.clone(), twice.clone()];
-        mark[1 + MARK] = random.of(&[2, 0xff]);
-        flag[1 + FLAG] = random.of(&[2, 0xff]);
+        mark[1 + 16] = random.of(&[2, 0xff]);
+        flag[1 + 17] = random.of(&[2, 0xff]);
         all.extend([twice, mark, flag]);
     }
     for _ in 0..3 {
@@ -93,7 +90,7 @@ fn twice(table: &[u8], random: &mut Random) -> Option<Vec<u8>> {
     let to = (from + 1 + random.below(count - 1)) % count;
     let [from, to] = [from, to].map(|slot| 1 + SLOT * slot);
     let mut twice = table.to_vec();
-    twice.copy_within(from..from + KEY, to);
+    twice.copy_within(from..from + 4, to);
     Some(twice)
 }
 
@@ -104,10 +101,10 @@ fn place(table: &[u8], random: &mut Random) -> usize {
     let slot = 1 + SLOT * random.below(count.max(1));
     match random.below(7) {
         0 => 0,
-        1 => slot + KEY + random.below(4),
-        2 => slot + MARK,
-        3 => slot + FLAG,
-        4 => slot + LAST + random.below(12),
+        1 => slot + 4 + random.below(4),
+        2 => slot + 16,
+        3 => slot + 17,
+        4 => slot + 18 + random.below(12),
         5 if count < ENTRIES => 1 + SLOT * count + random.below(SLOT),
         _ => random.below(SIZE),
     }

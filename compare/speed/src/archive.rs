@@ -7,7 +7,6 @@ unsafe extern "C" {
     fn hd_handle_request(
         store: *mut u8,
         store_len: usize,
-        form: u8,
         table: *mut u8,
         table_len: usize,
         cluster: u16,
@@ -22,8 +21,6 @@ unsafe extern "C" {
     fn hd_report(
         store: *const u8,
         store_len: usize,
-        form: u8,
-        code: u16,
         sequence: u8,
         ids: *const u16,
         ids_len: usize,
@@ -36,7 +33,6 @@ unsafe extern "C" {
         table: *const u8,
         table_len: usize,
         cluster: u16,
-        code: u16,
         attribute: u16,
         now: u32,
         value: i64,
@@ -47,16 +43,11 @@ unsafe extern "C" {
         table: *mut u8,
         table_len: usize,
         cluster: u16,
-        code: u16,
         attribute: u16,
         now: u32,
         value: i64,
     ) -> u8;
 }
-
-/// The stores here are of the first form, and so without codes.
-const FORM: u8 = 1;
-const NO_CODE: u16 = 0;
 
 /// The number, and the reply's length. The request is unicast.
 pub fn handle_request(
@@ -73,7 +64,6 @@ pub fn handle_request(
         hd_handle_request(
             store.as_mut_ptr(),
             store.len(),
-            FORM,
             table.as_mut_ptr(),
             table.len(),
             cluster,
@@ -96,8 +86,6 @@ pub fn report(store: &[u8], sequence: u8, ids: &[u16], frame: &mut [u8]) -> (u8,
         hd_report(
             store.as_ptr(),
             store.len(),
-            FORM,
-            NO_CODE,
             sequence,
             ids.as_ptr(),
             ids.len(),
@@ -118,7 +106,6 @@ pub fn ask(table: &[u8], cluster: u16, attribute: u16, now: u32, value: i64) -> 
             table.as_ptr(),
             table.len(),
             cluster,
-            NO_CODE,
             attribute,
             now,
             value,
@@ -136,7 +123,6 @@ pub fn mark(table: &mut [u8], cluster: u16, attribute: u16, now: u32, value: i64
             table.as_mut_ptr(),
             table.len(),
             cluster,
-            NO_CODE,
             attribute,
             now,
             value,

@@ -23,10 +23,7 @@ fn request(command: u8, body: &[u8]) -> Request {
 }
 
 pub fn read(some: &[Attribute]) -> Request {
-    let body: Vec<u8> = some
-        .iter()
-        .flat_map(|one| one.name.id.to_le_bytes())
-        .collect();
+    let body: Vec<u8> = some.iter().flat_map(|one| one.id.to_le_bytes()).collect();
     request(0x00, &body)
 }
 
@@ -35,7 +32,7 @@ pub fn write(store: &[u8], some: &[Attribute]) -> Request {
     let mut body = Vec::new();
     for one in some {
         let value = one.value(store).expect("the store is sound");
-        body.extend(one.name.id.to_le_bytes());
+        body.extend(one.id.to_le_bytes());
         body.push(one.type_code);
         body.extend(another(one, value));
     }
@@ -46,7 +43,7 @@ pub fn configure(some: &[Attribute]) -> Request {
     let mut body = Vec::new();
     for one in some {
         body.push(0x00);
-        body.extend(one.name.id.to_le_bytes());
+        body.extend(one.id.to_le_bytes());
         body.push(one.type_code);
         body.extend(MINIMUM.to_le_bytes());
         body.extend(MAXIMUM.to_le_bytes());
@@ -57,7 +54,7 @@ pub fn configure(some: &[Attribute]) -> Request {
 
 pub fn read_configuration(some: &[Attribute]) -> Request {
     let record = |one: &Attribute| {
-        let [low, high] = one.name.id.to_le_bytes();
+        let [low, high] = one.id.to_le_bytes();
         [0x00, low, high]
     };
     let body: Vec<u8> = some.iter().flat_map(record).collect();

@@ -1,7 +1,7 @@
 //! All rows.
 
 use reading::change_width;
-use reading::store::{Attribute, Form, attributes};
+use reading::store::{Attribute, attributes};
 use reading::table::{Config, ENTRIES, Entry, FORMER_ENTRIES, Key, SIGNED, UNSIGNED};
 
 use crate::calls::{Ask, Calls, Report, Request};
@@ -31,12 +31,12 @@ pub fn named(word: &str) -> Option<Row> {
 }
 
 fn over_store(over: Over, store: &[u8]) -> Vec<Row> {
-    let all = attributes(store, Form::FIRST).expect("the store is sound");
+    let all = attributes(store).expect("the store is sound");
     let middle = all[all.len() / 2];
     let reportable = ten(&all, REPORTABLE);
     let reports = vec![Report {
         sequence: SEQUENCE,
-        ids: reportable.iter().map(|one| one.name.id).collect(),
+        ids: reportable.iter().map(|one| one.id).collect(),
     }];
     let row = |name, table: &[Entry], calls| Row {
         over,
@@ -74,7 +74,7 @@ fn entry(attribute: &Attribute) -> Entry {
     let is_discrete = change_width(attribute.type_code) == 0;
     let is_int = matches!(attribute.type_code, 0x28..=0x2f);
     Entry {
-        key: key(attribute.name.id),
+        key: key(attribute.id),
         config: Config {
             minimum: MINIMUM,
             maximum: MAXIMUM,
@@ -86,12 +86,15 @@ fn entry(attribute: &Attribute) -> Entry {
 }
 
 fn key(attribute: u16) -> Key {
-    Key::plain(CLUSTER, attribute)
+    Key {
+        cluster: CLUSTER,
+        attribute,
+    }
 }
 
 /// Two requests over a full table, in which what they name stands among others.
 fn requests_over_full(store: &[u8]) -> Vec<Row> {
-    let all = attributes(store, Form::FIRST).expect("the store is sound");
+    let all = attributes(store).expect("the store is sound");
     let reportable = ten(&all, REPORTABLE);
     let table = among_others(&configured(&reportable));
     let row = |name, request| Row {

@@ -83,12 +83,12 @@ pub fn ten(attributes: &[Attribute], access: u8) -> Vec<Attribute> {
 
 #[cfg(test)]
 mod tests {
-    use reading::store::{Form, attributes, is_store};
+    use reading::store::{attributes, is_store};
 
     use super::*;
 
     fn places(store: &[u8], access: u8) -> Vec<usize> {
-        let all = attributes(store, Form::FIRST).expect("it is a store");
+        let all = attributes(store).expect("it is a store");
         let place = |one: &Attribute| all.iter().position(|other| other == one);
         ten(&all, access).iter().filter_map(place).collect()
     }
@@ -96,11 +96,8 @@ mod tests {
     #[test]
     fn both_are_stores() {
         for (store, many) in [(four(), 4), (sixty_four(), 64)] {
-            assert!(is_store(&store, Form::FIRST));
-            assert_eq!(
-                attributes(&store, Form::FIRST).map(|all| all.len()),
-                Some(many)
-            );
+            assert!(is_store(&store));
+            assert_eq!(attributes(&store).map(|all| all.len()), Some(many));
         }
     }
 
@@ -118,7 +115,7 @@ mod tests {
     #[test]
     fn a_written_value_is_another_and_has_room() {
         let store = sixty_four();
-        for attribute in attributes(&store, Form::FIRST).expect("it is a store") {
+        for attribute in attributes(&store).expect("it is a store") {
             let value = attribute.value(&store).expect("it has one");
             let written = another(&attribute, value);
             assert_ne!(written, value);

@@ -8,7 +8,6 @@ use reading::store::attributes;
 use crate::join::{self, Split};
 use crate::kinds::{self, lines};
 use crate::order::{self, Pair};
-use crate::sent::Before;
 
 #[derive(Debug, PartialEq, Eq)]
 pub struct Counted {
@@ -40,7 +39,7 @@ impl Counted {
         match verdict {
             join::Verdict::Held => {
                 self.joined += 1;
-                self.changed(&split.before, &ran.joined.store);
+                self.changed(&split.before.store, &ran.joined.store);
                 self.count_all(kinds::joined(split, ran));
             }
             join::Verdict::Outside(outside, fails) => {
@@ -68,9 +67,8 @@ impl Counted {
     }
 
     /// Counts the types of the attributes whose bodies differ.
-    fn changed(&mut self, before: &Before, after: &[u8]) {
-        let (before, form) = (&before.store, before.form);
-        let attributes = attributes(before, form).unwrap_or_default();
+    fn changed(&mut self, before: &[u8], after: &[u8]) {
+        let attributes = attributes(before).unwrap_or_default();
         let other = attributes.iter().filter(|entry| {
             let body = entry.offset..entry.offset + entry.room;
             before.get(body.clone()) != after.get(body)
@@ -113,8 +111,6 @@ fn types() -> BTreeSet<u8> {
 #[cfg(test)]
 mod tests {
     use cases::stores::bench;
-    use reading::store::Form;
-    use reading::table::to_bytes;
 
     use super::*;
 
@@ -138,18 +134,13 @@ mod tests {
     #[test]
     fn changed_values_by_their_types() {
         let mut counted = Counted::new();
-        let before = Before {
-            store: bench(),
-            form: Form::FIRST,
-            table: to_bytes(&[]),
-            cluster: 0xfc21,
-        };
-        counted.changed(&before, &before.store);
+        let store = bench();
+        counted.changed(&store, &store);
         assert!(counted.types.is_empty());
-        let mut other = before.store.clone();
+        let mut other = store.clone();
         other[0x28] = 9;
         other[0x2c] = b'U';
-        counted.changed(&before, &other);
+        counted.changed(&store, &other);
         assert_eq!(counted.types, BTreeSet::from([0x20, 0x42]));
     }
 

@@ -85,8 +85,8 @@ pub fn turns_the_table(call: &Case) -> Seen {
 pub fn leaves_a_mark(call: &Case) -> Seen {
     let mut seen = call.document();
     if seen.store != call.store {
-        let attributes = attributes(&call.store, call.form).unwrap_or_default();
-        seen.store[attributes[0].offset] = call.request.len().to_le_bytes()[0];
+        let first = usize::from(u16::from_le_bytes([seen.store[8], seen.store[9]]));
+        seen.store[first] = call.request.len().to_le_bytes()[0];
     }
     seen
 }
@@ -94,7 +94,7 @@ pub fn leaves_a_mark(call: &Case) -> Seen {
 /// Does nothing to a store whose first attribute begins with an odd byte.
 pub fn looks_at_another(call: &Case) -> Seen {
     let mut seen = call.document();
-    let attributes = attributes(&call.store, call.form).unwrap_or_default();
+    let attributes = attributes(&call.store).unwrap_or_default();
     let first = attributes
         .first()
         .and_then(|first| call.store.get(first.offset));

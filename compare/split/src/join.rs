@@ -49,8 +49,6 @@ pub fn run(server: &mut impl Server, splits: &[Split]) -> Result<Vec<Ran>, Strin
 #[derive(Debug, Clone, Copy, PartialEq, Eq)]
 pub enum Outside {
     Undivided,
-    /// One of the calls has another code than the others.
-    OtherCode,
     Cut,
     WithoutExtent,
     /// The joined call is refused by 5.
@@ -85,9 +83,6 @@ fn outside(split: &Split, ran: &Ran) -> Option<Outside> {
     let [a, b, joined] = &split.ways;
     if joined.command() == 0x03 {
         return Some(Outside::Undivided);
-    }
-    if a.code() != joined.code() || b.code() != joined.code() {
-        return Some(Outside::OtherCode);
     }
     match read(a.command(), &split.lists[0]).end {
         End::Cut => return Some(Outside::Cut),

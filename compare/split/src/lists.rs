@@ -2,7 +2,6 @@
 
 use cases::{End, records};
 use reading::change_width;
-use reading::store::{Form, NO_CODE, Scope};
 
 /// A list, as far as it can be read.
 pub struct Read {
@@ -19,14 +18,9 @@ pub fn read(command: u8, list: &[u8]) -> Read {
     }
 }
 
-/// The store is for statuses alone: there is none.
-const STATUSES_ALONE: Scope = Scope {
-    form: Form::FIRST,
-    code: NO_CODE,
-};
-
 fn writes(list: &[u8]) -> Read {
-    let (records, end) = records(&[], STATUSES_ALONE, list);
+    // the store is for statuses alone
+    let (records, end) = records(&[], list);
     let ends = records
         .iter()
         .map(|record| (record.at + 2 + record.value.len(), record.id));
@@ -82,7 +76,7 @@ impl Read {
     }
 }
 
-/// Whether two lists of writes name an id in common: of one code an attribute.
+/// Whether two lists of writes name an attribute in common.
 pub fn in_common(one: &[u8], other: &[u8]) -> bool {
     let named = read(0x02, one).ids();
     read(0x02, other).ids().iter().any(|id| named.contains(id))

@@ -2,10 +2,10 @@
 
 mod rooms;
 
-use cases::given::{Codes, stores, tables};
-use cases::requests::{self, CONTROLS, header, request};
+use cases::given::{stores, tables};
+use cases::requests::{CONTROLS, header, request};
 use cases::{Random, body_of};
-use reading::store::{Attribute, Form, NO_CODE, Scope, attributes, cluster_of};
+use reading::store::{Attribute, attributes, cluster_of};
 
 use crate::join::Split;
 use crate::lists::{read, without};
@@ -28,14 +28,9 @@ pub fn split(random: &mut Random) -> Split {
 /// sent.
 pub fn split_by(random: &mut Random, commands: [u8; 3]) -> Split {
     let before = before(random);
-    let code = code(random, &before);
-    let lists = halves(random, &before, code, commands[0]);
-    let rooms = rooms(random, &before, code, commands, &lists);
-    let mut ways = std::array::from_fn(|way| sent(random, commands[way], code, rooms[way]));
-    if random.one_in(24) {
-        let (way, other) = (random.below(3), another(random, &before));
-        ways[way] = sent(random, commands[way], other, rooms[way]);
-    }
+    let lists = halves(random, &before, commands[0]);
+    let rooms = rooms(random, &before, commands, &lists);
+    let ways = std::array::from_fn(|way| sent(random, commands[way], rooms[way]));
     Split {
         before,
         lists,
@@ -47,39 +42,27 @@ pub fn split_by(random: &mut Random, commands: [u8; 3]) -> Split {
 pub fn pair(random: &mut Random) -> Pair {
     let commands = writes(random);
     let before = before(random);
-    let codes = codes(random, &before);
-    let lists = [0, 1].map(|list| list_over(random, &before, codes[list], commands[list]));
-    pair_of(random, before, codes, commands, lists)
+    let lists = commands.map(|command| list_over(random, &before, command));
+    pair_of(random, before, commands, lists)
 }
 
 /// Two lists of writes that name no attribute in common.
 pub fn disjoint(random: &mut Random) -> Pair {
     let commands = writes(random);
     let before = before(random);
-    let codes = codes(random, &before);
-    if codes[0] != codes[1] {
-        let lists = [0, 1].map(|list| list_over(random, &before, codes[list], commands[list]));
-        return pair_of(random, before, codes, commands, lists);
-    }
-    let all = before.of_code(codes[0]);
+    let all = attributes(&before.store).unwrap_or_default();
     let (mine, yours): (Vec<_>, Vec<_>) = all.into_iter().partition(|_| random.one_in(2));
     let one = list(random, &mine, commands[0]);
     let other = list(random, &yours, commands[1]);
     // either may name others than the store's
     let other = without(&other, &read(commands[0], &one).ids());
-    pair_of(random, before, codes, commands, [one, other])
+    pair_of(random, before, commands, [one, other])
 }
 
-fn pair_of(
-    random: &mut Random,
-    before: Before,
-    codes: [u16; 2],
-    commands: [u8; 2],
-    lists: [Vec<u8>; 2],
-) -> Pair {
+fn pair_of(random: &mut Random, before: Before, commands: [u8; 2], lists: [Vec<u8>; 2]) -> Pair {
     let ways = std::array::from_fn(|list| {
-        let room = room(random, &before, codes[list], commands[list], &lists[list]);
-        sent(random, commands[list], codes[list], room)
+        let room = room(random, &before, commands[list], &lists[list]);
+        sent(random, commands[list], room)
     });
     Pair {
         before,
@@ -94,80 +77,44 @@ fn writes(random: &mut Random) -> [u8; 2] {
 
 /// A store and a table, sound or damaged, and mostly the store's own cluster.
 pub fn before(random: &mut Random) -> Before {
-    let (store, form) = store(random);
+    let store = store(random);
     let own = cluster_of(&store).unwrap_or(0);
-    let attributes = attributes(&store, form).unwrap_or_default();
-    let table = tables::any(random, own, &attributes, Codes::Some);
+    let attributes = attributes(&store).unwrap_or_default();
+    let table = tables::any(random, own, &attributes);
     let cluster = match random.below(40) {
         0 => own.wrapping_add(1),
         _ => own,
     };
     Before {
         store,
-        form,
         table,
         cluster,
     }
 }
 
-impl Before {
-    /// The attributes of a code, or all where it has none.
-    fn of_code(&self, code: u16) -> Vec<Attribute> {
-        let form = self.form;
-        let own = Scope { form, code }.attributes(&self.store);
-        match &own[..] {
-            [] => attributes(&self.store, form).unwrap_or_default(),
-            _ => own,
-        }
-    }
-}
-
-/// A code for a list: one of the store's, none, or another.
-pub fn code(random: &mut Random, before: &Before) -> u16 {
-    let attributes = attributes(&before.store, before.form).unwrap_or_default();
-    match &attributes[..] {
-        some @ [_, ..] if !random.one_in(12) => random.of(some).name.code,
-        _ => another(random, before),
-    }
-}
-
-/// One that attributes have in other stores.
-fn another(random: &mut Random, before: &Before) -> u16 {
-    let attributes = attributes(&before.store, before.form).unwrap_or_default();
-    requests::code(random, &attributes)
-}
-
-/// Of a pair, mostly the same.
-fn codes(random: &mut Random, before: &Before) -> [u16; 2] {
-    let one = code(random, before);
-    match random.below(3) {
-        0 => [one, code(random, before)],
-        _ => [one; 2],
-    }
-}
-
 /// Mostly of two attributes at least.
-fn store(random: &mut Random) -> (Vec<u8>, Form) {
+fn store(random: &mut Random) -> Vec<u8> {
     let fewest = random.of(&[0, 2, 2, 2]);
     loop {
-        let (store, form) = stores::any(random);
-        if attributes(&store, form).is_none_or(|attributes| attributes.len() >= fewest) {
-            return (store, form);
+        let store = stores::any(random);
+        if attributes(&store).is_none_or(|attributes| attributes.len() >= fewest) {
+            return store;
         }
     }
 }
 
-/// A list for the store's attributes of a code, and for others.
-pub fn list_over(random: &mut Random, before: &Before, code: u16, command: u8) -> Vec<u8> {
-    list(random, &before.of_code(code), command)
+/// A list for the store's attributes, and for others.
+pub fn list_over(random: &mut Random, before: &Before, command: u8) -> Vec<u8> {
+    let attributes = attributes(&before.store).unwrap_or_default();
+    list(random, &attributes, command)
 }
 
 /// Cut mostly between two records, at times anywhere; or two lists that were
 /// made apart, of which the first may have a damaged end.
-fn halves(random: &mut Random, before: &Before, code: u16, command: u8) -> [Vec<u8>; 2] {
-    let whole = list_over(random, before, code, command);
+fn halves(random: &mut Random, before: &Before, command: u8) -> [Vec<u8>; 2] {
+    let whole = list_over(random, before, command);
     let at = match random.below(8) {
-        0 => return [whole, list_over(random, before, code, command)],
+        0 => return [whole, list_over(random, before, command)],
         1 => random.below(whole.len() + 1),
         _ => random.of(&read(command, &whole).places()),
     };
@@ -210,11 +157,11 @@ fn records(random: &mut Random, attributes: &[Attribute], command: u8) -> Vec<u8
     body.to_vec()
 }
 
-/// With any header that says the command and the code.
-pub fn sent(random: &mut Random, command: u8, code: u16, room: usize) -> Way {
-    let control = random.of(&CONTROLS) | if code == NO_CODE { 0 } else { 0x04 };
+/// With any header that says the command.
+pub fn sent(random: &mut Random, command: u8, room: usize) -> Way {
+    let control = random.of(&CONTROLS);
     Way {
-        head: header(random, control, code, command),
+        head: header(random, control, command),
         unicast: random.of(&[0, 1, 1, 0x80]),
         room,
     }
@@ -262,9 +209,8 @@ mod tests {
         let random = &mut Random::new(0x6469_736a);
         let mut long = 0;
         for _ in 0..2000 {
-            let pair = disjoint(random);
-            let [one, other] = &pair.lists;
-            assert!(!pair.one_code() || !in_common(one, other));
+            let [one, other] = disjoint(random).lists;
+            assert!(!in_common(&one, &other));
             long += usize::from(!one.is_empty() && !other.is_empty());
         }
         assert!(long > 1000, "{long}");

@@ -12,11 +12,6 @@ use crate::shorten::shorten;
 pub type Pair = Lists<2>;
 
 impl Pair {
-    /// Whether both lists name attributes by one code.
-    pub fn one_code(&self) -> bool {
-        self.ways[0].code() == self.ways[1].code()
-    }
-
     fn first(&self, list: usize) -> Case {
         self.ways[list].case(&self.before, &self.lists[list])
     }
@@ -62,7 +57,7 @@ pub enum Verdict {
 pub fn verdict(pair: &Pair, ran: &Ran) -> Verdict {
     let [one, other] = &pair.lists;
     let same = same(&ran.second[0], &ran.second[1]);
-    if pair.one_code() && in_common(one, other) {
+    if in_common(one, other) {
         Verdict::InCommon(!same)
     } else if same {
         Verdict::Held

@@ -6,7 +6,7 @@ use crate::counted::Counted;
 use crate::join::{Split, hold};
 use crate::kinds::placed;
 use crate::lists::read;
-use crate::made::{AMPLE, before, code, cut, list_over, needed, sent};
+use crate::made::{AMPLE, before, cut, list_over, needed, sent};
 use crate::sent::{Before, Way};
 use crate::server::Server;
 
@@ -46,12 +46,12 @@ pub fn hold_every(
 /// A list at every place, once with ample room and once with just enough for
 /// the joined list's reply.
 fn every(random: &mut Random, joined: u8) -> Vec<Split> {
-    let (before, code, list) = changing(random, joined);
+    let (before, list) = changing(random, joined);
     let parts = match joined {
         0x06 => [0x06; 2],
         _ => [0x02, 0x05],
     };
-    let rooms = [AMPLE, needed(&before, code, joined, &list)];
+    let rooms = [AMPLE, needed(&before, joined, &list)];
     let mut splits = Vec::new();
     for at in 0..=list.len() {
         for room in rooms {
@@ -59,25 +59,24 @@ fn every(random: &mut Random, joined: u8) -> Vec<Split> {
             splits.push(Split {
                 before: before.clone(),
                 lists: cut(&list, at),
-                ways: commands.map(|command| sent(random, command, code, room)),
+                ways: commands.map(|command| sent(random, command, room)),
             });
         }
     }
     splits
 }
 
-/// A list whose records can all be read, its code, and what it changes.
-fn changing(random: &mut Random, command: u8) -> (Before, u16, Vec<u8>) {
+/// A list whose records can all be read, and what it changes.
+fn changing(random: &mut Random, command: u8) -> (Before, Vec<u8>) {
     loop {
         let before = before(random);
-        let code = code(random, &before);
-        let mut list = list_over(random, &before, code, command);
+        let mut list = list_over(random, &before, command);
         let read = read(command, &list);
         list.truncate(read.length());
-        let call = Way::plain(command, code, AMPLE).case(&before, &list);
+        let call = Way::plain(command, AMPLE).case(&before, &list);
         if read.records.len() >= FEWEST && list.len() <= LONGEST && before.changed(&call.document())
         {
-            return (before, code, list);
+            return (before, list);
         }
     }
 }

@@ -1,15 +1,11 @@
 //! Lists, what they meet, and how they are sent.
 
-use cases::kinds::head;
 use cases::{Case, Seen};
-use reading::header;
-use reading::store::{Form, NO_CODE};
 
 /// What a call meets.
 #[derive(Debug, Clone, PartialEq, Eq)]
 pub struct Before {
     pub store: Vec<u8>,
-    pub form: Form,
     pub table: Vec<u8>,
     pub cluster: u16,
 }
@@ -19,7 +15,6 @@ impl Before {
     pub fn after(&self, seen: &Seen) -> Self {
         Self {
             store: seen.store.clone(),
-            form: self.form,
             table: seen.table.clone(),
             cluster: self.cluster,
         }
@@ -46,28 +41,13 @@ pub struct Way {
 }
 
 impl Way {
-    /// With nothing in the header but the command, and a code where there is one.
-    pub fn plain(command: u8, code: u16, room: usize) -> Self {
-        let [low, high] = code.to_le_bytes();
-        let head = match code {
-            NO_CODE => vec![0x00, 0x00, command],
-            _ => vec![0x04, low, high, 0x00, command],
-        };
+    /// With nothing in the header but the command.
+    pub fn plain(command: u8, room: usize) -> Self {
         Self {
-            head,
+            head: vec![0x00, 0x00, command],
             unicast: 1,
             room,
         }
-    }
-
-    /// The code by which its list names attributes.
-    pub fn code(&self) -> u16 {
-        header(&self.head).map_or(NO_CODE, |header| header.code())
-    }
-
-    /// The bytes of a reply's header.
-    pub fn reply_head(&self) -> usize {
-        head(self.code())
     }
 
     pub fn command(&self) -> u8 {
@@ -78,7 +58,6 @@ impl Way {
     pub fn case(&self, before: &Before, list: &[u8]) -> Case {
         Case {
             store: before.store.clone(),
-            form: before.form,
             table: before.table.clone(),
             cluster: before.cluster,
             unicast: self.unicast,

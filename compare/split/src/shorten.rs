@@ -31,11 +31,10 @@ fn shorter<const N: usize>(lists: &Lists<N>, mut wrong: impl FnMut(&Lists<N>) ->
         let with = |held: &[_]| with(&short, |short| short.before.table = to_bytes(held));
         short = fewest(&held, with, &mut wrong);
     }
-    let (store, form) = (short.before.store.clone(), short.before.form);
-    if is_store(&store, form) {
-        let fewer = |parts: &[_]| rebuilt(&store, form, parts);
-        let with = |parts: &[_]| with(&short, |short| short.before.store = fewer(parts));
-        short = fewest(&parts(&store, form), with, &mut wrong);
+    let store = short.before.store.clone();
+    if is_store(&store) {
+        let with = |parts: &[_]| with(&short, |short| short.before.store = rebuilt(&store, parts));
+        short = fewest(&parts(&store), with, &mut wrong);
     }
     for list in 0..2 {
         let (command, long) = (short.ways[list].command(), short.lists[list].clone());
@@ -69,11 +68,9 @@ fn plainer<const N: usize>(
     way: usize,
     mut wrong: impl FnMut(&Lists<N>) -> bool,
 ) -> Lists<N> {
-    let Way { room, .. } = short.ways[way];
-    let (command, code) = (short.ways[way].command(), short.ways[way].code());
-    let plain = |room| Way::plain(command, code, room);
+    let (command, room) = (short.ways[way].command(), short.ways[way].room);
     let least = (0..=room)
-        .map(|room| with(&short, |short| short.ways[way] = plain(room)))
+        .map(|room| with(&short, |short| short.ways[way] = Way::plain(command, room)))
         .find(|short| wrong(short));
     least.unwrap_or(short)
 }
@@ -107,21 +104,16 @@ mod tests {
             }
             let short = shorten(&split, wrong);
             assert!(wrong(&short));
-            let left = parts(&short.before.store, short.before.form);
-            assert_eq!(left.len(), 1, "the one that A writes");
+            assert_eq!(parts(&short.before.store).len(), 1, "the one that A writes");
             assert_eq!(short.before.table, to_bytes(&[]));
             // without a record in B, A's own is forgotten by both
             for list in &short.lists {
                 assert_eq!(read(0x02, list).records.len(), 1);
             }
             // the headers have room, and the one 00 or the failure of B
-            let rooms = short
-                .ways
-                .each_ref()
-                .map(|way| way.room + 3 - way.reply_head());
+            let rooms = short.ways.each_ref().map(|way| way.room);
             assert!(rooms.iter().all(|room| (3..=7).contains(room)), "{rooms:?}");
-            let way = &short.ways[0];
-            assert_eq!(way.head, Way::plain(0x02, way.code(), 0).head);
+            assert_eq!(short.ways[0].head, [0x00, 0x00, 0x02]);
             tried += 1;
         }
     }

@@ -3,7 +3,7 @@
 
 use cases::stores::bench;
 use cases::{Seen, unhex};
-use reading::store::{Form, NO_CODE, Name, cluster_of, value};
+use reading::store::{cluster_of, value};
 use reading::table::to_bytes;
 
 use crate::join::{self, Outside, Split, Verdict};
@@ -146,7 +146,7 @@ impl Smallest {
         Split {
             before: before(),
             lists: [self.a, self.b].map(unhex),
-            ways: [0, 1, 2].map(|way| Way::plain(self.commands[way], NO_CODE, self.rooms[way])),
+            ways: [0, 1, 2].map(|way| Way::plain(self.commands[way], self.rooms[way])),
         }
     }
 }
@@ -157,7 +157,6 @@ fn before() -> Before {
     Before {
         cluster: cluster_of(&store).expect("it is a store"),
         store,
-        form: Form::FIRST,
         table: to_bytes(&[]),
     }
 }
@@ -189,7 +188,7 @@ pub fn fail(server: &mut impl Server) -> Result<usize, String> {
 fn left(command: u8, seen: &Seen) -> u8 {
     match command {
         0x06 => seen.table[0],
-        _ => value(&seen.store, Form::FIRST, Name::plain(1)).map_or(0, |value| value[0]),
+        _ => value(&seen.store, 1).map_or(0, |value| value[0]),
     }
 }
 
@@ -198,7 +197,7 @@ fn in_common(server: &mut impl Server) -> Result<(), String> {
     let pair = Pair {
         before: before(),
         lists: ["01002008", "01002009"].map(unhex),
-        ways: [Way::plain(0x02, NO_CODE, 64), Way::plain(0x02, NO_CODE, 64)],
+        ways: [Way::plain(0x02, 64), Way::plain(0x02, 64)],
     };
     let ran = order::run(server, std::slice::from_ref(&pair))?;
     let left = ran[0].second.each_ref().map(|seen| left(0x02, seen));

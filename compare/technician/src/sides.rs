@@ -4,7 +4,6 @@ use cases::Seen;
 use frames::sides::asked;
 use oracle::{Oracle, Outcome};
 use ours::{Call, Driver, served, value_number};
-use reading::store::{Form, Name};
 
 use crate::frame::Frame;
 
@@ -33,14 +32,10 @@ pub struct Sides {
 impl Sides {
     /// The driver is the command that `HINGEDRIFT_DRIVER` names.
     pub fn start() -> Result<Self, String> {
-        Ok(Self::with(Driver::start()?))
-    }
-
-    pub fn with(driver: Driver) -> Self {
-        Self {
+        Ok(Self {
             oracle: Oracle::default(),
-            driver,
-        }
+            driver: Driver::start()?,
+        })
     }
 
     /// Both on each of these. An error where the driver ended.
@@ -75,11 +70,10 @@ impl Sides {
         }
     }
 
-    /// The new one's number of an attribute's value, of a store of the first form: the
-    /// number that it returned, and the value's.
+    /// The new one's number of an attribute's value: the number that it
+    /// returned, and the value's.
     pub fn number(&mut self, store: &[u8], attribute: u16) -> Result<(u8, i64), String> {
-        let call = Call::number(store, Form::FIRST, Name::plain(attribute));
-        let answer = self.driver.answer(&call)?;
+        let answer = self.driver.answer(&Call::number(store, attribute))?;
         Ok((answer.number, answer.results[0].cast_signed()))
     }
 
@@ -88,50 +82,5 @@ impl Sides {
     pub fn number_read(&mut self, reply: &[u8]) -> Result<(u8, i64), String> {
         let answer = self.driver.answer(&Call::read_record(reply, 0))?;
         Ok(value_number(&answer))
-    }
-}
-
-#[cfg(test)]
-mod tests {
-    use ours::{Broken, StandIn};
-
-    use super::*;
-    use crate::counted::Counted;
-    use crate::traffic::Traffic;
-
-    fn traffic() -> Traffic {
-        Traffic::parsed(include_bytes!("../../sample.txt")).expect("it is one")
-    }
-
-    /// The sample, where the new one is this stand-in.
-    fn sample(broken: Option<Broken>) -> Counted {
-        let mut sides = Sides::with(Driver::stand_in(StandIn(broken)));
-        let mut counted = Counted::default();
-        for ran in sides.run(traffic().frames().collect()).expect("it is run") {
-            counted.count(&ran);
-        }
-        counted
-    }
-
-    #[test]
-    fn the_sample_differs_as_listed_alone() {
-        let all = sample(None).all();
-        assert_eq!((all.frames, all.unlisted), (traffic().requests(), 0));
-        for difference in cases::Difference::all() {
-            assert!(
-                all.listed.contains_key(&difference),
-                "{}",
-                difference.name()
-            );
-        }
-        // two that are none, one of them by its form, and the second form's
-        assert!(all.no_counterpart > 3);
-    }
-
-    #[test]
-    fn wrong_servers_are_caught() {
-        for broken in [Broken::PlainReply, Broken::ZeroCoded, Broken::IdAlone] {
-            assert!(sample(Some(broken)).all().unlisted > 0, "{broken:?}");
-        }
     }
 }

@@ -5,7 +5,7 @@ mod bytes;
 mod line;
 
 use cases::Case;
-use reading::store::{Form, cluster_of};
+use reading::store::cluster_of;
 use reading::table::to_bytes;
 
 use crate::frame::Frame;
@@ -73,7 +73,6 @@ fn without_store(steps: &[(usize, Step)]) -> Option<String> {
 /// What the next request meets.
 struct Now {
     store: Vec<u8>,
-    form: Form,
     table: Vec<u8>,
     /// The store's own where none is named.
     cluster: Option<u16>,
@@ -85,7 +84,6 @@ impl Default for Now {
     fn default() -> Self {
         Self {
             store: Vec::new(),
-            form: Form::FIRST,
             table: to_bytes(&[]),
             cluster: None,
             unicast: 1,
@@ -98,7 +96,6 @@ impl Now {
     fn meet(&mut self, number: usize, step: Step) -> Option<Frame> {
         match step {
             Step::Store(store) => self.store = store,
-            Step::Form(form) => self.form = form,
             Step::Table(table) => self.table = table,
             Step::Cluster(cluster) => self.cluster = cluster,
             Step::Unicast(unicast) => self.unicast = unicast,
@@ -112,7 +109,6 @@ impl Now {
         let own = cluster_of(&self.store).unwrap_or(0);
         let case = Case {
             store: self.store.clone(),
-            form: self.form,
             table: self.table.clone(),
             cluster: self.cluster.unwrap_or(own),
             unicast: self.unicast,

@@ -157,18 +157,18 @@ mod tests {
         let configure = "002d06000100200a003c0001";
         let right = ran(&store, configure);
         let seen = right.new.as_ref().expect("an answer");
-        assert_eq!((seen.table[0], seen.table[19]), (1, 1));
+        assert_eq!((seen.table[0], seen.table[17]), (1, 1));
         assert_eq!(right.verdict(), Verdict::Equal);
         let mut wrong = ran(&store, configure);
-        wrong.new.as_mut().expect("an answer").table[19] = 0;
+        wrong.new.as_mut().expect("an answer").table[17] = 0;
         says(
             &wrong,
-            "first difference: table, byte 19: document 01 01, new 00",
+            "first difference: table, byte 17: document 01 01, new 00",
         );
         // another difference is named, and not the mark
         let mut wrong = ran(&store, configure);
-        wrong.new.as_mut().expect("an answer").table[20] = 1;
-        says(&wrong, "first difference: table, byte 20: old 00, new 01");
+        wrong.new.as_mut().expect("an answer").table[18] = 1;
+        says(&wrong, "first difference: table, byte 18: old 00, new 01");
     }
 
     #[test]

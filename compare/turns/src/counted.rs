@@ -1,9 +1,9 @@
 //! How often each kind of call came.
 
-use cases::Lines;
-use cases::kinds::{Coding, head};
+use std::collections::BTreeMap;
+
 use reading::commands::Turned;
-use reading::store::{Form, Scope, cluster_of, is_store, number, value};
+use reading::store::{cluster_of, find, is_store, number, value};
 use reading::table::{Broken, Entry, Key, entries, place};
 
 use crate::given::Given;
@@ -20,7 +20,6 @@ const GONE: &str = "0: passed over, as the attribute is gone";
 const NOT_REPORTABLE: &str = "0: passed over, as it is not reportable";
 const NOT_DUE: &str = "0: passed over, as it is not due";
 const OTHER_CLUSTER: &str = "0: the id has an entry of another cluster too";
-const OTHER_CODE: &str = "0: the id has an entry of another code too";
 
 /// by the id that was handed in,
 const FROM: [&str; 6] = [
@@ -33,12 +32,10 @@ const FROM: [&str; 6] = [
 ];
 
 /// and why nothing was.
-const HEADER: [&str; 5] = [
+const HEADER: [&str; 3] = [
     "5 for the header: no buffer at all",
     "5 for the header: one byte",
     "5 for the header: two bytes",
-    "5 for the header: three bytes, with a code",
-    "5 for the header: four bytes, with a code",
 ];
 const HEADER_FIRST: &str = "5 for the header: before 6";
 const A_BYTE_SHORT: &str = "5 for the first record: a byte short";
@@ -49,8 +46,8 @@ const NOTHING: [&str; 3] = [
     "6: every attribute is gone or not reportable",
     "6: none is due yet",
 ];
-const FOR_THE_HEADER: &str = "6: in a buffer of the header's length";
-const NO_STORE: [&str; 3] = ["7: form 1", "7: form 2", "7: neither form"];
+const IN_THREE_BYTES: &str = "6: in a buffer of three bytes";
+const NO_STORE: &str = "7";
 const STORE_FIRST: [&str; 2] = ["7: before 8", "7: before 5"];
 const TABLE_FIRST: &str = "8: before 5";
 
@@ -70,7 +67,7 @@ pub const MOST_APART: &str = "two reports, M+nG-1 seconds apart";
 pub const TIMED: &str = "found due or not, as timed from the last report";
 
 pub struct Counted {
-    lines: Lines,
+    counts: BTreeMap<&'static str, usize>,
     /// Turns of all kinds.
     pub turns: usize,
 }
@@ -78,48 +75,43 @@ pub struct Counted {
 impl Counted {
     pub fn new() -> Self {
         Self {
-            lines: Lines::new(lines()),
+            counts: lines().into_iter().map(|line| (line, 0)).collect(),
             turns: 0,
         }
     }
 
     pub fn count(&mut self, line: &str) {
-        self.lines.count(line);
+        let count = self.counts.get_mut(line);
+        *count.unwrap_or_else(|| panic!("there is no line for {line}")) += 1;
     }
 
     fn count_if(&mut self, came: bool, line: &str) {
-        self.lines.count_if(came, line);
+        if came {
+            self.count(line);
+        }
     }
 
     pub fn turn(&mut self, given: &Given, turned: &Turned) {
         self.turns += 1;
-        let (table, Scope { form, code }) = (entries(&given.table), given.scope);
-        let narrow = given.room < head(code);
-        if !is_store(&given.store, form) {
-            self.count(match form {
-                Form::FIRST => NO_STORE[0],
-                Form::SECOND => NO_STORE[1],
-                _ => NO_STORE[2],
-            });
+        let table = entries(&given.table);
+        if !is_store(&given.store) {
+            self.count(NO_STORE);
             self.count_if(table.is_err(), STORE_FIRST[0]);
-            self.count_if(narrow, STORE_FIRST[1]);
+            self.count_if(given.room < 3, STORE_FIRST[1]);
             return;
         }
-        let coding = Coding::of(&given.store, form, code);
         let table = match table {
             Ok(table) => table,
             Err(broken) => {
                 self.count(no_table(broken));
-                self.count(&by_code(8, form, coding));
-                self.count_if(narrow, TABLE_FIRST);
+                self.count_if(given.room < 3, TABLE_FIRST);
                 return;
             }
         };
         let due = given.turn().found_due(&table);
-        self.count(&by_code(turned.answer.number, form, coding));
         match turned.answer.number {
             0 => self.sent(given, turned, &table, &due),
-            5 if narrow => {
+            5 if given.room < 3 => {
                 self.count(HEADER[given.room]);
                 self.count_if(due.is_empty(), HEADER_FIRST);
             }
@@ -142,8 +134,7 @@ impl Counted {
         });
         self.count(from(given.last, due));
         self.count_if(!written.is_sorted(), WENT_ROUND);
-        let scope = given.scope;
-        let numberless = |&id: &u16| number(&given.store, scope.form, scope.name(id)).is_err();
+        let numberless = |&id: &u16| number(&given.store, id).is_err();
         self.count_if(written.iter().any(numberless), NO_NUMBER);
         self.passed_over(given, table, due);
         self.others(given, table, written);
@@ -152,7 +143,7 @@ impl Counted {
     /// Of the entries of the cluster that are not due.
     fn passed_over(&mut self, given: &Given, table: &[Entry], due: &[u16]) {
         for id in own(given, table) {
-            match given.scope.find(&given.store, id) {
+            match find(&given.store, id) {
                 None => self.count(GONE),
                 Some(attribute) if attribute.access & 2 == 0 => self.count(NOT_REPORTABLE),
                 Some(_) => self.count_if(!due.contains(&id), NOT_DUE),
@@ -166,18 +157,14 @@ impl Counted {
         for (at, Entry { key, .. }) in table.iter().enumerate() {
             if written.contains(&key.attribute) {
                 self.count_if(key.cluster != cluster, OTHER_CLUSTER);
-                let code = key.code == given.scope.code;
-                self.count_if(key.cluster == cluster && !code, OTHER_CODE);
-                let twice = key.cluster == cluster && code && place(table, *key) != Some(at);
+                let twice = key.cluster == cluster && place(table, *key) != Some(at);
                 self.count_if(twice, ONCE);
             }
         }
     }
 
     fn first_record(&mut self, given: &Given, due: &[u16]) {
-        let scope = given.scope;
-        let value = |id| value(&given.store, scope.form, scope.name(id));
-        let needed = |&id: &u16| head(scope.code) + 3 + value(id).expect("it is due").len();
+        let needed = |&id: &u16| 3 + 3 + value(&given.store, id).expect("it is due").len();
         self.count(match needed(&due[0]) - given.room {
             1 => A_BYTE_SHORT,
             _ => SHORTER,
@@ -189,7 +176,7 @@ impl Counted {
     fn nothing(&mut self, given: &Given, table: &[Entry]) {
         let ids = own(given, table);
         let reportable = |&id: &u16| {
-            let attribute = given.scope.find(&given.store, id);
+            let attribute = find(&given.store, id);
             attribute.is_some_and(|attribute| attribute.access & 2 != 0)
         };
         self.count(match ids.iter().any(reportable) {
@@ -197,51 +184,34 @@ impl Counted {
             false => NOTHING[1],
             true => NOTHING[2],
         });
-        self.count_if(given.room == head(given.scope.code), FOR_THE_HEADER);
+        self.count_if(given.room == 3, IN_THREE_BYTES);
     }
 
+    /// A line for each kind.
     pub fn list(&self) -> String {
-        self.lines.list()
+        let line = |line| format!("{:9}  {line}\n", self.counts[line]);
+        lines().into_iter().map(line).collect()
     }
 
-    pub fn never(&self) -> Vec<String> {
-        self.lines.never()
+    /// What must come and never came.
+    pub fn never(&self) -> Vec<&'static str> {
+        let never = |line: &&str| self.counts[line] == 0;
+        lines().into_iter().filter(never).collect()
     }
 
     pub fn of(&self, line: &str) -> usize {
-        self.lines.of(line)
+        self.counts[line]
     }
 }
 
-/// The ids of the entries of the store's cluster and of the turn's code.
+/// The ids of the entries of the store's cluster.
 fn own(given: &Given, table: &[Entry]) -> Vec<u16> {
-    let cluster = cluster_of(&given.store).expect("a store");
+    let own = cluster_of(&given.store).expect("a store");
     let id = |entry: &Entry| {
-        let own = Key::of(cluster, given.scope.name(entry.key.attribute));
-        (entry.key == own).then_some(own.attribute)
+        let Key { cluster, attribute } = entry.key;
+        (cluster == own).then_some(attribute)
     };
     table.iter().filter_map(id).collect()
-}
-
-/// An answer of this number, by the store's form and by the turn's code.
-fn by_code(number: u8, form: Form, coding: Coding) -> String {
-    format!("{number}: form {}, {}", form.0, coding.name())
-}
-
-/// All of them: the first form has no codes, and of a code that the store does not
-/// have nothing is due.
-fn by_codes() -> Vec<String> {
-    let codings = [Coding::None, Coding::Own, Coding::Other];
-    let all = |number| Form::BOTH.map(|form| codings.map(|coding| (number, form, coding)));
-    let can = |&(number, form, coding): &(u8, Form, Coding)| match coding {
-        Coding::Own => form == Form::SECOND,
-        Coding::Other => number != 0,
-        Coding::None | Coding::Zero => true,
-    };
-    let all = [0, 5, 6, 8].into_iter().flat_map(all).flatten();
-    all.filter(can)
-        .map(|(number, form, coding)| by_code(number, form, coding))
-        .collect()
 }
 
 /// Where the ids that are due start.
@@ -269,11 +239,11 @@ fn no_table(broken: Broken) -> &'static str {
 }
 
 /// All lines, in the order in which they are printed.
-fn lines() -> Vec<String> {
+fn lines() -> Vec<&'static str> {
     let some = [ALL_WRITTEN, SOME_LEFT_OUT, EXACT, LONGER, WENT_ROUND];
-    let passed = [GONE, NOT_REPORTABLE, NOT_DUE, OTHER_CLUSTER, OTHER_CODE];
+    let passed = [GONE, NOT_REPORTABLE, NOT_DUE, OTHER_CLUSTER];
     let short = [HEADER_FIRST, A_BYTE_SHORT, SHORTER, ANOTHER_FITS];
-    let lines: [&[&str]; 17] = [
+    let lines: [&[&str]; 16] = [
         &some,
         &FROM,
         &[NO_NUMBER, ONCE],
@@ -281,8 +251,7 @@ fn lines() -> Vec<String> {
         &HEADER,
         &short,
         &NOTHING,
-        &[FOR_THE_HEADER],
-        &NO_STORE,
+        &[IN_THREE_BYTES, NO_STORE],
         &STORE_FIRST,
         &Broken::ALL.map(no_table),
         &[TABLE_FIRST],
@@ -292,13 +261,37 @@ fn lines() -> Vec<String> {
         &REQUESTS,
         &[FAIR, FAIR_AT_LAST, TIMED, APART, LEAST_APART, MOST_APART],
     ];
-    let lines = lines.concat().into_iter().map(str::to_owned);
-    lines.chain(by_codes()).collect()
+    lines.concat()
 }
 
 #[cfg(test)]
 mod tests {
     use super::*;
+    use std::collections::BTreeSet;
+
+    #[test]
+    fn what_never_came_is_named() {
+        let mut counted = Counted::new();
+        assert_eq!(counted.never(), lines());
+        for line in lines() {
+            counted.count(line);
+        }
+        assert!(counted.never().is_empty());
+        counted.counts.insert(WENT_ROUND, 0);
+        assert_eq!(counted.never(), [WENT_ROUND]);
+    }
+
+    #[test]
+    fn each_line_once() {
+        let all: BTreeSet<&str> = lines().into_iter().collect();
+        assert_eq!(all.len(), lines().len());
+    }
+
+    #[test]
+    #[should_panic(expected = "no line")]
+    fn other_lines_are_not_counted() {
+        Counted::new().count("any");
+    }
 
     #[test]
     fn where_a_turn_starts() {

@@ -4,7 +4,7 @@ use std::collections::BTreeSet;
 
 use ours::{Answer, Server};
 use reading::commands::Turned;
-use reading::store::{Attribute, NO_CODE, attributes, cluster_of, is_store, number};
+use reading::store::{cluster_of, find, is_store, number, value};
 use reading::table::{Entry, Key, ask, entries, to_bytes};
 
 use crate::call::Call;
@@ -27,16 +27,8 @@ pub enum Wrong {
     EachEntry,
     /// or goes by the last entry of a key.
     LastEntry,
-    /// It looks at entries of every cluster,
+    /// It looks at entries of every cluster.
     AnyCluster,
-    /// or of every code,
-    AnyCode,
-    /// or at attributes of every code.
-    IdAlone,
-    /// Its frame begins without the code,
-    PlainFrame,
-    /// or a header with a code needs no more room.
-    PlainRoom,
     /// It tries the records behind one that does not fit.
     GoesOn,
     /// It writes what is not reportable.
@@ -65,7 +57,7 @@ pub enum Wrong {
     LeavesBytes,
 }
 
-pub const ALL: [Wrong; 25] = [
+pub const ALL: [Wrong; 21] = [
     Wrong::FromTheLowest,
     Wrong::AtTheLast,
     Wrong::LastCut,
@@ -74,10 +66,6 @@ pub const ALL: [Wrong; 25] = [
     Wrong::EachEntry,
     Wrong::LastEntry,
     Wrong::AnyCluster,
-    Wrong::AnyCode,
-    Wrong::IdAlone,
-    Wrong::PlainFrame,
-    Wrong::PlainRoom,
     Wrong::GoesOn,
     Wrong::NotReportable,
     Wrong::GoneEnds,
@@ -137,7 +125,7 @@ impl Fake {
     }
 
     fn sent(&self, given: &Given) -> Result<Sent, u8> {
-        let store = if is_store(&given.store, given.scope.form) {
+        let store = if is_store(&given.store) {
             Ok(())
         } else {
             Err(7)
@@ -148,11 +136,7 @@ impl Fake {
             false => store.and(table)?,
         };
         let due = self.due(given, &table);
-        let head = match self.is(Wrong::PlainRoom) {
-            true => 3,
-            false => self.head(given).len(),
-        };
-        let header = if given.room < head { Err(5) } else { Ok(()) };
+        let header = if given.room < 3 { Err(5) } else { Ok(()) };
         let some = if due.is_empty() { Err(6) } else { Ok(()) };
         match self.is(Wrong::NothingFirst) {
             true => some.and(header)?,
@@ -174,32 +158,14 @@ impl Fake {
         })
     }
 
-    fn head(&self, given: &Given) -> Vec<u8> {
-        let [low, high] = given.scope.code.to_le_bytes();
-        match given.scope.code {
-            code if code == NO_CODE || self.is(Wrong::PlainFrame) => {
-                vec![0x18, given.sequence, 0x0a]
-            }
-            _ => vec![0x1c, low, high, given.sequence, 0x0a],
-        }
-    }
-
-    fn find(&self, given: &Given, id: u16) -> Option<Attribute> {
-        if self.is(Wrong::IdAlone) {
-            let all = attributes(&given.store, given.scope.form)?;
-            return all.into_iter().find(|attribute| attribute.name.id == id);
-        }
-        given.scope.find(&given.store, id)
-    }
-
     /// The ids found due, in the order in which they are taken.
     fn due(&self, given: &Given, table: &[Entry]) -> Vec<u16> {
         let mut ids: Vec<u16> = table.iter().map(|entry| entry.key.attribute).collect();
         let cluster = cluster_of(&given.store);
         if self.is(Wrong::EachEntry) {
-            let own = table.iter().filter(|entry| {
-                Some(entry.key.cluster) == cluster && entry.key.code == given.scope.code
-            });
+            let own = table
+                .iter()
+                .filter(|entry| Some(entry.key.cluster) == cluster);
             ids = own.map(|entry| entry.key.attribute).collect();
             ids.sort();
         } else if self.is(Wrong::TableOrder) {
@@ -209,7 +175,7 @@ impl Fake {
             ids = BTreeSet::from_iter(ids).into_iter().collect();
         }
         if self.is(Wrong::GoneEnds) {
-            let gone = |&id: &u16| self.find(given, id).is_none();
+            let gone = |&id: &u16| find(&given.store, id).is_none();
             let until = ids.iter().position(gone).unwrap_or(ids.len());
             ids.truncate(until);
         }
@@ -229,11 +195,11 @@ impl Fake {
     }
 
     fn is_due(&self, given: &Given, table: &[Entry], id: u16) -> bool {
-        let Some(attribute) = self.find(given, id) else {
+        let Some(attribute) = find(&given.store, id) else {
             return false;
         };
         let reportable = attribute.access & 2 != 0 || self.is(Wrong::NotReportable);
-        let numbered = number(&given.store, given.scope.form, attribute.name);
+        let numbered = number(&given.store, id);
         let counts = numbered.is_ok() || !self.is(Wrong::NumberlessNotDue);
         let value = numbered.unwrap_or(0);
         let asked = |entry: &Entry| ask(&[*entry], entry.key, given.now, value).is_due();
@@ -244,16 +210,12 @@ impl Fake {
     /// The place of the entry that counts.
     fn entry(&self, given: &Given, table: &[Entry], id: u16) -> Option<usize> {
         let cluster = cluster_of(&given.store).expect("a store");
-        let own = Key::of(cluster, given.scope.name(id));
+        let key = Key {
+            cluster,
+            attribute: id,
+        };
         let counts = |entry: &Entry| {
-            let mut key = entry.key;
-            if self.is(Wrong::AnyCluster) {
-                key.cluster = cluster;
-            }
-            if self.is(Wrong::AnyCode) {
-                key.code = given.scope.code;
-            }
-            key == own
+            entry.key == key || self.is(Wrong::AnyCluster) && entry.key.attribute == id
         };
         match self.is(Wrong::LastEntry) {
             true => table.iter().rposition(counts),
@@ -262,11 +224,11 @@ impl Fake {
     }
 
     fn written(&self, given: &Given, due: &[u16]) -> (Vec<u8>, Vec<u16>) {
-        let (mut frame, mut written) = (self.head(given), Vec::new());
+        let (mut frame, mut written) = (vec![0x18, given.sequence, 0x0a], Vec::new());
         for &id in due {
-            let attribute = self.find(given, id).expect("it is due");
-            let value = attribute.value(&given.store).expect("it is due");
-            let record = [&id.to_le_bytes()[..], &[attribute.type_code], value].concat();
+            let code = find(&given.store, id).expect("it is due").type_code;
+            let value = value(&given.store, id).expect("it is due");
+            let record = [&id.to_le_bytes()[..], &[code], value].concat();
             if frame.len() + record.len() <= given.room {
                 frame.extend(record);
                 written.push(id);
@@ -279,8 +241,7 @@ impl Fake {
 
     fn marked(&self, given: &Given, mut table: Vec<Entry>, ids: &[u16]) -> Vec<Entry> {
         for &id in ids {
-            let name = self.find(given, id).expect("it was due").name;
-            let numbered = number(&given.store, given.scope.form, name);
+            let numbered = number(&given.store, id);
             if numbered.is_err() && self.is(Wrong::NumberlessNotMarked) {
                 continue;
             }

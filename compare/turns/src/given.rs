@@ -2,13 +2,10 @@
 
 use ours::Answer;
 use reading::commands::{Turn, Turned};
-use reading::store::Scope;
 
 #[derive(Debug, Clone)]
 pub struct Given {
     pub store: Vec<u8>,
-    /// The store's form, and the code whose entries it is for.
-    pub scope: Scope,
     pub table: Vec<u8>,
     pub sequence: u8,
     pub now: u32,
@@ -20,8 +17,6 @@ impl Given {
     pub fn turn(&self) -> Turn<'_> {
         Turn {
             store: &self.store,
-            form: self.scope.form,
-            code: self.scope.code,
             sequence: self.sequence,
             now: self.now,
             last: self.last,

@@ -1,14 +1,10 @@
-//! Histories: a store, a table, a clock and the last id of each code, and what happens
-//! to them.
+//! Histories: a store, a table, a clock and the last id, and what happens to them.
 
-use std::collections::HashMap;
-
-use cases::given::stores::by_ids;
 use cases::requests::request;
 use cases::{Case, Random};
 use ours::{Answer, Held, Server};
-use reading::store::{Form, Scope, attributes, cluster_of, find, number};
-use reading::table::{Entry, ask, clear, configure, entries, to_bytes};
+use reading::store::{attributes, cluster_of, find, number};
+use reading::table::{Entry, Key, ask, clear, configure, entries, to_bytes};
 
 use crate::call::Call;
 use crate::compared::Compared;
@@ -34,24 +30,21 @@ pub fn compare(
 
 struct History {
     store: Vec<u8>,
-    form: Form,
     table: Vec<Entry>,
     now: u32,
-    /// Of each code that has had a turn.
-    last: HashMap<u16, u32>,
+    last: u32,
 }
 
 impl History {
     fn new(random: &mut Random) -> Self {
-        let (store, form) = made::store(random);
+        let store = made::store(random);
         let now = random.of(&[0, 10, 1000, 1 << 31, u32::MAX - 20]);
-        let table = made::table(random, &store, form, now);
+        let table = made::table(random, &store, now);
         Self {
             store,
-            form,
             table,
             now,
-            last: HashMap::new(),
+            last: last(random),
         }
     }
 
@@ -74,7 +67,7 @@ impl History {
             3 => self.ask(compared, random),
             4 => self.request(compared, random),
             5 => {
-                self.last.clear();
+                self.last = last(random);
                 self.turn(compared, random)
             }
             6 => self.damaged(compared, random),
@@ -91,10 +84,8 @@ impl History {
         compared: &mut Compared<'_, impl Server<Call>>,
         random: &mut Random,
     ) -> Result<(), String> {
-        let given = self.given(random);
-        let code = given.scope.code;
-        let (turned, table) = compared.turn(given)?;
-        self.last.insert(code, turned.last);
+        let (turned, table) = compared.turn(self.given(random))?;
+        self.last = turned.last;
         self.table = entries(&table).expect("it is a table still");
         Ok(())
     }
@@ -112,30 +103,19 @@ impl History {
             given.table = made::damaged_table(random, &given.table);
         }
         if which < 2 {
-            match random.below(4) {
-                0 => given.scope.form = Form(random.of(&[0, 1, 2, 3])),
-                1 if self.form == Form::SECOND => given.store = by_ids(&given.store, self.form),
-                _ => given.store = made::damaged(random, &given.store),
-            }
+            given.store = made::damaged(random, &given.store);
         }
         compared.turn(given)?;
         Ok(())
     }
 
     fn given(&self, random: &mut Random) -> Given {
-        let code = made::code(random, &self.store, self.form);
-        let form = self.form;
         let mut given = Given {
             store: self.store.clone(),
-            scope: Scope { form, code },
             table: self.lent(),
             sequence: random.byte(),
             now: self.now,
-            last: self
-                .last
-                .get(&code)
-                .copied()
-                .unwrap_or_else(|| last(random)),
+            last: self.last,
             room: 1 << 13,
         };
         given.room = room(random, &given);
@@ -147,10 +127,7 @@ impl History {
         compared: &mut Compared<'_, impl Server<Call>>,
         random: &mut Random,
     ) -> Result<(), String> {
-        let (key, config) = (
-            made::key(random, &self.store, self.form),
-            made::config(random),
-        );
+        let (key, config) = (made::key(random, &self.store), made::config(random));
         let call = ours::Call::configure(&self.lent(), key, config);
         let accepted = configure(&mut self.table, key, config);
         let answer = Answer::new(0, &[accepted.into()], &[&self.lent()]);
@@ -163,7 +140,7 @@ impl History {
         compared: &mut Compared<'_, impl Server<Call>>,
         random: &mut Random,
     ) -> Result<(), String> {
-        let key = made::key(random, &self.store, self.form);
+        let key = made::key(random, &self.store);
         let call = ours::Call::clear(&self.lent(), key);
         clear(&mut self.table, key);
         let answer = Answer::new(0, &[], &[&self.lent()]);
@@ -176,8 +153,8 @@ impl History {
         compared: &mut Compared<'_, impl Server<Call>>,
         random: &mut Random,
     ) -> Result<(), String> {
-        let key = made::key(random, &self.store, self.form);
-        let value = number(&self.store, self.form, key.name()).unwrap_or(0);
+        let key = made::key(random, &self.store);
+        let value = number(&self.store, key.attribute).unwrap_or(0);
         let call = ours::Call::ask(&self.lent(), key, self.now, value);
         let due = ask(&self.table, key, self.now, value).is_due();
         let answer = Answer::new(0, &[due.into()], &[&self.lent()]);
@@ -192,10 +169,9 @@ impl History {
     ) -> Result<(), String> {
         let which = random.below(REQUESTS.len());
         let command = [0x02, 0x03, 0x05, 0x06][which];
-        let attributes = attributes(&self.store, self.form).expect("a store");
+        let attributes = attributes(&self.store).expect("a store");
         let case = Case {
             store: self.store.clone(),
-            form: self.form,
             table: self.lent(),
             cluster: cluster_of(&self.store).expect("a store"),
             unicast: 1,
@@ -210,8 +186,8 @@ impl History {
 
     /// The hardware changes a value.
     fn set(&mut self, random: &mut Random) {
-        let key = made::key(random, &self.store, self.form);
-        if let Some(attribute) = find(&self.store, self.form, key.name()) {
+        let Key { attribute, .. } = made::key(random, &self.store);
+        if let Some(attribute) = find(&self.store, attribute) {
             let old = attribute.value(&self.store).expect("it has a value");
             let new = made::new_value(random, &attribute, old);
             attribute.set(&mut self.store, &new);
@@ -235,8 +211,8 @@ fn last(random: &mut Random) -> u32 {
 fn room(random: &mut Random, ample: &Given) -> usize {
     let frame = ample.document().0.answer.reply.len().max(3);
     match random.below(12) {
-        0 => random.below(6),
-        1 => 3 + random.below(11),
+        0 => random.below(4),
+        1 => 3 + random.below(9),
         2 => random.below(400),
         3 | 4 => frame,
         5 => (frame + 1).saturating_sub(random.below(5)),

@@ -2,31 +2,31 @@
 //! entries in them.
 
 use cases::Random;
-use cases::given::stores::{self, CODES};
+use cases::given::stores;
 use reading::Kind;
-use reading::store::{Attribute, Form, Name, attributes, cluster_of, is_store};
-use reading::table::{Config, ENTRIES, Entry, FLAG, Key, LAST, MARK, SIGNED, SLOT, UNSIGNED};
+use reading::store::{Attribute, attributes, cluster_of, is_store};
+use reading::table::{Config, ENTRIES, Entry, Key, SIGNED, SLOT, UNSIGNED};
 
 const MINIMA: [u16; 8] = [0, 0, 0, 0, 1, 2, 5, 0xffff];
 const MAXIMA: [u16; 8] = [0, 1, 1, 3, 3, 10, 60, 0xffff];
 const CHANGES: [u64; 7] = [0, 1, 1, 2, 50, 1 << 63, u64::MAX];
 
 /// Most have two attributes or more that are reportable.
-pub fn store(random: &mut Random) -> (Vec<u8>, Form) {
+pub fn store(random: &mut Random) -> Vec<u8> {
     loop {
-        let (store, form) = stores::any(random);
-        let attributes = attributes(&store, form).unwrap_or_default();
+        let store = stores::any(random);
+        let attributes = attributes(&store).unwrap_or_default();
         let reportable = |attribute: &&Attribute| attribute.access & 2 != 0;
         let many = attributes.iter().filter(reportable).count();
-        if is_store(&store, form) && (many > 1 || random.one_in(8)) {
-            return (store, form);
+        if is_store(&store) && (many > 1 || random.one_in(8)) {
+            return store;
         }
     }
 }
 
 /// Entries for the store's attributes and for others. Some keys may stand twice,
 /// as only lent bytes can have them.
-pub fn table(random: &mut Random, store: &[u8], form: Form, now: u32) -> Vec<Entry> {
+pub fn table(random: &mut Random, store: &[u8], now: u32) -> Vec<Entry> {
     let many = match random.below(12) {
         0 => 0,
         1 => ENTRIES,
@@ -36,7 +36,7 @@ pub fn table(random: &mut Random, store: &[u8], form: Form, now: u32) -> Vec<Ent
     let twice = random.one_in(3);
     let mut entries: Vec<Entry> = Vec::new();
     for _ in 0..many {
-        let entry = entry(random, store, form, now);
+        let entry = entry(random, store, now);
         if twice || entries.iter().all(|other| other.key != entry.key) {
             entries.push(entry);
         }
@@ -44,51 +44,35 @@ pub fn table(random: &mut Random, store: &[u8], form: Form, now: u32) -> Vec<Ent
     entries
 }
 
-fn entry(random: &mut Random, store: &[u8], form: Form, now: u32) -> Entry {
+fn entry(random: &mut Random, store: &[u8], now: u32) -> Entry {
     let last = match random.below(3) {
         0 => None,
         _ => Some((time(random, now), value(random))),
     };
     Entry {
-        key: key(random, store, form),
+        key: key(random, store),
         config: config(random),
         last,
     }
 }
 
-/// Mostly of an attribute of the store; now and then of one that is gone, of another
-/// cluster, or of another code.
-pub fn key(random: &mut Random, store: &[u8], form: Form) -> Key {
+/// Mostly of an attribute of the store; now and then of one that is gone, or of
+/// another cluster.
+pub fn key(random: &mut Random, store: &[u8]) -> Key {
     let cluster = cluster_of(store).expect("a store has its cluster");
-    let attributes = attributes(store, form).expect("a store has its contents");
-    let own = match &attributes[..] {
-        [] => Name::plain(random.of(&[0, 1, 0xffff])),
-        some => random.of(some).name,
-    };
-    let id = match random.below(8) {
+    let attributes = attributes(store).expect("a store has its contents");
+    let attribute = match random.below(8) {
         0 => random.short(),
-        1 => own.id.wrapping_add(1),
-        _ => own.id,
+        _ if attributes.is_empty() => random.of(&[0, 1, 0xffff]),
+        1 => random.of(&attributes).id.wrapping_add(1),
+        _ => random.of(&attributes).id,
     };
     Key {
         cluster: match random.below(8) {
             0 => random.of(&[cluster.swap_bytes(), cluster ^ 1, 0, 0xffff]),
             _ => cluster,
         },
-        code: match random.below(8) {
-            0 => code(random, store, form),
-            _ => own.code,
-        },
-        attribute: id,
-    }
-}
-
-/// A code of the store's attributes, or another.
-pub fn code(random: &mut Random, store: &[u8], form: Form) -> u16 {
-    let attributes = attributes(store, form).unwrap_or_default();
-    match &attributes[..] {
-        some @ [_, ..] if !random.one_in(8) => random.of(some).name.code,
-        _ => random.of(&CODES),
+        attribute,
     }
 }
 
@@ -166,7 +150,7 @@ pub fn damaged_table(random: &mut Random, table: &[u8]) -> Vec<u8> {
         return damaged(random, table);
     }
     let slot = 1 + SLOT * random.below(usize::from(table[0]).max(1));
-    let at = random.of(&[0, slot + MARK, slot + FLAG, slot + LAST]) + random.of(&[0, 0, 3]);
+    let at = random.of(&[0, slot + 16, slot + 17, slot + 18]) + random.of(&[0, 0, 3]);
     let mut table = table.to_vec();
     table[at] = random.of(&[1, 2, 0xff]);
     table
@@ -181,13 +165,13 @@ mod tests {
     fn values_that_a_store_can_hold() {
         let random = &mut Random::new(1);
         for _ in 0..1000 {
-            let (mut store, form) = store(random);
-            for Attribute { name, .. } in attributes(&store, form).expect("a store") {
-                let attribute = find(&store, form, name).expect("it is there");
+            let mut store = store(random);
+            for Attribute { id, .. } in attributes(&store).expect("a store") {
+                let attribute = find(&store, id).expect("it is there");
                 let old = attribute.value(&store).expect("it has a value").to_vec();
                 let new = new_value(random, &attribute, &old);
                 assert_eq!(attribute.set(&mut store, &new), 0);
-                assert!(is_store(&store, form));
+                assert!(is_store(&store));
             }
         }
     }
@@ -195,8 +179,8 @@ mod tests {
     #[test]
     fn tables_of_all_lengths() {
         let random = &mut Random::new(1);
-        let (store, form) = store(random);
-        let lengths = (0..1000).map(|_| table(random, &store, form, 50).len());
+        let store = store(random);
+        let lengths = (0..1000).map(|_| table(random, &store, 50).len());
         let lengths: std::collections::BTreeSet<usize> = lengths.collect();
         assert!(lengths.contains(&0) && lengths.contains(&ENTRIES));
         assert!(lengths.len() > 10);

@@ -1,9 +1,8 @@
-//! Takes report turns (document 02, requests 3 and 8), over stores of both forms and of
-//! any code, by our archive and by the reading of the documents, and compares after
-//! every call the number, the frame's length, the id given back, and all bytes of
-//! frame buffer, table and store. The turns are taken in histories over one store and
-//! one table, which requests and direct calls change between; some are over damaged
-//! bytes. Two runs make the same calls.
+//! Takes report turns (document 02, request 3), by our archive and by the reading of
+//! the documents, and compares after every call the number, the frame's length, the
+//! id given back, and all bytes of frame buffer, table and store. The turns are
+//! taken in histories over one store and one table, which requests and direct calls
+//! change between; some are over damaged bytes. Two runs make the same calls.
 //!
 //! Other histories keep the terms of the request's two promises, and are held to
 //! these; they are met with nothing to spare.
@@ -86,7 +85,7 @@ fn all(server: &mut impl Server<Call>) -> Result<Counted, String> {
 mod tests {
     use super::*;
     use crate::fakes::{self, Fake};
-    use ours::{Answer, Broken, StandIn};
+    use ours::Answer;
 
     #[test]
     fn a_run_shows_enough() {
@@ -103,22 +102,6 @@ mod tests {
             let trouble = trouble.unwrap_or_else(|| panic!("{wrong:?} is not seen"));
             let said = "a disagreement on\n  report_turn ";
             assert!(trouble.starts_with(said), "{wrong:?}: {trouble}");
-        }
-    }
-
-    /// The stand-ins for the archive as well.
-    #[test]
-    fn wrong_archives_are_caught() {
-        for broken in [
-            Broken::PlainReply,
-            Broken::IdsFirst,
-            Broken::FormerLimit,
-            Broken::AnyForm,
-            Broken::AllCodes,
-        ] {
-            let trouble = all(&mut Driver::stand_in(StandIn(Some(broken)))).err();
-            let trouble = trouble.unwrap_or_else(|| panic!("{broken:?} is not seen"));
-            assert!(trouble.starts_with("a disagreement on\n  "), "{trouble}");
         }
     }
 

@@ -1,9 +1,8 @@
-//! The two promises of document 02, request 3, on turns of one code that are handed the
-//! id that the turn before gave back, over a table whose entries stand; turns of another
-//! code may come between:
+//! The two promises of document 02, request 3, on turns that are handed the id that
+//! the turn before gave back, over a table whose entries stand:
 //!
 //! - an attribute found due in each of n consecutive turns, n being the cluster's
-//!   entries of that code, is in one of those frames;
+//!   entries, is in one of those frames;
 //! - its reports stand at least m and at most M+nG-1 seconds apart, m and M being
 //!   its intervals and G the most seconds between two turns; and what is found due
 //!   is timed from the last report.
@@ -11,10 +10,9 @@
 use std::collections::BTreeMap;
 
 use cases::Random;
-use cases::given::stores::CODES;
-use cases::stores::{Part, built, built_in, string};
+use cases::stores::{Part, built, string};
 use ours::Server;
-use reading::store::{Form, NO_CODE, Scope, cluster_of, number};
+use reading::store::{cluster_of, find, number};
 use reading::table::{Config, Entry, Key, SIGNED, UNSIGNED, entries, to_bytes};
 
 use crate::call::Call;
@@ -38,9 +36,6 @@ pub fn compare(
         let mut history = History::random(random, spared);
         for _ in 0..TURNS {
             history.turn(compared)?;
-            if random.one_in(3) {
-                history.turn_of_another(compared)?;
-            }
             history.happens(random);
         }
     }
@@ -56,12 +51,10 @@ pub fn compare(
 
 struct History {
     parts: Vec<Part>,
-    scope: Scope,
     table: Vec<u8>,
     watched: BTreeMap<u16, Watched>,
     now: u32,
     last: u32,
-    last_of_another: u32,
     room: usize,
     /// The most seconds between two turns.
     gap: u32,
@@ -74,25 +67,19 @@ impl History {
     fn new(parts: Vec<Part>, configs: &BTreeMap<u16, Config>, terms: Terms) -> Self {
         let cluster = cluster_of(&built(&parts)).expect("a store");
         let entry = |(&attribute, &config): (&u16, &Config)| Entry {
-            key: Key::plain(cluster, attribute),
+            key: Key { cluster, attribute },
             config,
             last: None,
         };
         let table: Vec<Entry> = configs.iter().map(entry).collect();
         let watched = |(&id, &config): (&u16, &Config)| (id, Watched::new(config, terms));
         let longest = parts.iter().map(|part| 3 + part.body.len()).max();
-        let scope = Scope {
-            form: Form::FIRST,
-            code: NO_CODE,
-        };
         Self {
             parts,
-            scope,
             table: to_bytes(&table),
             watched: configs.iter().map(watched).collect(),
             now: 0,
             last: 0x10000,
-            last_of_another: 0x10000,
             room: 3 + longest.unwrap_or(0),
             gap: terms.gap,
             wavers: false,
@@ -115,9 +102,6 @@ impl History {
             spared,
         };
         let mut history = Self::new(parts, &configs, terms);
-        if random.one_in(2) {
-            history.coded(random.of(&CODES));
-        }
         history.beside(random.below(3));
         history.now = random.below(6) as u32;
         history.last = random.of(&[0x10000, 0, 3, 7, 0xffff]);
@@ -126,48 +110,21 @@ impl History {
         history
     }
 
-    /// Its attributes and entries have this code, in the second form. The same ids
-    /// have attributes of another code too.
-    fn coded(&mut self, code: u16) {
-        let form = Form::SECOND;
-        let mut table = entries(&self.table).expect("a table");
-        for entry in &mut table {
-            entry.key.code = code;
-        }
-        for part in &mut self.parts {
-            part.name.code = code;
-        }
-        let mut others = self.parts.clone();
-        for part in &mut others {
-            part.name.code ^= 1;
-        }
-        self.parts.extend(others);
-        self.parts.sort_by_key(|part| part.name);
-        self.table = to_bytes(&table);
-        self.room += if code == NO_CODE { 0 } else { 2 };
-        self.scope = Scope { form, code };
-    }
-
-    /// With entries of another cluster, and of another code, which n does not count,
-    /// before its own.
+    /// With entries of another cluster, which n does not count, before its own.
     fn beside(&mut self, many: usize) {
         let own = entries(&self.table).expect("a table");
         let mut others: Vec<Entry> = own.iter().copied().take(many).collect();
-        for (place, other) in others.iter_mut().enumerate() {
-            match place {
-                0 => other.key.cluster ^= 1,
-                _ => other.key.code ^= 1,
-            }
+        for other in &mut others {
+            other.key.cluster ^= 1;
         }
         self.table = to_bytes(&[others, own].concat());
     }
 
     /// Takes a turn, and holds what it finds and writes to the promises.
     fn turn(&mut self, compared: &mut Compared<'_, impl Server<Call>>) -> Result<(), String> {
-        let store = built_in(self.scope.form, &self.parts);
+        let store = built(&self.parts);
         let given = Given {
             store: store.clone(),
-            scope: self.scope,
             table: self.table.clone(),
             sequence: 0x2a,
             now: self.now,
@@ -185,38 +142,15 @@ impl History {
         for (id, watched) in &mut self.watched {
             let look = Look {
                 now: self.now,
-                value: number(&store, self.scope.form, self.scope.name(*id)).unwrap_or(0),
+                value: number(&store, *id).unwrap_or(0),
                 found: due.contains(id),
                 written: written.contains(id),
             };
             watched.fair(&look, &mut compared.counted)?;
-            if !self.wavers && self.scope.find(&store, *id).is_some() {
+            if !self.wavers && find(&store, *id).is_some() {
                 watched.timed(&look, &mut compared.counted)?;
             }
         }
-        Ok(())
-    }
-
-    /// A turn of another code, which has its own last id.
-    fn turn_of_another(
-        &mut self,
-        compared: &mut Compared<'_, impl Server<Call>>,
-    ) -> Result<(), String> {
-        let Scope { form, code } = self.scope;
-        let given = Given {
-            store: built_in(form, &self.parts),
-            scope: Scope {
-                form,
-                code: code ^ 1,
-            },
-            table: self.table.clone(),
-            sequence: 0x2b,
-            now: self.now,
-            last: self.last_of_another,
-            room: self.room + 2,
-        };
-        let (turned, left) = compared.turn(given)?;
-        (self.last_of_another, self.table) = (turned.last, left);
         Ok(())
     }
 

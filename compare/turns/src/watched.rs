@@ -17,7 +17,7 @@ pub struct Spared {
 /// What the bounds are made of, beside the attribute's intervals.
 #[derive(Debug, Clone, Copy)]
 pub struct Terms {
-    /// n, the cluster's entries of the turns' code.
+    /// n, the cluster's entries.
     pub entries: usize,
     /// G, the most seconds between two turns.
     pub gap: u32,

@@ -12,8 +12,7 @@ use Rattle.frame.specs.declared.reply.Put.{Put}
 use Rattle.frame.specs.Answer.{answer_number, answer_length, no_state, seen}
 use Rattle.frame.specs.Inside.Buffer.{Putting, putting, put}
 use Rattle.frame.proofs.Buffer.{put_fits, part_at}
-use Rattle.store.specs.declared.form.Form.TheVariants.{First}
-use Rattle.store.specs.Contents.{entry_size, cluster_of}
+use Rattle.store.specs.Contents.{cluster_of}
 use Rattle.store.specs.Layout.{is_store}
 use Rattle.store.proofs.Layouts.{store_is}
 use Rattle.reporting.specs.declared.table.ReportingTable.{ReportingTable}
@@ -34,12 +33,12 @@ said_reply a d h = rw (eq-eqb (answer_number a) 0 h) refl
 
 -- ---- a request served
 
--- a store of the first form has at most 4096 bytes
-no_store : (s : List ℕ) → 4096 < length s → is_store (entry_size First) s ≡ false
-no_store s h = go (is_store (entry_size First) s) refl
+-- a store has at most 4096 bytes
+no_store : (s : List ℕ) → 4096 < length s → is_store 8 s ≡ false
+no_store s h = go (is_store 8 s) refl
   where
-    go : (b : Bool) → is_store (entry_size First) s ≡ b → b ≡ false
-    go true e = let k : length s ≤ 4096 = omega (arith, (store_is (entry_size First) s e).small) in absurd (omega arith)
+    go : (b : Bool) → is_store 8 s ≡ b → b ≡ false
+    go true e = let k : length s ≤ 4096 = omega (arith, (store_is 8 s e).small) in absurd (omega arith)
     go false e = refl
 
 pub said_too_long : (s request : List ℕ) → 4096 < length s → decimal 7 ≡ said (served_of s request)
@@ -53,11 +52,11 @@ copied d s after r h e = ap (λ (p : Putting). take (length s) p.buffer) (e ∙ 
 -- a call on the copy, with a new table
 pub said_served : (s copy request after : List ℕ) (t : ReportingTable) (cluster : ℕ) (a : Answer) (left : State)
     → take (length s) copy ≡ s → table_of t ≡ holding [] → cluster ≡ cluster_of s
-    → seen a after left ≡ serve (entry_size First) capacity (take (length s) copy) (quieted_t (table_of t)) cluster true request 64
+    → seen a after left ≡ serve 8 capacity (take (length s) copy) (quieted_t (table_of t)) cluster true request 64
     → said (seen a after no_state) ≡ said (served_of s request)
 unfolding said
 said_served s copy request after t cluster a left c n k e =
-    ap said e ∙ (λ i. said (serve (entry_size First) capacity (c i) (quieted_t (n i)) (k i) true request 64))
+    ap said e ∙ (λ i. said (serve 8 capacity (c i) (quieted_t (n i)) (k i) true request 64))
 
 -- ---- the input
 

@@ -4,8 +4,7 @@ use Rattle.io.specs.Digits.{last_digits}
 use Rattle.types.specs.Number.{unsigned_at}
 use Rattle.frame.specs.Answer.{Outcome, refusal_number}
 use Rattle.frame.specs.declared.answer.Refusal.TheVariants.{NotAStore}
-use Rattle.store.specs.declared.form.Form.TheVariants.{First}
-use Rattle.store.specs.Contents.{entry_size, cluster_of}
+use Rattle.store.specs.Contents.{cluster_of}
 use Rattle.reporting.specs.Table.{holding, capacity}
 use Rattle.server.specs.Serve.{State, serve}
 
@@ -29,9 +28,9 @@ said o = cond (eqb o.number 0) (decimal 0 ++ (space ∷ hex (take o.size o.reply
 
 -- ---- the answer
 
--- "unicast, the store's cluster, empty table, room 64"; a store of the first form
+-- "unicast, the store's cluster, empty table, room 64"
 abbrev pub served_of : List ℕ → List ℕ → Outcome State
-served_of store request = serve (entry_size First) capacity store (holding []) (cluster_of store) true request 64
+served_of store request = serve 8 capacity store (holding []) (cluster_of store) true request 64
 
 -- "a two-byte store length"; of fewer bytes than two it is what they say, and the store is cut short
 abbrev pub length_of : List ℕ → ℕ

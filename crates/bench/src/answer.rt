@@ -7,12 +7,11 @@ use frame::answer::Refusal;
 use frame::reply::put_run;
 use reporting::table::ReportingTable;
 use server::serve::handle_request;
-use store::form::Form;
 use store::layout::part;
 use store::lookup::cluster_of;
 use types::number::u16_at;
 
-// Serves the request over a copy of the store: a store is lent to be changed. It is of the first form, in which one of more than 4096 bytes is none.
+// Serves the request over a copy of the store: a store is lent to be changed. One of more than 4096 bytes is none.
 fn served(store: &[u8], request: &[u8], out: &mut [u8]) -> usize
     requires { 130 ≤ length out.old }
     ensures { take result out.new ≡ said (served_of store.now request.now) }
@@ -26,7 +25,6 @@ fn served(store: &[u8], request: &[u8], out: &mut [u8]) -> usize
     let mut reply = [0u8; 64];
     let after = handle_request(
         &mut copy[..n],
-        Form::First,
         ReportingTable::new(),
         cluster_of(store),
         true,

@@ -58,31 +58,31 @@ module _ (r : Asked) (t : ℕ) where
 
 -- ---- what is sought, by what is found in the store
 
-module _ (form : ℕ) (s : List ℕ) (request : ZclHeader) (direction id : ℕ) where
-  by_found : (f : Found) → find_of form s (name_of request.manufacturer_code.0 id) ≡ f → (l : List Entry)
-      → record_by l (key_for s request id) (asked direction id) f ≡ record_for form s l request (asked direction id)
+module _ (s : List ℕ) (request : ZclHeader) (direction id : ℕ) where
+  by_found : (f : Found) → find_of 8 s (name_of request.manufacturer_code.0 id) ≡ f → (l : List Entry)
+      → record_by l (key_for s request id) (asked direction id) f ≡ record_for 8 s l request (asked direction id)
   unfolding record_for
   by_found f e l = ap (record_by l (key_for s request id) (asked direction id)) (sym e)
 
   -- no attribute: 86
-  pub seeks_nothing : find_of form s (name_of request.manufacturer_code.0 id) ≡ Nothing → Seeks form s request direction id (Sought.Fails UnsupportedAttribute)
+  pub seeks_nothing : find_of 8 s (name_of request.manufacturer_code.0 id) ≡ Nothing → Seeks s request direction id (Sought.Fails UnsupportedAttribute)
   unfolding record_by
   seeks_nothing e l = by_found Nothing e l
 
-  module _ (a : Attribute) (found : find_of form s (name_of request.manufacturer_code.0 id) ≡ At a) where
+  module _ (a : Attribute) (found : find_of 8 s (name_of request.manufacturer_code.0 id) ≡ At a) where
     -- of what this device receives: 8c
-    pub seeks_received : (direction ≡ 0 → ⊥) → Seeks form s request direction id (Sought.Fails UnreportableAttribute)
+    pub seeks_received : (direction ≡ 0 → ⊥) → Seeks s request direction id (Sought.Fails UnreportableAttribute)
     unfolding record_by
     seeks_received h l = sym (sym (by_found (At a) found l) ∙ rw (ne_eqb direction 0 h))
 
     module _ (zero : direction ≡ 0) where
       -- not reportable: 8c
-      pub seeks_unreportable : reportable a ≡ false → Seeks form s request direction id (Sought.Fails UnreportableAttribute)
+      pub seeks_unreportable : reportable a ≡ false → Seeks s request direction id (Sought.Fails UnreportableAttribute)
       unfolding record_by
       seeks_unreportable h l = sym (sym (by_found (At a) found l) ∙ rw (eq-eqb direction 0 zero, h))
 
       -- else the entry, and the attribute's type
-      pub seeks_entry : reportable a ≡ true → (k : Key) → k ≡ key_for s request id → Seeks form s request direction id (Sought.Entry k a.type_id)
+      pub seeks_entry : reportable a ≡ true → (k : Key) → k ≡ key_for s request id → Seeks s request direction id (Sought.Entry k a.type_id)
       unfolding record_by
       seeks_entry h k named l =
           ap (λ (j : Key). setting_by (lookup_l j l) (asked direction id) a.type_id.0) named
@@ -91,7 +91,7 @@ module _ (form : ℕ) (s : List ℕ) (request : ZclHeader) (direction id : ℕ) 
 -- ---- one that is asked, in a table with these entries
 
 -- what is put for what was sought is the answer
-pub answered : (form : ℕ) (s : List ℕ) (l : List Entry) (request : ZclHeader) (direction id : ℕ) (x y : Sought) → Seeks form s request direction id x → x ≡ y → (d : List ℕ) (out : ℕ) (p : Put) (after : List ℕ)
-    → putting p after ≡ put d out (encode (sought_by l (asked direction id) y)) → Answered form s l request direction id d out p after
-answered form s l request direction id x y seeks e d out p after g =
-    turned_put encode (λ fit. record_for form s l request) (asked direction id) d out (sought_by l (asked direction id) y) (λ fit. sym (seeks l) ∙ ap (sought_by l (asked direction id)) e) p after g
+pub answered : (s : List ℕ) (l : List Entry) (request : ZclHeader) (direction id : ℕ) (x y : Sought) → Seeks s request direction id x → x ≡ y → (d : List ℕ) (out : ℕ) (p : Put) (after : List ℕ)
+    → putting p after ≡ put d out (encode (sought_by l (asked direction id) y)) → Answered s l request direction id d out p after
+answered s l request direction id x y seeks e d out p after g =
+    turned_put encode (λ fit. record_for 8 s l request) (asked direction id) d out (sought_by l (asked direction id) y) (λ fit. sym (seeks l) ∙ ap (sought_by l (asked direction id)) e) p after g

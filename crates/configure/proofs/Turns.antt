@@ -40,58 +40,58 @@ some f = omega arith
 
 -- ---- one record
 
-module _ (form : ℕ) (s : List ℕ) (request : ZclHeader) (body : List ℕ) (at end id : ℕ) where
-  pub took_received : (direction : ℕ) → configure_at body at ≡ item (received direction id) end → Took form s request body at end direction id (Deed.Fails UnreportableAttribute)
+module _ (s : List ℕ) (request : ZclHeader) (body : List ℕ) (at end id : ℕ) where
+  pub took_received : (direction : ℕ) → configure_at body at ≡ item (received direction id) end → Took s request body at end direction id (Deed.Fails UnreportableAttribute)
   unfolding tried
   took_received direction e = record { taken = received direction id; is = e; named = λ status. refl; judged = λ l. refl }
 
   pub took_reported : (kind : ℕ) (g : ReportingConfig) (deed : Deed) → configure_at body at ≡ item (reported id kind g) end
-      → Judges (λ l. checked (find_of form s (name_of request.manufacturer_code.0 id)) kind l (setting capacity (key_for s request id) g l)) deed
-      → Took form s request body at end 0 id deed
+      → Judges (λ l. checked (find_of 8 s (name_of request.manufacturer_code.0 id)) kind l (setting capacity (key_for s request id) g l)) deed
+      → Took s request body at end 0 id deed
   unfolding tried
   took_reported kind g deed e c = record { taken = reported id kind g; is = e; named = λ status. refl; judged = c }
 
 -- ---- the loop
 
 -- where it stands: the bytes are a table, and what is left of the walk from its entries is the whole
-pub record Goes (form : ℕ) (s : List ℕ) (request : ZclHeader) (body : List ℕ) (start : ℕ) (bs₀ d₀ bs d : List ℕ) (at out : ℕ) : Type 0 where
+pub record Goes (s : List ℕ) (request : ZclHeader) (body : List ℕ) (start : ℕ) (bs₀ d₀ bs d : List ℕ) (at out : ℕ) : Type 0 where
   pub table : is_table capacity bs ≡ true
-  pub going : Going (configuring form capacity s request) (configure_at body) (length body) start (table_in bs₀) d₀ (table_in bs) d at out
+  pub going : Going (configuring 8 capacity s request) (configure_at body) (length body) start (table_in bs₀) d₀ (table_in bs) d at out
 
-pub goes_first : (form : ℕ) (s : List ℕ) (request : ZclHeader) (body : List ℕ) (start : ℕ) (bs d : List ℕ) → is_table capacity bs ≡ true → Goes form s request body start bs d bs d 0 start
-goes_first form s request body start bs d e = record { table = e; going = going_first (configuring form capacity s request) (configure_at body) (length body) start (table_in bs) d }
+pub goes_first : (s : List ℕ) (request : ZclHeader) (body : List ℕ) (start : ℕ) (bs d : List ℕ) → is_table capacity bs ≡ true → Goes s request body start bs d bs d 0 start
+goes_first s request body start bs d e = record { table = e; going = going_first (configuring 8 capacity s request) (configure_at body) (length body) start (table_in bs) d }
 
-module _ {form : ℕ} {s : List ℕ} {request : ZclHeader} {body : List ℕ} {start : ℕ} {bs₀ d₀ bs d : List ℕ} {at out : ℕ}
-    (g : Goes form s request body start bs₀ d₀ bs d at out) where
-  pub goes_done : length body ≤ at → Runs form s request body start bs₀ d₀ (Pass.Through out) bs d
+module _ {s : List ℕ} {request : ZclHeader} {body : List ℕ} {start : ℕ} {bs₀ d₀ bs d : List ℕ} {at out : ℕ}
+    (g : Goes s request body start bs₀ d₀ bs d at out) where
+  pub goes_done : length body ≤ at → Runs s request body start bs₀ d₀ (Pass.Through out) bs d
   goes_done h = record { table = g.table; passed = going_done g.going h }
 
   module _ (lt : at < length body) where
-    pub goes_cut : (after : List ℕ) → configure_at body at ≡ unread → Runs form s request body start bs₀ d₀ Pass.Cut bs after
+    pub goes_cut : (after : List ℕ) → configure_at body at ≡ unread → Runs s request body start bs₀ d₀ Pass.Cut bs after
     goes_cut after m = record { table = g.table; passed = going_cut g.going lt (table_in bs) after (record { is = m; same = refl }) }
 
-    module _ (end direction id : ℕ) (deed : Deed) (k : Took form s request body at end direction id deed) (status : Status) (done-in : List ℕ) (does : Settles deed bs done-in status)
+    module _ (end direction id : ℕ) (deed : Deed) (k : Took s request body at end direction id deed) (status : Status) (done-in : List ℕ) (does : Settles deed bs done-in status)
         (r : Put) (after : List ℕ) (p : putting r after ≡ noting d out status (encode (failure (status_code status) direction id))) where
       abbrev fails : Failure
       fails = failure (status_code status) direction id
 
-      took : TookOne (configuring form capacity s request) (configure_at body) (table_in bs) at end status fails (table_in done-in)
+      took : TookOne (configuring 8 capacity s request) (configure_at body) (table_in bs) at end status fails (table_in done-in)
       took = record { taken = k.taken; is = k.is; does = does.is ∙ k.judged (table_in bs); named = k.named status }
 
-      pub goes_more : (o : ℕ) → r ≡ At o → length after ≡ length d → Goes form s request body start bs₀ d₀ done-in after end o
+      pub goes_more : (o : ℕ) → r ≡ At o → length after ≡ length d → Goes s request body start bs₀ d₀ done-in after end o
       goes_more o q n = record { table = does.table; going = going_more g.going lt (ahead body) end status fails (table_in done-in) took r after p o q n }
 
-      pub goes_stop : r ≡ Full → Runs form s request body start bs₀ d₀ Pass.Full done-in after
+      pub goes_stop : r ≡ Full → Runs s request body start bs₀ d₀ Pass.Full done-in after
       goes_stop q = record { table = does.table; passed = going_stop g.going lt (ahead body) end status fails (table_in done-in) took r after p q }
 
 -- ---- the whole command
 
-module _ (form : ℕ) (s : List ℕ) (request : ZclHeader) (body : List ℕ) (n : ℕ) (x : Answer) (d bs : List ℕ) where
+module _ (s : List ℕ) (request : ZclHeader) (body : List ℕ) (n : ℕ) (x : Answer) (d bs : List ℕ) where
   -- what the contract in_bytes of the bytes afterwards
   abbrev Answers : List ℕ → Type 0
-  Answers after = (is_table capacity after ≡ true) × (seen x d (holding (table_in after)) ≡ configure_of form capacity s (holding (table_in bs)) request body n)
+  Answers after = (is_table capacity after ≡ true) × (seen x d (holding (table_in after)) ≡ configure_of 8 capacity s (holding (table_in bs)) request body n)
 
-  in_bytes : (after : List ℕ) → is_table capacity after ≡ true → seen x d (table_in after) ≡ configure_entries form capacity s (table_in bs) request body n → Answers after
+  in_bytes : (after : List ℕ) → is_table capacity after ≡ true → seen x d (table_in after) ≡ configure_entries 8 capacity s (table_in bs) request body n → Answers after
   unfolding configure_of
   in_bytes after e q = (e, ap (within holding) q)
 
@@ -99,12 +99,12 @@ module _ (form : ℕ) (s : List ℕ) (request : ZclHeader) (body : List ℕ) (n 
     pub command_full : is_table capacity bs ≡ true → r ≡ Full → seen x d no_state ≡ refused (length after) ReplyTooLong no_state → Answers bs
     unfolding configure_entries
     command_full h e q =
-        in_bytes bs h (headed_past request ConfigureReportingResponse (table_in bs) n r after p (performed (configuring form capacity s request) (configures body) (table_in bs) n) e x d q)
+        in_bytes bs h (headed_past request ConfigureReportingResponse (table_in bs) n r after p (performed (configuring 8 capacity s request) (configures body) (table_in bs) n) e x d q)
 
-    pub command_run : (start : ℕ) → r ≡ At start → (done : Pass) (bs' last : List ℕ) → Runs form s request body start bs after done bs' last → length last ≡ length after
+    pub command_run : (start : ℕ) → r ≡ At start → (done : Pass) (bs' last : List ℕ) → Runs s request body start bs after done bs' last → length last ≡ length after
         → seen x d no_state ≡ concluded_at last start done → Answers bs'
     unfolding configure_entries
     command_run start e done bs' last w k q =
         in_bytes bs' w.table
-        (headed_performs request ConfigureReportingResponse (table_in bs) n r after p (configuring form capacity s request) (configures body) start e x (table_in bs') d
-        (performs (configuring form capacity s request) some (configures body) start (table_in bs) after done (table_in bs') last w.passed k x d q))
+        (headed_performs request ConfigureReportingResponse (table_in bs) n r after p (configuring 8 capacity s request) (configures body) start e x (table_in bs') d
+        (performs (configuring 8 capacity s request) some (configures body) start (table_in bs) after done (table_in bs') last w.passed k x d q))

@@ -2,7 +2,6 @@
 use mathlib.Core.Path.{sym, ◌∙◌}
 use lib.ListN.{length}
 use Rattle.frame.proofs.Outcome.{only_one, only_answer}
-use Rattle.store.specs.Contents.{entry_size}
 use Rattle.reporting.specs.Table.{capacity, holding}
 use Rattle.reporting.specs.Carried.{table_in}
 use Rattle.reporting.proofs.Unique.{one_carried}
@@ -18,11 +17,11 @@ change_width_once type_id r q e f = e ∙ sym f
 -- src/configuration.rt
 
 pub read_reporting_configuration_once : ReadReportingConfigurationOnce
-read_reporting_configuration_once store form table request body reply r q x y e f = only_answer (configuration_of (entry_size form) store (holding (table_in table)) request body (length reply)) r q x y e f
+read_reporting_configuration_once store table request body reply r q x y e f = only_answer (configuration_of 8 store (holding (table_in table)) request body (length reply)) r q x y e f
 
 -- src/configure.rt
 
 pub configure_reporting_once : ConfigureReportingOnce
-configure_reporting_once store form table request body reply r q x y t u a b e f =
-    let w = only_one (configure_of (entry_size form) capacity store (holding (table_in table)) request body (length reply)) r q x y (holding (table_in t)) (holding (table_in u)) e.1 f.1 in
+configure_reporting_once store table request body reply r q x y t u a b e f =
+    let w = only_one (configure_of 8 capacity store (holding (table_in table)) request body (length reply)) r q x y (holding (table_in t)) (holding (table_in u)) e.1 f.1 in
     (w.0, (w.1.0, one_carried t u a b e.0 f.0 w.1.1))

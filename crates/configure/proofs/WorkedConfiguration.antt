@@ -43,7 +43,7 @@ header =
 abbrev answer : ℕ → Outcome (Unit {0})
 answer room =
     configuration_of 8 contents
-    (holding (fresh (record { cluster = record { 0 = 0xfc21 }; code = record { 0 = 0 }; attribute = record { 0 = 5 } }) (record { min_interval = 0x0a; max_interval = 0x3c; reportable_change = 0x010032; unsigned = false }) ∷ []))
+    (holding (fresh (record { cluster = record { 0 = 0xfc21 }; attribute = record { 0 = 5 } }) (record { min_interval = 0x0a; max_interval = 0x3c; reportable_change = 0x010032; unsigned = false }) ∷ []))
     header
     (0x00 ∷ 0x05 ∷ 0x00 ∷ 0x00 ∷ 0x00 ∷ 0x00 ∷ 0x00 ∷ 0x01 ∷ 0x00 ∷ 0x01 ∷ 0x05 ∷ 0x00 ∷ 0x01 ∷ 0x09 ∷ 0x00 ∷ [])
     room

@@ -35,7 +35,7 @@ abbrev request : ZclHeader
 request = record { frame_control = record { 0 = 0 }; manufacturer_code = record { 0 = 0 }; sequence_number = 0x2d; command_identifier = record { 0 = 0x06 }; body = 3 }
 
 abbrev five : Key
-five = record { cluster = record { 0 = 0xfc21 }; code = record { 0 = 0 }; attribute = record { 0 = 5 } }
+five = record { cluster = record { 0 = 0xfc21 }; attribute = record { 0 = 5 } }
 
 -- an Int16's: it compares with a sign
 abbrev set_to : ℕ → ℕ → ℕ → ReportingConfig

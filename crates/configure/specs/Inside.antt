@@ -54,20 +54,20 @@ pub record Settles (deed : Deed) (before after : List ℕ) (status : Status) : T
 -- ---- the pass
 
 -- the record at a place was read and judged, or none could be read
-pub record Took (form : ℕ) (s : List ℕ) (request : ZclHeader) (body : List ℕ) (at end direction id : ℕ) (deed : Deed) : Type 0 where
+pub record Took (s : List ℕ) (request : ZclHeader) (body : List ℕ) (at end direction id : ℕ) (deed : Deed) : Type 0 where
   pub taken : ConfigureRecord
   pub is : configure_at body at ≡ item taken end
   pub named : (status : Status) → failure (status_code status) direction id ≡ failing status taken
-  pub judged : Judges (λ l. tried form capacity s request l taken) deed
+  pub judged : Judges (λ l. tried 8 capacity s request l taken) deed
 
-abbrev pub Turns : ℕ → List ℕ → ZclHeader → List ℕ → ℕ → Turn → Type 0
-Turns form s request body at (Turn.Read end direction id deed) = Took form s request body at end direction id.0 deed
-Turns form s request body at Turn.Cut = configure_at body at ≡ unread
+abbrev pub Turns : List ℕ → ZclHeader → List ℕ → ℕ → Turn → Type 0
+Turns s request body at (Turn.Read end direction id deed) = Took s request body at end direction id.0 deed
+Turns s request body at Turn.Cut = configure_at body at ≡ unread
 
 -- every record was done in the bytes of a table, behind whatever head the buffer showed
-pub record Runs (form : ℕ) (s : List ℕ) (request : ZclHeader) (body : List ℕ) (start : ℕ) (bs₀ d : List ℕ) (done : Pass) (bs after : List ℕ) : Type 0 where
+pub record Runs (s : List ℕ) (request : ZclHeader) (body : List ℕ) (start : ℕ) (bs₀ d : List ℕ) (done : Pass) (bs after : List ℕ) : Type 0 where
   pub table : is_table capacity bs ≡ true
-  pub passed : Passed (configuring form capacity s request) (configures body) start (table_in bs₀) d done (table_in bs) after
+  pub passed : Passed (configuring 8 capacity s request) (configures body) start (table_in bs₀) d done (table_in bs) after
 
 -- ---- 08
 
@@ -82,13 +82,13 @@ sought_by l r (Sought.Fails why) = SettingRecord.failure (status_code why) r.dir
 sought_by l r (Sought.Entry k t) = setting_by (lookup_l k l) r t.0
 
 -- it is what the definition wants, whatever the entries
-abbrev pub Seeks : ℕ → List ℕ → ZclHeader → ℕ → ℕ → Sought → Type 0
-Seeks form s request direction id x = (l : List Entry) → sought_by l (asked direction id) x ≡ record_for form s l request (asked direction id)
+abbrev pub Seeks : List ℕ → ZclHeader → ℕ → ℕ → Sought → Type 0
+Seeks s request direction id x = (l : List Entry) → sought_by l (asked direction id) x ≡ record_for 8 s l request (asked direction id)
 
 -- one that is asked was answered, from a table with these entries
-abbrev pub Answered : ℕ → List ℕ → List Entry → ZclHeader → ℕ → ℕ → List ℕ → ℕ → Put → List ℕ → Type 0
-Answered form s l request direction id d out r after = Turned encode (λ fit. record_for form s l request) (asked direction id) d out r after
+abbrev pub Answered : List ℕ → List Entry → ZclHeader → ℕ → ℕ → List ℕ → ℕ → Put → List ℕ → Type 0
+Answered s l request direction id d out r after = Turned encode (λ fit. record_for 8 s l request) (asked direction id) d out r after
 
 -- every one was
-abbrev pub AllAnswered : ℕ → List ℕ → List Entry → ZclHeader → List ℕ → List ℕ → ℕ → Answer → List ℕ → Type 0
-AllAnswered form s l request body d from r after = Walked encode (λ fit. record_for form s l request) (asked_at body) (length body) d from r after
+abbrev pub AllAnswered : List ℕ → List Entry → ZclHeader → List ℕ → List ℕ → ℕ → Answer → List ℕ → Type 0
+AllAnswered s l request body d from r after = Walked encode (λ fit. record_for 8 s l request) (asked_at body) (length body) d from r after

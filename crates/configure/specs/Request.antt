@@ -67,7 +67,7 @@ asked_at body p = up_to body (p + 3) (asked (get_or body p 0) (unsigned_at body 
 abbrev pub asked_from : List ℕ → ℕ → Records Asked
 asked_from body p = records_from (asked_at body) (length body) p
 
--- ---- the entry that a record speaks of: the store's cluster, the request's code, and the id
+-- ---- the entry that a record speaks of: the store's cluster, and the id
 
 abbrev pub key_for : List ℕ → ZclHeader → ℕ → Key
-key_for s request id = record { cluster = record { 0 = cluster_of s }; code = request.manufacturer_code; attribute = record { 0 = id } }
+key_for s request id = record { cluster = record { 0 = cluster_of s }; attribute = record { 0 = id } }

@@ -4,7 +4,6 @@ ghost use Rattle.std.proofs.Math.Option.{Option};
 ghost use Rattle.frame.specs.Status.{status_code};
 ghost use Rattle.frame.specs.Answer.{seen, no_state};
 ghost use Rattle.frame.specs.Inside.Buffer.{putting, put};
-ghost use Rattle.store.specs.Contents.{entry_size};
 ghost use Rattle.reporting.specs.declared.entry.Entry.{Entry};
 ghost use Rattle.reporting.specs.Table.{capacity, holding, setting_told, setting_o};
 ghost use Rattle.reporting.specs.Carried.{table_in, is_table};
@@ -22,7 +21,6 @@ use frame::status::Status;
 use reporting::entry::ReportingConfig;
 use reporting::lent::configuration_in;
 use reporting::table::Setting;
-use store::form::Form;
 use types::ids::{AttributeId, TypeId};
 use types::number::{byte_at, le_bytes, u16_at};
 
@@ -119,7 +117,6 @@ fn put_found(
 // One that is asked: a failure, or what the table gives.
 fn configuration_turn(
     store: &[u8],
-    form: Form,
     table: &[u8],
     request: ZclHeader,
     direction: u8,
@@ -128,9 +125,9 @@ fn configuration_turn(
     out: usize,
 ) -> Put
     requires { is_table capacity table.now ≡ true }
-    ensures { Answered (entry_size form) store.now (table_in table.now) request direction id.0 reply.old out result reply.new }
+    ensures { Answered store.now (table_in table.now) request direction id.0 reply.old out result reply.new }
 {
-    let sought = seek(store, form, request, direction, id);
+    let sought = seek(store, request, direction, id);
     match sought {
         Sought::Fails(why) => put_failure(reply, out, why, direction, id),
         Sought::Entry(key, type_id) => {
@@ -143,7 +140,6 @@ fn configuration_turn(
 // Every record of the body, behind a header that ends at `from`. The walk stops without error at the first record that does not fit.
 fn configuration_records(
     store: &[u8],
-    form: Form,
     table: &[u8],
     request: ZclHeader,
     body: &[u8],
@@ -151,7 +147,7 @@ fn configuration_records(
     from: usize,
 ) -> Answer
     requires { is_table capacity table.now ≡ true }
-    ensures { AllAnswered (entry_size form) store.now (table_in table.now) request body.now reply.old from result reply.new }
+    ensures { AllAnswered store.now (table_in table.now) request body.now reply.old from result reply.new }
 {
     let mut at: usize = 0;
     let mut out = from;
@@ -159,7 +155,7 @@ fn configuration_records(
         let NextAsked::Asked(direction, id, next) = next_asked(body, at) else {
             return refuse(reply, Refusal::RecordCut);
         };
-        let put = configuration_turn(store, form, table, request, direction, id, reply, out);
+        let put = configuration_turn(store, table, request, direction, id, reply, out);
         let Put::At(o) = put else {
             return Answer::Reply(out);
         };
@@ -173,14 +169,13 @@ fn configuration_records(
 // point: whoever serves a frame has checked the store, and that the bytes are a table.
 pub fn read_reporting_configuration(
     store: &[u8],
-    form: Form,
     table: &[u8],
     request: ZclHeader,
     body: &[u8],
     reply: &mut [u8],
 ) -> Answer
     requires { is_table capacity table.now ≡ true }
-    ensures { seen result reply.new no_state ≡ configuration_of (entry_size form) store.now (holding (table_in table.now)) request body.now (length reply.old) }
+    ensures { seen result reply.new no_state ≡ configuration_of 8 store.now (holding (table_in table.now)) request body.now (length reply.old) }
 {
     clear(reply);
     let put = write_response_header(
@@ -191,5 +186,5 @@ pub fn read_reporting_configuration(
     let Put::At(from) = put else {
         return Answer::Refused(Refusal::ReplyTooLong);
     };
-    configuration_records(store, form, table, request, body, reply, from)
+    configuration_records(store, table, request, body, reply, from)
 }

@@ -7,14 +7,12 @@ use reporting::entry::Key;
 use store::lookup::cluster_of;
 use types::ids::AttributeId;
 
-// The store's cluster, the request's code, and the id.
+// The store's cluster, and the id.
 pub(crate) fn key_for(store: &[u8], request: ZclHeader, id: AttributeId) -> Key
     ensures { result ≡ key_for store.now request id.0 }
 {
-    let code = request.manufacturer_code;
     Key {
         cluster: cluster_of(store),
-        code,
         attribute: id,
     }
 }

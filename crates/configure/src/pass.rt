@@ -3,7 +3,6 @@ ghost use Rattle.std.specs.Prelude.{◌≡◌, true};
 ghost use Rattle.frame.specs.Status.{status_code};
 ghost use Rattle.frame.specs.Inside.Buffer.{putting};
 ghost use Rattle.frame.specs.Inside.Failures.{noting};
-ghost use Rattle.store.specs.Contents.{entry_size};
 ghost use Rattle.reporting.specs.Table.{capacity};
 ghost use Rattle.reporting.specs.Carried.{is_table};
 ghost use Rattle.configure.specs.Configure.{failure, encode};
@@ -16,7 +15,6 @@ use frame::header::ZclHeader;
 use frame::reply::Put;
 use frame::status::Status;
 use reporting::lent::{clear_in, configure_in};
-use store::form::Form;
 use types::ids::AttributeId;
 
 // A record, where the next one starts, and what is to be done; or none that can be read.
@@ -32,8 +30,8 @@ enum Turn {
 }
 
 // One record read and judged.
-fn configure_turn(store: &[u8], form: Form, request: ZclHeader, body: &[u8], at: usize) -> Turn
-    ensures { Turns (entry_size form) store.now request body.now at result }
+fn configure_turn(store: &[u8], request: ZclHeader, body: &[u8], at: usize) -> Turn
+    ensures { Turns store.now request body.now at result }
 {
     let next = next_record(body, at);
     match next {
@@ -52,7 +50,7 @@ fn configure_turn(store: &[u8], form: Form, request: ZclHeader, body: &[u8], at:
             end,
             direction: DIRECTION_REPORTED,
             id,
-            deed: judge(store, form, request, id, type_id, config),
+            deed: judge(store, request, id, type_id, config),
         },
         Next::Cut => Turn::Cut,
     }
@@ -90,7 +88,6 @@ fn done(table: &mut [u8], deed: Deed) -> Status
 // Every record of the body, its failures listed from `start` on, until one cannot be read or does not fit.
 pub(crate) fn configure_records(
     store: &[u8],
-    form: Form,
     table: &mut [u8],
     request: ZclHeader,
     body: &[u8],
@@ -98,12 +95,12 @@ pub(crate) fn configure_records(
     start: usize,
 ) -> Pass
     requires { is_table capacity table.old ≡ true }
-    ensures { Runs (entry_size form) store.now request body.now start table.old reply.old result table.new reply.new }
+    ensures { Runs store.now request body.now start table.old reply.old result table.new reply.new }
 {
     let mut at: usize = 0;
     let mut out = start;
     while at < body.len() {
-        let turn = configure_turn(store, form, request, body, at);
+        let turn = configure_turn(store, request, body, at);
         let Turn::Read {
             end,
             direction,

@@ -1,5 +1,4 @@
 // What Read Reporting Configuration looks up in the table, judged by the store alone: the table is asked in one place.
-ghost use Rattle.store.specs.Contents.{entry_size};
 ghost use Rattle.configure.specs.Inside.{Seeks};
 
 use super::key::key_for;
@@ -7,7 +6,6 @@ use super::record::DIRECTION_REPORTED;
 use frame::header::ZclHeader;
 use frame::status::Status;
 use reporting::entry::Key;
-use store::form::Form;
 use store::lookup::{Found, find, is_reportable, name_of};
 use types::ids::{AttributeId, TypeId};
 
@@ -19,17 +17,11 @@ pub(crate) enum Sought {
 }
 
 // By the store alone: 86, 8c, 8c, or the entry, and the type beside which it is sent.
-pub(crate) fn seek(
-    store: &[u8],
-    form: Form,
-    request: ZclHeader,
-    direction: u8,
-    id: AttributeId,
-) -> Sought
-    ensures { Seeks (entry_size form) store.now request direction id.0 result }
+pub(crate) fn seek(store: &[u8], request: ZclHeader, direction: u8, id: AttributeId) -> Sought
+    ensures { Seeks store.now request direction id.0 result }
 {
     let name = name_of(request.manufacturer_code, id);
-    let Found::At(a) = find(store, form, name) else {
+    let Found::At(a) = find(store, name) else {
         return Sought::Fails(Status::UnsupportedAttribute);
     };
     if direction != DIRECTION_REPORTED {

@@ -1,6 +1,6 @@
 // One configuration: what is to be done with the table, judged without it.
 ghost use Rattle.std.specs.Prelude.{◌≡◌};
-ghost use Rattle.store.specs.Contents.{entry_size, name_of, find_of};
+ghost use Rattle.store.specs.Contents.{name_of, find_of};
 ghost use Rattle.reporting.specs.Table.{capacity, change_told};
 ghost use Rattle.reporting.specs.declared.entry.Wish.TheVariants.{ToSet};
 ghost use Rattle.reporting.specs.Wish.{status_w};
@@ -13,7 +13,6 @@ use frame::header::ZclHeader;
 use frame::status::Status;
 use reporting::entry::{Key, ReportingConfig, Wish};
 use reporting::table::Change;
-use store::form::Form;
 use store::lookup::{Found, find, is_reportable, name_of};
 use types::ids::{AttributeId, TypeId};
 
@@ -39,16 +38,15 @@ fn wished(key: Key, config: ReportingConfig) -> Deed
 // Checks a configuration against the store, and then its intervals: 86, 8c, 8d, 87.
 pub(crate) fn judge(
     store: &[u8],
-    form: Form,
     request: ZclHeader,
     id: AttributeId,
     type_id: TypeId,
     config: ReportingConfig,
 ) -> Deed
-    ensures { Judges (λ l. checked (find_of (entry_size form) store.now (name_of request.manufacturer_code.0 id.0)) type_id.0 l (setting capacity (key_for store.now request id.0) config l)) result }
+    ensures { Judges (λ l. checked (find_of 8 store.now (name_of request.manufacturer_code.0 id.0)) type_id.0 l (setting capacity (key_for store.now request id.0) config l)) result }
 {
     let name = name_of(request.manufacturer_code, id);
-    let Found::At(a) = find(store, form, name) else {
+    let Found::At(a) = find(store, name) else {
         return Deed::Fails(Status::UnsupportedAttribute);
     };
     if !is_reportable(a) {

@@ -8,75 +8,52 @@ use native.Mathlib.Omega.{arith}
 use lib.ListN.{length, take, length-take}
 use lib.Seq.{take_all}
 use lib.Dec.{eqb}
-use borrow.Author.Tests.{le-leb, lt-leb, eqb-true, eqb-false, eq-eqb, ne_eqb}
+use borrow.Author.Tests.{le-leb, lt-leb, eqb-true, eq-eqb, ne_eqb}
 use Rattle.types.specs.Number.{bytes_of}
 use Rattle.frame.specs.Encoded.{encode_all}
 use Rattle.store.specs.declared.lookup.Attribute.{Attribute}
-use Rattle.store.specs.Contents.{count_of, attribute_at, attributes_from, attributes_of, code_of, id_of, of_code}
+use Rattle.store.specs.Contents.{count_of, attribute_at, attributes_from, attributes_of}
 use Rattle.store.proofs.Scan.{from_next, from_end}
 use Rattle.discover.specs.Discover.{Discovered, encode, at_or_after, listed, complete_byte, discovered_all}
-use Rattle.discover.specs.Inside.{asked, records_of}
-use Rattle.store.proofs.OfCode.{of_code_take, of_code_skip}
+use Rattle.discover.specs.Inside.{records_of}
 
 -- ---- the scan from number i on
 
 module _ (start : ℕ) (a : Attribute) (more : List Attribute) where
-  after_take : start ≤ id_of a → at_or_after start (a ∷ more) ≡ a ∷ at_or_after start more
+  after_take : start ≤ a.name.0 → at_or_after start (a ∷ more) ≡ a ∷ at_or_after start more
   unfolding at_or_after
-  after_take h = ap (λ (b : Bool). cond b (a ∷ at_or_after start more) (at_or_after start more)) (le-leb start (id_of a) h)
+  after_take h = ap (λ (b : Bool). cond b (a ∷ at_or_after start more) (at_or_after start more)) (le-leb start a.name.0 h)
 
-  after_skip : id_of a < start → at_or_after start (a ∷ more) ≡ at_or_after start more
+  after_skip : a.name.0 < start → at_or_after start (a ∷ more) ≡ at_or_after start more
   unfolding at_or_after
-  after_skip h = ap (λ (b : Bool). cond b (a ∷ at_or_after start more) (at_or_after start more)) (lt-leb start (id_of a) h)
+  after_skip h = ap (λ (b : Bool). cond b (a ∷ at_or_after start more) (at_or_after start more)) (lt-leb start a.name.0 h)
 
--- an attribute is asked for: it has the code, and its id is at or after the start
-abbrev pub Asked : ℕ → ℕ → Attribute → Type 0
-Asked code start a = (code_of a ≡ code) × (start ≤ id_of a)
+abbrev pub onward : List ℕ → ℕ → ℕ → ℕ → List Attribute
+onward s n start i = at_or_after start (attributes_from 8 s (n - i) i)
 
--- it is passed: its id, if it has the code, is before the start
-abbrev pub Passed : ℕ → ℕ → Attribute → Type 0
-Passed code start a = code_of a ≡ code → id_of a < start
-
-module _ (code start : ℕ) (a : Attribute) (more : List Attribute) where
-  asked_take : Asked code start a → at_or_after start (of_code code (a ∷ more)) ≡ a ∷ at_or_after start (of_code code more)
-  asked_take h = ap (at_or_after start) (of_code_take code a more h.0) ∙ after_take start a (of_code code more) h.1
-
-  asked_skip : Passed code start a → at_or_after start (of_code code (a ∷ more)) ≡ at_or_after start (of_code code more)
-  asked_skip h = go (eqb (code_of a) code) refl
-    where
-      go : (b : Bool) → eqb (code_of a) code ≡ b → at_or_after start (of_code code (a ∷ more)) ≡ at_or_after start (of_code code more)
-      go true q = let e : code_of a ≡ code = eqb-true (code_of a) code q in ap (at_or_after start) (of_code_take code a more e) ∙ after_skip start a (of_code code more) (h e)
-      go false q = ap (at_or_after start) (of_code_skip code a more (eqb-false (code_of a) code q))
-
-abbrev pub onward : ℕ → List ℕ → ℕ → ℕ → ℕ → ℕ → List Attribute
-onward form s n code start i = at_or_after start (of_code code (attributes_from form s (n - i) i))
-
-module _ (form : ℕ) (s : List ℕ) (n code start : ℕ) where
+module _ (s : List ℕ) (n start : ℕ) where
   -- the scan from the start is the definition's
-  pub onward_all : n ≡ count_of s → onward form s n code start 0 ≡ asked form s code start
+  pub onward_all : n ≡ count_of s → onward s n start 0 ≡ at_or_after start (attributes_of 8 s)
   unfolding attributes_of
-  onward_all e = let z : n - 0 ≡ count_of s = omega arith in ap (λ (k : ℕ). at_or_after start (of_code code (attributes_from form s k 0))) z
+  onward_all e = let z : n - 0 ≡ count_of s = omega arith in ap (λ (k : ℕ). at_or_after start (attributes_from 8 s k 0)) z
 
   module _ (i : ℕ) where
     -- none is left
-    pub onward_end : n ≤ i → onward form s n code start i ≡ []
-    unfolding at_or_after of_code
-    onward_end h = ap (λ (l : List Attribute). at_or_after start (of_code code l)) (from_end form s n i h)
+    pub onward_end : n ≤ i → onward s n start i ≡ []
+    unfolding at_or_after
+    onward_end h = ap (at_or_after start) (from_end 8 s n i h)
 
-    module _ (a : Attribute) (h : i < n) (is : a ≡ attribute_at form s i) where
-      abbrev rest : List Attribute
-      rest = attributes_from form s (n - (i + 1)) (i + 1)
+    module _ (a : Attribute) (h : i < n) (is : a ≡ attribute_at 8 s i) where
+      next : onward s n start i ≡ at_or_after start (a ∷ attributes_from 8 s (n - (i + 1)) (i + 1))
+      next = ap (at_or_after start) (from_next 8 s n i h ∙ ap (λ (x : Attribute). x ∷ attributes_from 8 s (n - (i + 1)) (i + 1)) (sym is))
 
-      next : onward form s n code start i ≡ at_or_after start (of_code code (a ∷ rest))
-      next = ap (λ (l : List Attribute). at_or_after start (of_code code l)) (from_next form s n i h ∙ ap (λ (x : Attribute). x ∷ rest) (sym is))
+      -- the next one is at or after the start
+      pub onward_take : start ≤ a.name.0 → onward s n start i ≡ a ∷ onward s n start (i + 1)
+      onward_take k = next ∙ after_take start a (attributes_from 8 s (n - (i + 1)) (i + 1)) k
 
-      -- the next one is asked for
-      pub onward_take : Asked code start a → onward form s n code start i ≡ a ∷ onward form s n code start (i + 1)
-      onward_take k = next ∙ asked_take code start a rest k
-
-      -- or it is not
-      pub onward_skip : Passed code start a → onward form s n code start i ≡ onward form s n code start (i + 1)
-      onward_skip k = next ∙ asked_skip code start a rest k
+      -- or it is before it
+      pub onward_skip : a.name.0 < start → onward s n start i ≡ onward s n start (i + 1)
+      onward_skip k = next ∙ after_skip start a (attributes_from 8 s (n - (i + 1)) (i + 1)) k
 
 -- ---- how many
 

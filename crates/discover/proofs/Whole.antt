@@ -18,17 +18,18 @@ use Rattle.frame.specs.declared.answer.Refusal.TheVariants.{RecordCut, ReplyTooL
 use Rattle.frame.proofs.Buffer.{PutAt, shows_cleared, shows_put, shows_full}
 use Rattle.frame.proofs.Outcome.{seen_reply, seen_refused}
 use Rattle.store.specs.declared.lookup.Attribute.{Attribute}
-use Rattle.discover.specs.Discover.{listed, complete_byte, discover_reply, discover_of}
-use Rattle.discover.specs.Inside.{asked, records_of, Fills, list_of, Lists}
+use Rattle.store.specs.Contents.{name_of, attributes_of}
+use Rattle.discover.specs.Discover.{at_or_after, listed, complete_byte, discover_reply, discover_of}
+use Rattle.discover.specs.Inside.{records_of, Fills, list_of, Lists}
 use Rattle.discover.proofs.Choice.{listed_within}
 
-module _ (form : ℕ) (s : List ℕ) (request : ZclHeader) (body : List ℕ) (room : ℕ) where
+module _ (s : List ℕ) (request : ZclHeader) (body : List ℕ) (room : ℕ) where
   abbrev head : List ℕ
   head = reply_head request DiscoverAttributesResponse
 
-  -- those of the request's code at or after the start, and those of them that are listed
+  -- those at or after the start, and those of them that are listed
   abbrev pub all : List Attribute
-  all = asked form s request.manufacturer_code.0 (unsigned_at body 0 2)
+  all = at_or_after (name_of request.manufacturer_code.0 (unsigned_at body 0 2)) (attributes_of 8 s)
 
   abbrev pub some : List Attribute
   some = listed 3 (room - (length head + 1)) (get_or body 2 0) all
@@ -37,12 +38,12 @@ module _ (form : ℕ) (s : List ℕ) (request : ZclHeader) (body : List ℕ) (ro
   whole = head ++ complete_byte all some ∷ records_of some
 
   -- a body without start and maximum
-  pub discover_cut : (d : List ℕ) → d ≡ zeros room → length body < 3 → seen (Refused RecordCut) d no_state ≡ discover_of form s request body room
+  pub discover_cut : (d : List ℕ) → d ≡ zeros room → length body < 3 → seen (Refused RecordCut) d no_state ≡ discover_of 8 s request body room
   unfolding discover_of
   discover_cut d z h = seen_refused room d RecordCut no_state z ∙ rw (lt-leb 3 (length body) h)
 
   module _ (h : 3 ≤ length body) where
-    by_body : discover_reply room head all (get_or body 2 0) ≡ discover_of form s request body room
+    by_body : discover_reply room head all (get_or body 2 0) ≡ discover_of 8 s request body room
     unfolding discover_of
     by_body = rw (le-leb 3 (length body) h)
 
@@ -67,7 +68,7 @@ module _ (form : ℕ) (s : List ℕ) (request : ZclHeader) (body : List ℕ) (ro
       len = ap length z ∙ length-replicate room 0
 
       -- it does not fit
-      pub discover_headless : r₁ ≡ Full → seen (Refused ReplyTooLong) d₁ no_state ≡ discover_of form s request body room
+      pub discover_headless : r₁ ≡ Full → seen (Refused ReplyTooLong) d₁ no_state ≡ discover_of 8 s request body room
       discover_headless q =
           let w = shows_full d₀ 0 [] head r₁ d₁ (shows_cleared room d₀ z) p q in
           let l : length d₀ ≡ room = len in
@@ -84,16 +85,16 @@ module _ (form : ℕ) (s : List ℕ) (request : ZclHeader) (body : List ℕ) (ro
         pub room_is : length d₁ ≡ room
         room_is = headed.same ∙ len
 
-        refused_as : (d : List ℕ) → length d ≡ room → room < length head + 1 → refused (length d) ReplyTooLong no_state ≡ discover_of form s request body room
+        refused_as : (d : List ℕ) → length d ≡ room → room < length head + 1 → refused (length d) ReplyTooLong no_state ≡ discover_of 8 s request body room
         refused_as d l k = ap (λ (m : ℕ). refused m ReplyTooLong no_state) l ∙ too_long k ∙ by_body
 
         -- it fits, but nothing behind it
-        pub discover_full : length d₁ ≤ from → refused (length d₁) ReplyTooLong no_state ≡ discover_of form s request body room
+        pub discover_full : length d₁ ≤ from → refused (length d₁) ReplyTooLong no_state ≡ discover_of 8 s request body room
         discover_full k = refused_as d₁ room_is (omega (arith, room_is, from_is))
 
         -- the numbers that the code has of the list, and the list put behind the header
-        module _ (start m n : ℕ) (es : start ≡ unsigned_at body 0 2) (em : m ≡ get_or body 2 0) (en : n ≡ min m ((length d₁ - from - 1) / 3))
-            (k : from < length d₁) (r₂ : Put) (d₂ : List ℕ) (lists : Lists form s request.manufacturer_code.0 start n d₁ from r₂ d₂) where
+        module _ (start m n : ℕ) (es : start ≡ name_of request.manufacturer_code.0 (unsigned_at body 0 2)) (em : m ≡ get_or body 2 0) (en : n ≡ min m ((length d₁ - from - 1) / 3))
+            (k : from < length d₁) (r₂ : Put) (d₂ : List ℕ) (lists : Lists s start n d₁ from r₂ d₂) where
           taken : take n all ≡ some
           unfolding listed
           taken =
@@ -103,22 +104,22 @@ module _ (form : ℕ) (s : List ℕ) (request : ZclHeader) (body : List ℕ) (ro
           room_left : length head + 1 ≤ room
           room_left = omega (arith, room_is, from_is)
 
-          shown : head ++ list_of (asked form s request.manufacturer_code.0 start) n ≡ whole
+          shown : head ++ list_of (at_or_after start (attributes_of 8 s)) n ≡ whole
           shown =
-              ap (λ (i : ℕ). head ++ list_of (asked form s request.manufacturer_code.0 i) n) es ∙ ap (λ (l : List Attribute). head ++ complete_byte all l ∷ records_of l) taken
+              ap (λ (i : ℕ). head ++ list_of (at_or_after i (attributes_of 8 s)) n) es ∙ ap (λ (l : List Attribute). head ++ complete_byte all l ∷ records_of l) taken
 
           fills : (r : Put) → r₂ ≡ r → Fills whole room r d₂
           fills r e =
               subst (λ (x : Put). Fills whole room x d₂) e
-              (subst (λ (l : List ℕ). Fills l room r₂ d₂) shown (subst (λ (i : ℕ). Fills (head ++ list_of (asked form s request.manufacturer_code.0 start) n) i r₂ d₂) room_is (lists head headed.shows)))
+              (subst (λ (l : List ℕ). Fills l room r₂ d₂) shown (subst (λ (i : ℕ). Fills (head ++ list_of (at_or_after start (attributes_of 8 s)) n) i r₂ d₂) room_is (lists head headed.shows)))
 
           -- there was room for the list
-          pub discover_listless : r₂ ≡ Full → refused (length d₂) ReplyTooLong no_state ≡ discover_of form s request body room
+          pub discover_listless : r₂ ≡ Full → refused (length d₂) ReplyTooLong no_state ≡ discover_of 8 s request body room
           discover_listless e =
               let w : room < length whole = fills Full e in
               absurd (omega (arith, whole_within room_left))
 
           -- all is put
-          pub discover_listed : (o : ℕ) → r₂ ≡ At o → length d₂ ≡ length d₁ → seen (Reply o) d₂ no_state ≡ discover_of form s request body room
+          pub discover_listed : (o : ℕ) → r₂ ≡ At o → length d₂ ≡ length d₁ → seen (Reply o) d₂ no_state ≡ discover_of 8 s request body room
           discover_listed o e l =
               seen_reply room d₂ o whole no_state (fills (At o) e) (l ∙ room_is) ∙ fits_in room_left ∙ by_body

@@ -5,14 +5,10 @@ use Rattle.frame.specs.declared.reply.Put.TheVariants.{At, Full}
 use Rattle.frame.specs.Inside.Buffer.{Shows}
 use Rattle.frame.specs.Encoded.{encode_all}
 use Rattle.store.specs.declared.lookup.Attribute.{Attribute}
-use Rattle.store.specs.Contents.{attributes_of, of_code}
+use Rattle.store.specs.Contents.{attributes_of}
 use Rattle.discover.specs.declared.attributes.Listing.{Listing}
 use Rattle.discover.specs.declared.attributes.Listing.TheVariants.{All, Part, NoRoom}
 use Rattle.discover.specs.Discover.{encode, at_or_after, complete_byte, discovered_all}
-
--- the attributes of a code at or after an id
-abbrev pub asked : ℕ → List ℕ → ℕ → ℕ → List Attribute
-asked form s code start = at_or_after start (of_code code (attributes_of form s))
 
 -- the bytes of attributes' records
 abbrev pub records_of : List Attribute → List ℕ
@@ -34,15 +30,15 @@ Scanned all wanted shown room NoRoom after = room < length shown
 abbrev pub Puts : List Attribute → ℕ → List ℕ → ℕ → Listing → List ℕ → Type 0
 Puts all wanted d from r after = (before : List ℕ) → Shows d from before → Scanned all wanted (before ++ records_of (take wanted all)) (length d) r after
 
--- of those of a code at or after an id
-abbrev pub Ends : ℕ → List ℕ → ℕ → ℕ → ℕ → List ℕ → ℕ → Listing → List ℕ → Type 0
-Ends form s code start wanted d from r after = Puts (asked form s code start) wanted d from r after
+-- of those at or after a name
+abbrev pub Ends : List ℕ → ℕ → ℕ → List ℕ → ℕ → Listing → List ℕ → Type 0
+Ends s start wanted d from r after = Puts (at_or_after start (attributes_of 8 s)) wanted d from r after
 
 -- the complete byte, and the records of so many of these attributes
 abbrev pub list_of : List Attribute → ℕ → List ℕ
 list_of all wanted = complete_byte all (take wanted all) ∷ records_of (take wanted all)
 
--- so many attributes of a code at or after an id were listed, behind whatever the buffer showed
-abbrev pub Lists : ℕ → List ℕ → ℕ → ℕ → ℕ → List ℕ → ℕ → Put → List ℕ → Type 0
-Lists form s code start wanted d from r after =
-    (before : List ℕ) → Shows d from before → Fills (before ++ list_of (asked form s code start) wanted) (length d) r after
+-- so many attributes at or after a name were listed, behind whatever the buffer showed
+abbrev pub Lists : List ℕ → ℕ → ℕ → List ℕ → ℕ → Put → List ℕ → Type 0
+Lists s start wanted d from r after =
+    (before : List ℕ) → Shows d from before → Fills (before ++ list_of (at_or_after start (attributes_of 8 s)) wanted) (length d) r after

@@ -1,25 +1,23 @@
-// Discover Attributes: the attributes of the request's code from a start on, up to a maximum or the room, and whether these are all.
+// Discover Attributes: the attributes from a start on, up to a maximum or the room, and whether these are all.
 ghost use Rattle.std.specs.Prelude.{◌≡◌, ◌/◌, min, length};
 ghost use Rattle.frame.specs.Answer.{seen, no_state};
 ghost use Rattle.frame.specs.Inside.Buffer.{putting, put};
-ghost use Rattle.store.specs.Contents.{entry_size};
 ghost use Rattle.discover.specs.Discover.{encode, discovered, discover_of};
 ghost use Rattle.discover.specs.Inside.{Ends, Lists};
 
 use frame::answer::{Answer, Refusal, refuse};
 use frame::command_identifier::CommandIdentifier;
-use frame::header::{ManufacturerCode, ZclHeader, write_response_header};
+use frame::header::{ZclHeader, write_response_header};
 use frame::reply::{Put, clear, put_byte, put_run};
-use store::form::Form;
-use store::lookup::{Attribute, attribute_at, count_of, id_of, name_of};
+use store::lookup::{Attribute, Name, attribute_at, count_of, name_of};
 use types::ids::AttributeId;
 use types::number::{byte_at, u16_at};
 
 // The size of a record of the reply: id and type.
 const RECORD: usize = 3;
 
-// What a scan has put: the records of all attributes of a code at or after an id, or of as many as were wanted where there are
-// more; or they did not fit.
+// What a scan has put: the records of all attributes at or after a name, or of as many as were wanted where there are more; or they
+// did not fit.
 #[derive(Drop)]
 enum Listing {
     All(usize),
@@ -44,36 +42,24 @@ fn listed(maximum: u8, room: usize) -> usize
 fn put_record(reply: &mut [u8], out: usize, a: Attribute) -> Put
     ensures { putting result reply.new ≡ put reply.old out (encode (discovered a)) }
 {
-    let id = id_of(a);
-    let n = id.0;
-    let type_id = a.type_id;
-    let three = [(n % 256) as u8, (n / 256 % 256) as u8, type_id.0];
+    let n = a.name.0;
+    let code = a.type_id;
+    let three = [(n % 256) as u8, (n / 256 % 256) as u8, code.0];
     put_run(reply, out, &three)
 }
 
-// Puts the records of so many attributes of a code at or after an id. One more ends the scan: there is no second one that counts
-// them. Names are in the order of code and id, so two compares tell whether one is asked for, and none is taken apart.
-fn put_records(
-    store: &[u8],
-    form: Form,
-    code: ManufacturerCode,
-    start: AttributeId,
-    wanted: usize,
-    reply: &mut [u8],
-    from: usize,
-) -> Listing
-    ensures { Ends (entry_size form) store.now code.0 start.0 wanted reply.old from result reply.new }
+// Puts the records of so many attributes at or after a name. One more ends the scan: there is no second one that counts them.
+fn put_records(store: &[u8], start: Name, wanted: usize, reply: &mut [u8], from: usize) -> Listing
+    ensures { Ends store.now start.0 wanted reply.old from result reply.new }
 {
-    let first = name_of(code, start);
-    let last = name_of(code, AttributeId(0xffff));
     let n = count_of(store);
     let mut left = wanted;
     let mut out = from;
     let mut i: u16 = 0;
     while i < n {
-        let a = attribute_at(store, form, i);
+        let a = attribute_at(store, i);
         let name = a.name;
-        if first.0 <= name.0 && name.0 <= last.0 {
+        if start.0 <= name.0 {
             if left == 0 {
                 return Listing::Part(out);
             }
@@ -89,21 +75,13 @@ fn put_records(
 }
 
 // Puts the complete byte and the records behind it. The byte is 1 until the scan has met an attribute that is left out.
-fn put_list(
-    store: &[u8],
-    form: Form,
-    code: ManufacturerCode,
-    start: AttributeId,
-    wanted: usize,
-    reply: &mut [u8],
-    from: usize,
-) -> Put
-    ensures { Lists (entry_size form) store.now code.0 start.0 wanted reply.old from result reply.new }
+fn put_list(store: &[u8], start: Name, wanted: usize, reply: &mut [u8], from: usize) -> Put
+    ensures { Lists store.now start.0 wanted reply.old from result reply.new }
 {
     let Put::At(first) = put_byte(reply, from, 1) else {
         return Put::Full;
     };
-    let listing = put_records(store, form, code, start, wanted, reply, first);
+    let listing = put_records(store, start, wanted, reply, first);
     match listing {
         Listing::All(out) => Put::At(out),
         Listing::Part(out) => {
@@ -117,19 +95,17 @@ fn put_list(
 // Discover Attributes. The store may be any bytes; whoever serves a frame has checked it.
 pub fn discover_attributes(
     store: &[u8],
-    form: Form,
     request: ZclHeader,
     body: &[u8],
     reply: &mut [u8],
 ) -> Answer
-    ensures { seen result reply.new no_state ≡ discover_of (entry_size form) store.now request body.now (length reply.old) }
+    ensures { seen result reply.new no_state ≡ discover_of 8 store.now request body.now (length reply.old) }
 {
     clear(reply);
     if body.len() < 3 {
         return Answer::Refused(Refusal::RecordCut);
     }
-    let code = request.manufacturer_code;
-    let start = AttributeId(u16_at(body, 0));
+    let start = name_of(request.manufacturer_code, AttributeId(u16_at(body, 0)));
     let put = write_response_header(
         reply,
         request,
@@ -142,7 +118,7 @@ pub fn discover_attributes(
         return refuse(reply, Refusal::ReplyTooLong);
     }
     let wanted = listed(byte_at(body, 2), reply.len() - from - 1);
-    let Put::At(out) = put_list(store, form, code, start, wanted, reply, from) else {
+    let Put::At(out) = put_list(store, start, wanted, reply, from) else {
         return refuse(reply, Refusal::ReplyTooLong);
     };
     Answer::Reply(out)

@@ -15,7 +15,7 @@ use Rattle.frame.specs.declared.status.Status.{Status}
 use Rattle.frame.specs.declared.status.Status.TheVariants.{Success, UnsupCommand, UnsupportedAttribute, InvalidValue, ReadOnly, InsufficientSpace, NotFound, UnreportableAttribute, InvalidDataType, UnsupportedCluster}
 use Rattle.frame.specs.Answer.{refusal_number}
 use Rattle.frame.specs.declared.answer.Refusal.{Refusal}
-use Rattle.frame.specs.declared.answer.Refusal.TheVariants.{OtherCluster, HeaderShort, ReservedFrameType, RecordCut, ReplyTooLong, NothingToSend, NotAStore, NotATable, NoNumber, NotSuchAReply, EmptyReport, NotReportable, NotASavedForm, CannotGoBack}
+use Rattle.frame.specs.declared.answer.Refusal.TheVariants.{OtherCluster, HeaderShort, ReservedFrameType, RecordCut, ReplyTooLong, NothingToSend, NotAStore, NotATable, NoNumber, NotSuchAReply, EmptyReport, NotReportable, NotASavedForm}
 
 -- ---- commands
 
@@ -25,17 +25,17 @@ unfolding command_of
 other_of b h = get_or-eq_default commands (Other b) h
 
 -- the command of a code has that code
-pub code-of : (b : ℕ) → command_code (command_of b) ≡ b
+pub code_of : (b : ℕ) → command_code (command_of b) ≡ b
 unfolding command_of
-code-of b = go (ltb b 14) refl
+code_of b = go (ltb b 14) refl
   where
     go : (x : Bool) → ltb b 14 ≡ x → command_code (command_of b) ≡ b
     go true e = eqb→eq _ b (by_run (λ k. eqb (command_code (command_of k)) k) 0 14 tt b (omega arith) (ltb-true b 14 e))
     go false e = ap command_code (other_of b (ltb-false b 14 e))
 
 -- a command that a code stands for is the command of its code
-pub of-code : (b : ℕ) → command_of (command_code (command_of b)) ≡ command_of b
-of-code b = ap command_of (code-of b)
+pub of_code : (b : ℕ) → command_of (command_code (command_of b)) ≡ command_of b
+of_code b = ap command_of (code_of b)
 
 -- ---- statuses and refusals
 
@@ -77,7 +77,7 @@ status_zero s e = status_same s Success e
 -- every refusal but the first, likewise
 abbrev refusals : List Refusal
 refusals =
-    HeaderShort ∷ ReservedFrameType ∷ RecordCut ∷ ReplyTooLong ∷ NothingToSend ∷ NotAStore ∷ NotATable ∷ NoNumber ∷ NotSuchAReply ∷ EmptyReport ∷ NotReportable ∷ NotASavedForm ∷ CannotGoBack ∷ []
+    HeaderShort ∷ ReservedFrameType ∷ RecordCut ∷ ReplyTooLong ∷ NothingToSend ∷ NotAStore ∷ NotATable ∷ NoNumber ∷ NotSuchAReply ∷ EmptyReport ∷ NotReportable ∷ NotASavedForm ∷ []
 
 refusal_back : (w : Refusal) → named refusal_number OtherCluster refusals (refusal_number w) ≡ w
 refusal_back OtherCluster = refl
@@ -93,7 +93,6 @@ refusal_back NotSuchAReply = refl
 refusal_back EmptyReport = refl
 refusal_back NotReportable = refl
 refusal_back NotASavedForm = refl
-refusal_back CannotGoBack = refl
 
 -- two refusals with one number are one refusal
 pub refusal_same : (v w : Refusal) → refusal_number v ≡ refusal_number w → v ≡ w

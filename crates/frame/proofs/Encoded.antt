@@ -28,11 +28,6 @@ module _ {R : Type 0} (encode : R → List ℕ) where
   unfolding fits
   fits_within room head rs e = leb-true (head + length (encode_all encode rs)) room e
 
-  -- no record takes room
-  pub fits_none : (room head : ℕ) → head ≤ room → fits encode room head [] ≡ true
-  unfolding fits encode_all
-  fits_none room head h = le-leb (head + 0) room (omega arith)
-
   module _ (room : ℕ) (head : List ℕ) (rs : List R) (r : R) where
     joined_as : head ++ encode_all encode rs ++ encode r ≡ head ++ encode_all encode (rs ++ (r ∷ []))
     joined_as = append_assoc head (encode_all encode rs) (encode r) ∙ ap (λ (l : List ℕ). head ++ l) (sym (encode_all_snoc rs r))

@@ -1,16 +1,15 @@
--- Laws of the header: the two ways to read one, and that what lies behind does not matter; the first bytes of a reply, and how many they are. Assumes nothing.
+-- Laws of the header: the two ways to read one, and that what lies behind does not matter. Assumes nothing.
 use mathlib.Core.Path.{◌≡◌, refl, sym, ap, ◌∙◌}
 use mathlib.Core.Bool.{Bool, true, false, cond}
-use mathlib.Core.List.{List, [], ◌∷◌, ◌++◌}
-use Prim.Native.Nat.{ℕ, ◌+◌, ◌/◌, ◌%◌, ◌≤◌, ◌<◌}
+use mathlib.Core.List.{List, ◌++◌}
+use Prim.Native.Nat.{ℕ, ◌+◌, ◌≤◌, ◌<◌}
 use native.Mathlib.Omega.{arith}
 use lib.ListN.{length, get_or, length-append, get_or-append}
-use lib.Dec.{leb, eqb}
-use borrow.Author.Tests.{leb-true, le-leb, lt-leb, eq-eqb, ne_eqb}
-use Rattle.types.specs.Number.{bytes_of, unsigned_at}
+use lib.Dec.{leb}
+use borrow.Author.Tests.{leb-true, le-leb, lt-leb}
+use Rattle.types.specs.Number.{unsigned_at}
 use Rattle.types.proofs.Numbers.{two_bytes}
-use Rattle.frame.specs.Header.{has_code, header_with, header_of, reply_head, head_size, header_told}
-use Rattle.frame.specs.CommandIdentifier.{command_code}
+use Rattle.frame.specs.Header.{has_code, header_with, header_of, reply_head, header_told}
 use Rattle.frame.specs.Claims.Headers.{HeaderTells}
 use Rattle.frame.specs.declared.command_identifier.CommandIdentifier.{CommandIdentifier}
 use Rattle.frame.specs.declared.header.ZclHeader.{ZclHeader}
@@ -98,25 +97,7 @@ header_behind s t h p =
 
 -- ---- a reply's first bytes
 
--- without a manufacturer code
-pub reply_head_plain : (request : ZclHeader) (command : CommandIdentifier) → request.manufacturer_code.0 ≡ 0 → reply_head request command ≡ 0x18 ∷ request.sequence_number ∷ command_code command ∷ []
+-- there are three of them
+pub reply_head_length : (request : ZclHeader) (command : CommandIdentifier) → length (reply_head request command) ≡ 3
 unfolding reply_head
-reply_head_plain request command e = rw (eq-eqb request.manufacturer_code.0 0 e)
-
--- and with one
-pub reply_head_coded : (request : ZclHeader) (command : CommandIdentifier) → (request.manufacturer_code.0 ≡ 0 → ⊥)
-    → reply_head request command ≡ 0x1c ∷ request.manufacturer_code.0 % 256 ∷ request.manufacturer_code.0 / 256 % 256 ∷ request.sequence_number ∷ command_code command ∷ []
-unfolding reply_head bytes_of
-reply_head_coded request command n = rw (ne_eqb request.manufacturer_code.0 0 n)
-
--- there are three of them, or five with a code
-pub reply_head_length : (request : ZclHeader) (command : CommandIdentifier) → length (reply_head request command) ≡ head_size request
-unfolding reply_head bytes_of
-reply_head_length request command = go (eqb request.manufacturer_code.0 0)
-  where
-    named : List ℕ
-    named = request.sequence_number ∷ command_code command ∷ []
-
-    go : (b : Bool) → length (cond b (0x18 ∷ named) (0x1c ∷ (bytes_of 2 request.manufacturer_code.0 ++ named))) ≡ cond b 3 5
-    go true = refl
-    go false = refl
+reply_head_length request command = refl

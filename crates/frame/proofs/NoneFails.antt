@@ -6,15 +6,14 @@ use Prim.Native.Nat.{ℕ, ◌+◌}
 use native.Mathlib.Omega.{arith}
 use lib.ListN.{length, length-append}
 use lib.Dec.{leb, eqb}
-use borrow.Author.Tests.{lt-leb}
+use borrow.Author.Tests.{le-leb, lt-leb}
 use Rattle.frame.specs.declared.answer.Refusal.TheVariants.{RecordCut, ReplyTooLong}
 use Rattle.frame.specs.Status.{status_code}
 use Rattle.frame.specs.Answer.{Outcome, replied, refused}
 use Rattle.frame.specs.Walk.{done, cut, Records, ended, joined, Way, through, stopped, walk}
-use Rattle.frame.specs.Encoded.{encode_all}
+use Rattle.frame.specs.Encoded.{encode_all, fits}
 use Rattle.frame.specs.Failures.{Doing, Sofar, sofar, done_with, pass_from, encode_failures, answered, concluded, performed}
 use Rattle.frame.specs.Claims.Troubles.{LongFailures}
-use Rattle.frame.proofs.Encoded.{fits_none}
 use Rattle.frame.proofs.Walks.{Ended, taken, halted}
 use Rattle.frame.proofs.Halts.{test, way, outcome_is, state_is, halted_is, goes, way_ended, cut_behind}
 
@@ -79,9 +78,9 @@ module _ {S R F : Type 0} (doing : Doing S R F) (long : LongFailures doing) (s :
     room = length head
 
     way_there : (y : Sofar S F) → way doing s more head a ≡ through y → way doing s room head a ≡ through y
-    unfolding pass_from
+    unfolding pass_from fits encode_all
     way_there y e =
-        let base : test doing s room head [] ≡ true = fits_none doing.bytes room room (omega arith) in
+        let base : test doing s room head [] ≡ true = le-leb (length head + 0) room (omega arith) in
         ap (goes doing s room head a readable) readable
         ∙ none_there doing (test doing s more head) (test doing s room head) base a.list (sofar s []) y (ap (goes doing s more head a readable) (sym readable) ∙ e) (none_failed y e)
 

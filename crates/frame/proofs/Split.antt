@@ -11,7 +11,7 @@ use Rattle.frame.specs.declared.header.ZclHeader.{ZclHeader}
 use Rattle.frame.specs.declared.command_identifier.CommandIdentifier.{CommandIdentifier}
 use Rattle.frame.specs.declared.status.Status.{Status}
 use Rattle.frame.specs.Status.{status_code}
-use Rattle.frame.specs.Header.{reply_head, head_size}
+use Rattle.frame.specs.Header.{reply_head}
 use Rattle.frame.specs.Answer.{Outcome}
 use Rattle.frame.specs.Walk.{Ending, done, cut, Records, joined, Way, stopped, walk}
 use Rattle.frame.specs.Encoded.{encode_all, fits}
@@ -97,54 +97,53 @@ module _ {S R F : Type 0} (doing : Doing S R F) (fine loose : List F → Bool) w
 -- ---- of a command
 
 module _ {S R F : Type 0} (doing : Doing S R F) (command : CommandIdentifier) where
-  -- the failures fit behind the header of the reply to a request
-  abbrev fine : ZclHeader → ℕ → List F → Bool
-  fine request room = fits doing.bytes room (head_size request)
+  abbrev fine : ℕ → List F → Bool
+  fine room = fits doing.bytes room 3
 
   -- a command that is not stopped leaves what its records leave, also where its 00 does not fit
-  unstopped_leaves : (request : ZclHeader) (s : S) (rs : Records R) (room : ℕ) → head_size request ≤ room → Unstopped (pass doing (fine request room) rs s) → (executed doing request command s rs room).state ≡ folded doing s rs.list
+  unstopped_leaves : (request : ZclHeader) (s : S) (rs : Records R) (room : ℕ) → 3 ≤ room → Unstopped (pass doing (fine room) rs s) → (executed doing request command s rs room).state ≡ folded doing s rs.list
   unfolding pass_from
   unstopped_leaves request s rs room h u =
       ap (λ (o : Outcome S). o.state) (roomy doing request command s room h rs)
-      ∙ state_is doing s room (reply_head request command) rs (pass doing (fine request room) rs s) (ap (λ (n : ℕ). pass doing (fits doing.bytes room n) rs s) (reply_head_length request command))
-      ∙ walk_folded doing (fine request room) rs.ending rs.list (sofar s []) u
+      ∙ state_is doing s room (reply_head request command) rs (pass doing (fine room) rs s) (ap (λ (n : ℕ). pass doing (fits doing.bytes room n) rs s) (reply_head_length request command))
+      ∙ walk_folded doing (fine room) rs.ending rs.list (sofar s []) u
 
-  not_stopped : (request : ZclHeader) (s : S) (rs : Records R) (room : ℕ) → Not5 (executed doing request command s rs room) → Unstopped (pass doing (fine request room) rs s)
+  not_stopped : (request : ZclHeader) (s : S) (rs : Records R) (room : ℕ) → Not5 (executed doing request command s rs room) → Unstopped (pass doing (fine room) rs s)
   not_stopped request s rs room n =
       subst (λ (k : ℕ). Unstopped (pass doing (fits doing.bytes room k) rs s)) (reply_head_length request command)
       (not_five doing.bytes room (reply_head request command) (pass doing (fits doing.bytes room (length (reply_head request command))) rs s)
       (subst (λ (o : Outcome S). Not5 o) (outcome_is doing s room (reply_head request command) rs _ refl) (behind_head doing request command s rs room n)))
 
-  module _ (request part : ZclHeader) (room more : ℕ) (short : head_size part ≤ head_size request) (wide : room ≤ more) where
-    looser_room : Looser (fine request room) (fine part more) [] []
+  module _ (room more : ℕ) (wide : room ≤ more) where
+    looser_room : Looser (fine room) (fine more) [] []
     unfolding fits
-    looser_room z e = le-leb (head_size part + length (encode_all doing.bytes z)) more (omega (arith, fits_within doing.bytes room (head_size request) z e))
+    looser_room z e = le-leb (3 + length (encode_all doing.bytes z)) more (omega (arith, fits_within doing.bytes room 3 z e))
 
-    looser_list : (l : List F) → Looser (fine request room) (fine part more) l []
+    looser_list : (l : List F) → Looser (fine room) (fine more) l []
     unfolding fits
     looser_list l z e =
-        le-leb (head_size part + length (encode_all doing.bytes z)) more
-        (omega (arith, fits_within doing.bytes room (head_size request) (l ++ z) e, ap length (encode_all_append doing.bytes l z), length-append (encode_all doing.bytes l) (encode_all doing.bytes z)))
+        le-leb (3 + length (encode_all doing.bytes z)) more
+        (omega (arith, fits_within doing.bytes room 3 (l ++ z) e, ap length (encode_all_append doing.bytes l z), length-append (encode_all doing.bytes l) (encode_all doing.bytes z)))
 
-  -- THE PARTS of a list that is not refused by 5 leave what their records leave, each in a room that is no smaller and behind a header that is no longer
+  -- THE PARTS of a list that is not refused by 5 leave what their records leave, each in a room that is no smaller
   module _ (request : ZclHeader) (s : S) (a b : Records R) (room : ℕ) (readable : a.ending ≡ done) (n : Not5 (executed doing request command s (joined a b) room)) where
-    whole : Unstopped (pass doing (fine request room) (joined a b) s)
+    whole : Unstopped (pass doing (fine room) (joined a b) s)
     whole = not_stopped request s (joined a b) room n
 
-    header : head_size request ≤ room
+    header : 3 ≤ room
     header = some_room doing request command s (joined a b) room n
 
-    pub first_leaves : (p : ZclHeader) (more : ℕ) → head_size p ≤ head_size request → room ≤ more → (executed doing p command s a more).state ≡ folded doing s a.list
+    pub first_leaves : (p : ZclHeader) (more : ℕ) → room ≤ more → (executed doing p command s a more).state ≡ folded doing s a.list
     unfolding pass_from
-    first_leaves p more k h =
+    first_leaves p more h =
         unstopped_leaves p s a more (omega (arith, header))
-        (subst (λ (e : Ending). Unstopped (goes doing (fine p more) (sofar s []) e a.list)) (sym readable)
-        (unstopped_looser doing (fine request room) (fine p more) done a.list s [] [] (looser_room request p room more k h) (unstopped_first doing (fine request room) b.ending a.list b.list (sofar s []) whole)))
+        (subst (λ (e : Ending). Unstopped (goes doing (fine more) (sofar s []) e a.list)) (sym readable)
+        (unstopped_looser doing (fine room) (fine more) done a.list s [] [] (looser_room room more h) (unstopped_first doing (fine room) b.ending a.list b.list (sofar s []) whole)))
 
-    pub second_leaves : (q : ZclHeader) (more : ℕ) → head_size q ≤ head_size request → room ≤ more → (executed doing q command (folded doing s a.list) b more).state ≡ folded doing s (a.list ++ b.list)
+    pub second_leaves : (q : ZclHeader) (more : ℕ) → room ≤ more → (executed doing q command (folded doing s a.list) b more).state ≡ folded doing s (a.list ++ b.list)
     unfolding pass_from
-    second_leaves q more k h =
-        let w = unstopped_rest doing (fine request room) b.ending a.list b.list (sofar s []) whole in
+    second_leaves q more h =
+        let w = unstopped_rest doing (fine room) b.ending a.list b.list (sofar s []) whole in
         unstopped_leaves q (folded doing s a.list) b more (omega (arith, header))
-        (unstopped_looser doing (fine request room) (fine q more) b.ending b.list (folded doing s a.list) w.0 [] (looser_list request q room more k h w.0) w.1)
+        (unstopped_looser doing (fine room) (fine more) b.ending b.list (folded doing s a.list) w.0 [] (looser_list room more h w.0) w.1)
         ∙ sym (folded_append doing a.list b.list s)

@@ -10,7 +10,7 @@ use borrow.Author.Tests.{le-leb, lt-leb, leb-true, leb-false, eqb-true, eqb-fals
 use Rattle.frame.specs.declared.header.ZclHeader.{ZclHeader}
 use Rattle.frame.specs.declared.command_identifier.CommandIdentifier.{CommandIdentifier}
 use Rattle.frame.specs.declared.answer.Refusal.TheVariants.{RecordCut, ReplyTooLong}
-use Rattle.frame.specs.Header.{reply_head, head_size}
+use Rattle.frame.specs.Header.{reply_head}
 use Rattle.frame.specs.Answer.{Outcome, refused}
 use Rattle.frame.specs.Walk.{Ending, done, cut, Records, ended, joined, through, walk}
 use Rattle.frame.specs.Encoded.{fits}
@@ -22,94 +22,94 @@ use Rattle.frame.proofs.Halts.{cut_four_in, taken_replies, five_stays_in, five_d
 use Rattle.frame.proofs.NoneFails.{five_at_header_in, cut_at_header_in}
 
 module _ {S R F : Type 0} (doing : Doing S R F) (request : ZclHeader) (command : CommandIdentifier) (s : S) where
-  abbrev head : List ℕ
-  head = reply_head request command
+  abbrev head3 : List ℕ
+  head3 = reply_head request command
 
   abbrev answer : Records R → ℕ → Outcome S
   answer = executed doing request command s
 
   -- with room for the header, the records come
-  pub roomy : (room : ℕ) → head_size request ≤ room → (rs : Records R) → answer rs room ≡ performed doing rs s room head
+  pub roomy : (room : ℕ) → 3 ≤ room → (rs : Records R) → answer rs room ≡ performed doing rs s room head3
   unfolding headed
-  roomy room h rs = rw (le-leb (length head) room (omega (arith, reply_head_length request command)))
+  roomy room h rs = rw (le-leb (length head3) room (omega (arith, reply_head_length request command)))
 
   -- without it, 5
-  pub tight : (room : ℕ) → room < head_size request → (rs : Records R) → answer rs room ≡ refused room ReplyTooLong s
+  pub tight : (room : ℕ) → room < 3 → (rs : Records R) → answer rs room ≡ refused room ReplyTooLong s
   unfolding headed
-  tight room h rs = rw (lt-leb (length head) room (omega (arith, reply_head_length request command)))
+  tight room h rs = rw (lt-leb (length head3) room (omega (arith, reply_head_length request command)))
 
-  pub some_room : (rs : Records R) (room : ℕ) → Not5 (answer rs room) → head_size request ≤ room
-  some_room rs room n = go (leb (head_size request) room) refl
+  pub some_room : (rs : Records R) (room : ℕ) → Not5 (answer rs room) → 3 ≤ room
+  some_room rs room n = go (leb 3 room) refl
     where
-      go : (b : Bool) → leb (head_size request) room ≡ b → head_size request ≤ room
-      go true e = leb-true (head_size request) room e
-      go false e = absurd (n (ap (λ (o : Outcome S). o.number) (tight room (leb-false (head_size request) room e) rs)))
+      go : (b : Bool) → leb 3 room ≡ b → 3 ≤ room
+      go true e = leb-true 3 room e
+      go false e = absurd (n (ap (λ (o : Outcome S). o.number) (tight room (leb-false 3 room e) rs)))
 
-  pub behind_head : (rs : Records R) (room : ℕ) → Not5 (answer rs room) → Not5 (performed doing rs s room head)
+  pub behind_head : (rs : Records R) (room : ℕ) → Not5 (answer rs room) → Not5 (performed doing rs s room head3)
   behind_head rs room n = subst (λ (o : Outcome S). Not5 o) (roomy room (some_room rs room n) rs) n
 
   four : (a : Records R) (room : ℕ) → a.ending ≡ done → Not5 (answer a room) → answer (joined a (ended cut)) room ≡ refused room RecordCut (answer a room).state
   four a room e n =
-      let h : head_size request ≤ room = some_room a room n in
+      let h : 3 ≤ room = some_room a room n in
       roomy room h (joined a (ended cut))
-      ∙ cut_four_in doing s room head a e (behind_head a room n)
+      ∙ cut_four_in doing s room head3 a e (behind_head a room n)
       ∙ ap (λ (o : Outcome S). refused room RecordCut o.state) (sym (roomy room h a))
 
-  stays : (a b : Records R) (room : ℕ) → a.ending ≡ done → head_size request < room → Is5 (answer a room) → answer (joined a b) room ≡ answer a room
+  stays : (a b : Records R) (room : ℕ) → a.ending ≡ done → 4 ≤ room → Is5 (answer a room) → answer (joined a b) room ≡ answer a room
   stays a b room e h n =
-      let g : head_size request ≤ room = omega arith in
+      let g : 3 ≤ room = omega arith in
       roomy room g (joined a b)
-      ∙ five_stays_in doing s room head a e (omega (arith, reply_head_length request command)) b (ap (λ (o : Outcome S). o.number) (sym (roomy room g a)) ∙ n)
+      ∙ five_stays_in doing s room head3 a e (omega (arith, reply_head_length request command)) b (ap (λ (o : Outcome S). o.number) (sym (roomy room g a)) ∙ n)
       ∙ sym (roomy room g a)
 
   its_record : (a : Records R) (r : R) (room more : ℕ) → a.ending ≡ done → Not5 (answer a room) → Not5 (answer (joined a (single r)) more)
       → (answer (joined a (single r)) room).state ≡ (answer (joined a (single r)) more).state
   its_record a r room more e n m =
       ap (λ (o : Outcome S). o.state) (roomy room (some_room a room n) (joined a (single r)))
-      ∙ five_done_in doing s room head a e r (behind_head a room n)
+      ∙ five_done_in doing s room head3 a e r (behind_head a room n)
       ∙ sym (performed_folded doing (joined a (single r)) request command s more m)
 
   -- ---- room for the header alone
 
-  module _ (long : LongFailures doing) (a : Records R) (more : ℕ) (e : a.ending ≡ done) (none : NoneFails (head_size request) (answer a more)) where
-    size_is : length head ≡ head_size request
-    size_is = reply_head_length request command
+  module _ (long : LongFailures doing) (a : Records R) (more : ℕ) (e : a.ending ≡ done) (none : NoneFails (answer a more)) where
+    three : length head3 ≡ 3
+    three = reply_head_length request command
 
-    is : answer a more ≡ performed doing a s more head
+    is : answer a more ≡ performed doing a s more head3
     is = roomy more (some_room a more (λ f. omega (arith, f, none.0))) a
 
-    number : (performed doing a s more head).number ≡ 0
+    number : (performed doing a s more head3).number ≡ 0
     number = ap (λ (o : Outcome S). o.number) (sym is) ∙ none.0
 
-    size : (performed doing a s more head).size ≡ length head + 1
-    size = ap (λ (o : Outcome S). o.size) (sym is) ∙ none.1 ∙ ap (λ (k : ℕ). k + 1) (sym size_is)
+    size : (performed doing a s more head3).size ≡ length head3 + 1
+    size = ap (λ (o : Outcome S). o.size) (sym is) ∙ none.1 ∙ ap (λ (k : ℕ). k + 1) (sym three)
 
-    five_there_too : answer a (head_size request) ≡ refused (head_size request) ReplyTooLong (answer a more).state
+    five_there_too : answer a 3 ≡ refused 3 ReplyTooLong (answer a more).state
     five_there_too =
-        roomy (head_size request) (omega arith) a
-        ∙ subst (λ (k : ℕ). performed doing a s k head ≡ refused k ReplyTooLong (performed doing a s more head).state) size_is (five_at_header_in doing long s head more a e number size)
-        ∙ ap (λ (o : Outcome S). refused (head_size request) ReplyTooLong o.state) (sym is)
+        roomy 3 (omega arith) a
+        ∙ subst (λ (k : ℕ). performed doing a s k head3 ≡ refused k ReplyTooLong (performed doing a s more head3).state) three (five_at_header_in doing long s head3 more a e number size)
+        ∙ ap (λ (o : Outcome S). refused 3 ReplyTooLong o.state) (sym is)
 
-    four_there : answer (joined a (ended cut)) (head_size request) ≡ refused (head_size request) RecordCut (answer a more).state
+    four_there : answer (joined a (ended cut)) 3 ≡ refused 3 RecordCut (answer a more).state
     four_there =
-        roomy (head_size request) (omega arith) (joined a (ended cut))
-        ∙ subst (λ (k : ℕ). performed doing (joined a (ended cut)) s k head ≡ refused k RecordCut (performed doing a s more head).state) size_is (cut_at_header_in doing long s head more a e number size)
-        ∙ ap (λ (o : Outcome S). refused (head_size request) RecordCut o.state) (sym is)
+        roomy 3 (omega arith) (joined a (ended cut))
+        ∙ subst (λ (k : ℕ). performed doing (joined a (ended cut)) s k head3 ≡ refused k RecordCut (performed doing a s more head3).state) three (cut_at_header_in doing long s head3 more a e number size)
+        ∙ ap (λ (o : Outcome S). refused 3 RecordCut o.state) (sym is)
 
   -- ---- where 5 is met
 
   abbrev of : List R → Ending → Records R
   of l e = record { list = l; ending = e }
 
-  nothing_done : (room : ℕ) → pass doing (fits doing.bytes room (length head)) (ended done) s ≡ through (sofar s [])
+  nothing_done : (room : ℕ) → pass doing (fits doing.bytes room (length head3)) (ended done) s ≡ through (sofar s [])
   unfolding pass_from walk
   nothing_done room = refl
 
   -- not before the first record
-  none_yet : (room : ℕ) → head_size request < room → Not5 (answer (of [] done) room)
+  none_yet : (room : ℕ) → 4 ≤ room → Not5 (answer (of [] done) room)
   none_yet room h n =
-      let g : head_size request ≤ room = omega arith in
-      taken_replies doing s room head (ended done) refl (omega (arith, reply_head_length request command)) (sofar s []) (nothing_done room)
+      let g : 3 ≤ room = omega arith in
+      taken_replies doing s room head3 (ended done) refl (omega (arith, reply_head_length request command)) (sofar s []) (nothing_done room)
       (ap (λ (o : Outcome S). o.number) (sym (roomy room g (ended done))) ∙ n)
 
   -- and not by a record that cannot be read

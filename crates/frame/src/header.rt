@@ -12,9 +12,6 @@ use types::number::u16_at;
 // The control byte of a reply: a global command from server to client that wants no Default Response.
 pub const RESPONSE_FRAME_CONTROL: u8 = 0x18;
 
-// The same with bit 2: a manufacturer code follows.
-pub const CODED_RESPONSE_FRAME_CONTROL: u8 = 0x1c;
-
 #[derive(Drop)]
 pub struct FrameControl(pub u8);
 
@@ -95,8 +92,7 @@ pub fn read_header(frame: &[u8]) -> HeaderRead
     })
 }
 
-// Puts the first bytes of a reply to a request: 18, its sequence number, the reply's command; to a request with a manufacturer code 1c and the code in front of
-// the last two (document 02, request 8).
+// Puts the first bytes of a reply to a request: 18, its sequence number, the reply's command.
 pub fn write_response_header(
     reply: &mut [u8],
     request: ZclHeader,
@@ -104,24 +100,12 @@ pub fn write_response_header(
 ) -> Put
     ensures { putting result reply.new ≡ put reply.old 0 (reply_head request command) }
 {
-    let code = request.manufacturer_code;
-    let n = code.0;
-    if n == 0 {
-        let plain = [
-            RESPONSE_FRAME_CONTROL,
-            request.sequence_number,
-            command.raw(),
-        ];
-        return put_run(reply, 0, &plain);
-    }
-    let coded = [
-        CODED_RESPONSE_FRAME_CONTROL,
-        (n % 256) as u8,
-        (n / 256 % 256) as u8,
+    let head = [
+        RESPONSE_FRAME_CONTROL,
         request.sequence_number,
         command.raw(),
     ];
-    put_run(reply, 0, &coded)
+    put_run(reply, 0, &head)
 }
 
 // A reply is begun: its first bytes, and zeros behind.

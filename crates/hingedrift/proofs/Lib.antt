@@ -6,8 +6,6 @@ pub mod Handed
 -- from what the functions of crate `readers` ensure to what C has after a call
 pub mod Telling
 pub mod Unique
--- the form that C has said
-pub mod Forms
 -- entries that fit a table's bytes, after events
 pub mod Kept
 -- demand 3 of what the functions left

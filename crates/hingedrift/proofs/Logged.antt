@@ -25,7 +25,7 @@ use Rattle.reporting.specs.Demand3.{Supposed, Promised, asks_of}
 use Rattle.reporting.proofs.CarriageTable.{length_table, table-bytes, table_is, table_back}
 use Rattle.reporting.proofs.Kept.{Kept}
 use Rattle.reporting.proofs.Lending.{fresh_clean}
-use Rattle.report.specs.Turn.{After, after_turn, turn_of}
+use Rattle.report.specs.Turn.{After}
 use Rattle.report.specs.Claims.Turns.{frame_of, turned}
 use Rattle.report.specs.Claims.History.{marking}
 use Rattle.report.proofs.Moves.{turn_leaves}
@@ -43,17 +43,10 @@ use Rattle.server.proofs.Histories.{use_is, request_holds}
 use Rattle.hingedrift.proofs.Bridge.{configure_by}
 use Rattle.hingedrift.specs.Tables.{bit, Left, left, no_result, new_left}
 use Rattle.server.specs.Lent.{Lent, lent, carried, serve_lent}
-use Rattle.hingedrift.specs.Serving.{is_unicast, handed}
+use Rattle.hingedrift.specs.Serving.{is_unicast, handle_left}
 use Rattle.hingedrift.specs.Saving.{restore_left}
-use Rattle.hingedrift.specs.Claims.Log.{Handled, Made, configure, clear, mark, ask, configuration, handle, save, restore, turn, turn_as, key_at, config_as, Contract, Typed, next, last, Log, request_of, events_of, all_events_of, Begin, made, read, Begins, Demand3OfBytes, Demand3OfRestored, Turning, later_of}
+use Rattle.hingedrift.specs.Claims.Log.{Handled, Made, configure, clear, mark, ask, configuration, handle, save, restore, turn, turn_as, key_at, config_as, Contract, Typed, next, last, Log, request_of, events_of, all_events_of, Begin, made, read, Begins, Demand3OfBytes, Demand3OfRestored}
 use Rattle.hingedrift.proofs.Kept.{run_keeps}
-use Rattle.store.specs.Contents.{entry_size}
-use Rattle.store.specs.declared.form.Form.{Form}
-use Rattle.hingedrift.specs.Forms.{form_said}
-use Rattle.hingedrift.specs.Forms.{in_form}
-use Rattle.hingedrift.specs.declared.form.Said.TheVariants.{Named}
-use Rattle.hingedrift.specs.declared.form.Said.TheVariants.{Nameless}
-use Rattle.hingedrift.specs.declared.form.Said.{Said}
 
 -- ---- bytes that are those of a table with these entries
 
@@ -72,17 +65,17 @@ module _ (bs : List ℕ) (l : List Entry) (h : Held bs l) where
   unfolding on_lent
   on-lent refusal rest = ap (λ (b : Bool). cond b (rest (table_in bs)) refusal) is_one ∙ ap rest are_back
 
-  on_request : (q : Handled) (f : Form)
-      → serve_lent (entry_size f) q.store bs q.cluster (is_unicast q.unicast) q.frame q.size
-      ≡ within (carried bs) (serve (entry_size f) capacity q.store (holding l) q.cluster (is_unicast q.unicast) q.frame q.size)
+  on_request : (q : Handled)
+      → handle_left q.store bs q.cluster q.unicast q.frame q.size
+      ≡ within (carried bs) (serve 8 capacity q.store (holding l) q.cluster (is_unicast q.unicast) q.frame q.size)
   unfolding serve_lent
-  on_request q f =
+  on_request q =
       ap
       (λ (b : Bool).
-      cond b (within (carried bs) (serve (entry_size f) capacity q.store (holding (table_in bs)) q.cluster (is_unicast q.unicast) q.frame q.size))
-      (refused q.size (cond (is_store (entry_size f) q.store) NotATable NotAStore) (lent q.store bs)))
+      cond b (within (carried bs) (serve 8 capacity q.store (holding (table_in bs)) q.cluster (is_unicast q.unicast) q.frame q.size))
+      (refused q.size (cond (is_store 8 q.store) NotATable NotAStore) (lent q.store bs)))
       is_one
-      ∙ ap (λ (m : List Entry). within (carried bs) (serve (entry_size f) capacity q.store (holding m) q.cluster (is_unicast q.unicast) q.frame q.size)) are_back
+      ∙ ap (λ (m : List Entry). within (carried bs) (serve 8 capacity q.store (holding m) q.cluster (is_unicast q.unicast) q.frame q.size)) are_back
 
   -- and bytes
   pub are_bytes : AllBytes bs
@@ -110,14 +103,14 @@ record ReadIn (form : List ℕ) (is : Bool) (number : ℕ) (table : List ℕ) : 
 
 module _ (was form : List ℕ) (number : ℕ) (table : List ℕ) (p : left number table no_result ≡ restore_left was form) where
   -- by the two tests of the definition
-  abbrev Restored : Bool → Bool → ChangeLeft
-  Restored size is =
+  abbrev Said : Bool → Bool → ChangeLeft
+  Said size is =
       cond size
       (cond is (left_as ChangeV.Done (table_bytes capacity (saved_in (form_in form) form))) (left_as (ChangeV.Refused NotASavedForm) (table_bytes capacity [])))
       (left_as (ChangeV.Refused NotATable) was)
 
   abbrev IsSaid : Bool → Bool → Type 0
-  IsSaid size is = left number table no_result ≡ left (Restored size is).told.number (Restored size is).bytes no_result
+  IsSaid size is = left number table no_result ≡ left (Said size is).told.number (Said size is).bytes no_result
 
   is_said : IsSaid (size_ok capacity was) (is_saved (form_in form) capacity form)
   unfolding restore_lent
@@ -140,25 +133,16 @@ module _ (was form : List ℕ) (number : ℕ) (table : List ℕ) (p : left numbe
 
 -- ---- a call is a use
 
--- by the form that was said: a request or a turn that names none is refused, and does nothing to the table
-abbrev pub request_use : Handled → Said → Use
-request_use h (Named f) = History.request (request_of h f)
-request_use h Nameless = direct Event.len
-
-abbrev pub turn_use : Turning → Said → Use
-turn_use t (Named f) = History.turn (turn_as t f)
-turn_use t Nameless = direct Event.len
-
 unfoldable pub use_of : Made → Use
 use_of (configure a g number accepted table) = direct (cond (ltb 1 g.mark) Event.len (Event.configure (key_at a) (config_as g)))
 use_of (clear a number table) = direct (Event.clear (key_at a))
 use_of (mark a x number table) = direct (Event.mark (key_at a) x.now x.value)
 use_of (ask a x number due) = direct (Event.ask (key_at a) x.now x.value)
 use_of (configuration a number found) = direct (Event.configuration (key_at a))
-use_of (handle h) = request_use h (form_said h.form)
+use_of (handle h) = History.request (request_of h)
 use_of (save size number used buffer) = direct Event.len
 use_of (restore form number table) = direct (Event.restore (taken capacity form))
-use_of (turn t) = turn_use t (form_said t.form)
+use_of (turn t) = History.turn (turn_as t)
 
 -- what a read clears and configures fits the bytes
 clearings_fit : (l : List Entry) → AllFit (clearings l)
@@ -167,7 +151,7 @@ clearings_fit (e ∷ l) = fit_append (clearings l) (cleared e.key ∷ []) (clear
 
 settings_fit : (l : List Entry) → AllClean l → AllFit (settings l)
 settings_fit [] h = tt
-settings_fit (e ∷ l) h = (fresh_clean e.key e.config h.0.cluster h.0.code h.0.attribute h.0.minimum h.0.maximum h.0.change, settings_fit l h.1)
+settings_fit (e ∷ l) h = (fresh_clean e.key e.config h.0.cluster h.0.attribute h.0.minimum h.0.maximum h.0.change, settings_fit l h.1)
 
 -- what a read takes from bytes is within the widths
 taken_clean : (form : List ℕ) → AllBytes form → AllClean (taken capacity form)
@@ -189,23 +173,15 @@ use_fits (configure a g number accepted table) l d = go (ltb 1 g.mark)
   where
     go : (b : Bool) → AllFit (use_events capacity (direct (cond b Event.len (Event.configure (key_at a) (config_as g)))) l)
     go true = tt
-    go false = fit_either (accepts_l capacity (key_at a) l) (configured (key_at a) (config_as g) ∷ []) (fresh_clean (key_at a) (config_as g) d.0 d.1 d.2 d.3 d.4 d.5, tt)
+    go false = fit_either (accepts_l capacity (key_at a) l) (configured (key_at a) (config_as g) ∷ []) (fresh_clean (key_at a) (config_as g) d.0 d.1 d.2 d.3 d.4, tt)
 use_fits (clear a number table) l d = (tt, tt)
 use_fits (mark a x number table) l d = (d, tt)
 use_fits (ask a x number due) l d = (tt, tt)
 use_fits (configuration a number found) l d = tt
-use_fits (handle h) l d = go (form_said h.form)
-  where
-    go : (x : Said) → AllFit (use_events capacity (request_use h x) l)
-    go (Named f) = request_fits capacity (request_of h f) l d.0 d.1
-    go Nameless = tt
+use_fits (handle h) l d = request_fits capacity (request_of h) l d.0 d.1
 use_fits (save size number used buffer) l d = tt
 use_fits (restore form number table) l d = read_fits form l d
-use_fits (turn t) l d = go (form_said t.form)
-  where
-    go : (x : Said) → AllFit (use_events capacity (turn_use t x) l)
-    go (Named f) = marking_fits t.store t.now (frame_of (turn_as t f) l) d.0 d.1
-    go Nameless = tt
+use_fits (turn t) l d = marking_fits t.store t.now (frame_of 8 (turn_as t) l) d.0 d.1
 
 used_keeps : (u : Use) (l : List Entry) → AllFit (use_events capacity u l) → Kept capacity l → Kept capacity (used capacity u l)
 used_keeps u l f h = subst (Kept capacity) (use_is capacity u l).table (run_keeps capacity (use_events capacity u l) l f h)
@@ -213,34 +189,6 @@ used_keeps u l f h = subst (Kept capacity) (use_is capacity u l).table (run_keep
 pub record Is (u : Use) (l : List Entry) (es : List Event) (bs : List ℕ) : Type 0 where
   pub events : es ≡ use_events capacity u l
   pub table : bs ≡ table_bytes capacity (used capacity u l)
-
--- a request and a turn, by the form that was said
-request_so : (q : Handled) (bs : List ℕ) (l : List Entry) → Held bs l → (x : Said)
-    → handed q.number q.used q.reply (lent q.store_after q.table_after)
-    ≡ in_form x (λ f. serve_lent (entry_size f) q.store bs q.cluster (is_unicast q.unicast) q.frame q.size) (refused q.size NotAStore (lent q.store bs))
-    → Is (request_use q x) l (in_form x (λ f. request_events capacity (request_of q f) (table_in bs)) []) q.table_after
-unfolding requested
-request_so q bs l h (Named f) p =
-    record {
-      events = ap (request_events capacity (request_of q f)) (are_back bs l h);
-      table =
-          ap (λ (x : Outcome Lent). x.state.table) (p ∙ on_request bs l h q f)
-          ∙ ap (bytes_after bs) (request_holds capacity (request_of q f) l);
-    }
-request_so q bs l h Nameless p = record { events = refl; table = ap (λ (x : Outcome Lent). x.state.table) p ∙ h.bytes }
-
-turn_so : (t : Turning) (bs : List ℕ) (l : List Entry) → Held bs l → (x : Said)
-    → handed t.number t.used t.frame (after_turn t.table_after t.last_after) ≡ in_form x (λ f. turn_of (turn_as t f) bs) (refused t.size NotAStore (after_turn bs t.last))
-    → Is (turn_use t x) l (in_form x (λ f. marking t.store t.now (frame_of (turn_as t f) (table_in bs))) []) t.table_after
-turn_so t bs l h (Named f) p =
-    record {
-      events = ap (λ (m : List Entry). marking t.store t.now (frame_of (turn_as t f) m)) (are_back bs l h);
-      table =
-          ap (λ (x : Outcome After). x.state.table) p
-          ∙ ap (λ (x : After). x.table) (turn_leaves (turn_as t f) bs (are_bytes bs l h) (is_one bs l h))
-          ∙ ap (λ (m : List Entry). table_bytes capacity (turned (turn_as t f) m)) (are_back bs l h);
-    }
-turn_so t bs l h Nameless p = record { events = refl; table = ap (λ (x : Outcome After). x.state.table) p ∙ h.bytes }
 
 pub call_is : (c : Made) (bs : List ℕ) (l : List Entry) → Held bs l → Contract c bs → Is (use_of c) l (events_of c bs) (next c bs)
 unfolding use_of configure_lent clear_lent mark_lent ask_lent requested
@@ -280,7 +228,13 @@ call_is (ask a x number due) bs l h p =
       table = h.bytes;
     }
 call_is (configuration a number found) bs l h p = record { events = refl; table = h.bytes }
-call_is (handle q) bs l h p = request_so q bs l h (form_said q.form) p
+call_is (handle q) bs l h p =
+    record {
+      events = ap (request_events capacity (request_of q)) (are_back bs l h);
+      table =
+          ap (λ (x : Outcome Lent). x.state.table) (p ∙ on_request bs l h q)
+          ∙ ap (bytes_after bs) (request_holds capacity (request_of q) l);
+    }
 call_is (save size number used buffer) bs l h p = record { events = refl; table = h.bytes }
 call_is (restore form number table) bs l h p =
     let r = read-in bs form number table p (are_sized bs l h) in
@@ -289,7 +243,14 @@ call_is (restore form number table) bs l h p =
       events = λ i. clearings (are_back bs l h i) ++ settings ((ap (λ (b : Bool). cond b (saved_in (form_in form) form) []) (sym r.saved) ∙ back) i);
       table = r.bytes ∙ ap (table_bytes capacity) back;
     }
-call_is (turn t) bs l h p = turn_so t bs l h (form_said t.form) p
+call_is (turn t) bs l h p =
+    record {
+      events = ap (λ (m : List Entry). marking t.store t.now (frame_of 8 (turn_as t) m)) (are_back bs l h);
+      table =
+          ap (λ (x : Outcome After). x.state.table) p
+          ∙ ap (λ (x : After). x.table) (turn_leaves 8 (turn_as t) bs (are_bytes bs l h) (is_one bs l h))
+          ∙ ap (λ (m : List Entry). table_bytes capacity (turned 8 (turn_as t) m)) (are_back bs l h);
+    }
 
 pub call_held : (c : Made) (bs : List ℕ) (l : List Entry) → Held bs l → Typed c → Contract c bs → Held (next c bs) (used capacity (use_of c) l)
 call_held c bs l h d p = record { bytes = (call_is c bs l h p).table; kept = used_keeps (use_of c) l (use_fits c l d) h.kept }
@@ -349,31 +310,17 @@ begun_held (read form number) was bs log b p = (log_is log bs _ (read_held form 
 
 -- ---- demand 3
 
--- events are told, so that a form was said
-pub none_told : {A : Type 0} (earlier : List Event) (e : Event) (rest : List Event) → [] ≡ earlier ++ (e ∷ rest) → A
-none_told [] e rest p = let z : ◌≡◌ {A = ℕ} 0 1 = cc in absurd (omega arith)
-none_told (x ∷ earlier) e rest p = let z : ◌≡◌ {A = ℕ} 0 1 = cc in absurd (omega arith)
-
 pub demand_3_of_bytes : Demand3OfBytes
 unfolding use_of
 demand_3_of_bytes how was bs before h after earlier k g rest G begin p q low high s =
     let cut = log_cut before (handle h ∷ after) bs p in
+    let l : List Entry = uses capacity (uses_of how before) [] in
     let held : Held (last before bs) l = begun_held how was bs before begin cut.0 in
     let this = call_is (handle h) (last before bs) l held cut.1.1 in
-    let more = log_is after h.table_after (used capacity (request_use h (form_said h.form)) l) (call_held (handle h) (last before bs) l held cut.1.0 cut.1.1) cut.1.2 in
-    go (form_said h.form) (sym this.events ∙ q) more.events
-  where
-    l : List Entry
-    l = uses capacity (uses_of how before) []
-
-    go : (x : Said) → use_events capacity (request_use h x) l ≡ earlier ++ (configured k g ∷ rest)
-        → all_events_of after h.table_after ≡ uses_events capacity (map use_of after) (used capacity (request_use h x) l)
-        → Promised g G (asks_of k (later_of rest after h.table_after))
-    go (Named f) told all =
-        subst (λ (es : List Event). Promised g G (asks_of k (rest ++ es))) (sym all)
-        (demand_3_of_frames capacity (uses_of how before) (request_of h f) k g earlier rest G (map use_of after) told low high
-        (subst (λ (es : List Event). Supposed k G (rest ++ es)) all s))
-    go Nameless told all = none_told earlier (configured k g) rest told
+    let more = log_is after h.table_after (requested capacity (request_of h) l) (call_held (handle h) (last before bs) l held cut.1.0 cut.1.1) cut.1.2 in
+    subst (λ (es : List Event). Promised g G (asks_of k (rest ++ es))) (sym more.events)
+    (demand_3_of_frames capacity (uses_of how before) (request_of h) k g earlier rest G (map use_of after) (sym this.events ∙ q) low high
+    (subst (λ (es : List Event). Supposed k G (rest ++ es)) more.events s))
 
 -- from a table just read in: the number 0 says that the bytes were a saved form
 pub demand_3_of_restored : Demand3OfRestored

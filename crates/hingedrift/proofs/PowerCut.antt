@@ -26,7 +26,7 @@ use Rattle.server.proofs.Bytes.{bytes_small}
 use Rattle.hingedrift.proofs.LogExample.{log_stands}
 
 -- what hd_save gave of attribute 5's entry
-saved_so : handed 0 22 (padded 32 form) no_state ≡ save_left (table_bytes capacity (reported ∷ [])) 32
+saved_so : handed 0 20 (padded 32 form) no_state ≡ save_left (table_bytes capacity (reported ∷ [])) 32
 unfolding all_zero le bytes_of padded distinct laid numbers_in rows_laid rows_in numbers_of entry_of is_slot table_bytes slots_in table_in are_slots is_table on_lent contents_from saved_bytes all_set save_lent
 saved_so = refl
 

@@ -21,7 +21,7 @@ use Rattle.reporting.specs.Claims.RoundTrip.{AllClean}
 use Rattle.reporting.proofs.Carriage.{both}
 use Rattle.reporting.proofs.CarriageTable.{table_is, table_back, table_clean, table_count}
 use Rattle.reporting.proofs.CarriageLoops.{known_count}
-use Rattle.saved.specs.Saved.{coded, saved_size, saved_bytes, is_savable, saved_in, is_laid, is_saved, form_in}
+use Rattle.saved.specs.Saved.{marked, plain, saved_size, saved_bytes, is_savable, saved_in, is_laid, is_saved, form_in}
 use Rattle.saved.specs.Lent.{save_lent, restore_lent}
 use Rattle.saved.proofs.Forms.{saved_count}
 use Rattle.saved.proofs.RoundTrip.{saved_is, saved_back, form_back}
@@ -38,15 +38,15 @@ use Rattle.hingedrift.specs.Claims.RoundTrip.{HdSaveRestore, HdRestoreSave, HdRe
 -- ---- what a save leaves
 
 module _ (bs : List ℕ) (room : ℕ) where
-  fits_says : (l : List Entry) (b : Bool) → leb (length (saved_bytes coded l)) room ≡ b → Says [] room (cond b (replied room (saved_bytes coded l) no_state) (refused room ReplyTooLong no_state))
-  fits_says l true e = sends (saved_bytes coded l) (leb-true _ _ e) refl
+  fits_says : (l : List Entry) (b : Bool) → leb (length (saved_bytes marked l)) room ≡ b → Says [] room (cond b (replied room (saved_bytes marked l) no_state) (refused room ReplyTooLong no_state))
+  fits_says l true e = sends (saved_bytes marked l) (leb-true _ _ e) refl
   fits_says l false e = declines ReplyTooLong refl
 
   save_says : Says [] room (save_left bs room)
   unfolding save_lent on_lent
   save_says =
       says_either [] room (is_table capacity bs) _ _
-      (says_either [] room (is_savable (table_in bs)) _ _ (fits_says (table_in bs) (leb (length (saved_bytes coded (table_in bs))) room) refl) (declines NotASavedForm refl))
+      (says_either [] room (is_savable (table_in bs)) _ _ (fits_says (table_in bs) (leb (length (saved_bytes marked (table_in bs))) room) refl) (declines NotASavedForm refl))
       (declines NotATable refl)
 
 pub hd_save_clears : HdSaveClears
@@ -109,18 +109,18 @@ hd_restore_empties was form e =
 saves : List ℕ → ℕ → Bool → Bool → Bool → Outcome (Unit {0})
 saves bs room known written fits =
     cond known
-    (cond written (cond fits (replied room (saved_bytes coded (table_in bs)) no_state) (refused room ReplyTooLong no_state)) (refused room NotASavedForm no_state))
+    (cond written (cond fits (replied room (saved_bytes marked (table_in bs)) no_state) (refused room ReplyTooLong no_state)) (refused room NotASavedForm no_state))
     (refused room NotATable no_state)
 
 -- a save that gave 0
 record Saved (bs : List ℕ) (room used : ℕ) (buffer : List ℕ) : Type 0 where
   table : is_table capacity bs ≡ true
   written : is_savable (table_in bs) ≡ true
-  size : used ≡ length (saved_bytes coded (table_in bs))
-  bytes : buffer ≡ padded room (saved_bytes coded (table_in bs))
+  size : used ≡ length (saved_bytes marked (table_in bs))
+  bytes : buffer ≡ padded room (saved_bytes marked (table_in bs))
 
 module _ (bs : List ℕ) (room : ℕ) where
-  save_by : (a b c : Bool) → is_table capacity bs ≡ a → is_savable (table_in bs) ≡ b → leb (length (saved_bytes coded (table_in bs))) room ≡ c → save_left bs room ≡ saves bs room a b c
+  save_by : (a b c : Bool) → is_table capacity bs ≡ a → is_savable (table_in bs) ≡ b → leb (length (saved_bytes marked (table_in bs))) room ≡ c → save_left bs room ≡ saves bs room a b c
   unfolding save_lent on_lent saves
   save_by a b c p q r = λ i. saves bs room (p i) (q i) (r i)
 
@@ -133,24 +133,24 @@ module _ (bs : List ℕ) (room : ℕ) where
   save_given used buffer false b c p q e = let z : ◌≡◌ {A = ℕ} 0 8 = ap (λ (o : Outcome (Unit {0})). o.number) e in absurd (omega (arith, z))
 
 -- offsets have two bytes
-small : saved_size coded capacity < 2 ^ 16
+small : saved_size marked capacity < 2 ^ 16
 small = omega arith
 
 pub hd_save_restore : HdSaveRestore
 unfolding by as_left
 hd_save_restore bs room used buffer was h e sized =
     let l : List Entry = table_in bs in
-    let o = save_given bs room used buffer (is_table capacity bs) (is_savable l) (leb (length (saved_bytes coded l)) room) refl refl (e ∙ save_by bs room _ _ _ refl refl refl) in
+    let o = save_given bs room used buffer (is_table capacity bs) (is_savable l) (leb (length (saved_bytes marked l)) room) refl refl (e ∙ save_by bs room _ _ _ refl refl refl) in
     let n : length l ≤ capacity = omega (arith, table_count bs, known_count bs o.table) in
     let clean : AllClean l = table_clean capacity bs h o.table in
-    let form : take used buffer ≡ saved_bytes coded l = (λ i. take (o.size i) (o.bytes i)) ∙ take_padded room (saved_bytes coded l) in
+    let form : take used buffer ≡ saved_bytes marked l = (λ i. take (o.size i) (o.bytes i)) ∙ take_padded room (saved_bytes marked l) in
     ap (restore_left was) form
-    ∙ restore_by was (saved_bytes coded l) true true sized (saved_is capacity l small n clean o.written)
+    ∙ restore_by was (saved_bytes marked l) true true sized (saved_is capacity l small n clean o.written)
     ∙ ap (λ (m : List Entry). left 0 (table_bytes capacity m) no_result) (saved_back capacity l small n clean)
 
--- what was read is written: its entries, in the newest form
-saved_again : (was form table : List ℕ) (room : ℕ) → AllBytes form → left 0 table no_result ≡ restore_left was form → length (saved_bytes coded (saved_in (form_in form) form)) ≤ room
-    → replied room (saved_bytes coded (saved_in (form_in form) form)) no_state ≡ save_left table room
+-- what was read is written: its entries, with marks
+saved_again : (was form table : List ℕ) (room : ℕ) → AllBytes form → left 0 table no_result ≡ restore_left was form → length (saved_bytes marked (saved_in (form_in form) form)) ≤ room
+    → replied room (saved_bytes marked (saved_in (form_in form) form)) no_state ≡ save_left table room
 unfolding is_saved saves
 saved_again was form table room h e k =
     let w = given was form table (size_ok capacity was) (is_saved (form_in form) capacity form) refl (e ∙ restore_by was form _ _ refl refl) in
@@ -158,8 +158,8 @@ saved_again was form table room h e k =
     let n : length l ≤ capacity = saved_small capacity form w.0 in
     let clean : AllClean l = own_clean form h in
     let same : table_in table ≡ l = ap table_in w.1 ∙ table_back capacity l n clean in
-    let bytes : saved_bytes coded (table_in table) ≡ saved_bytes coded l = ap (saved_bytes coded) same in
-    let fits : leb (length (saved_bytes coded (table_in table))) room ≡ true = le-leb _ room (omega (arith, ap length bytes, k)) in
+    let bytes : saved_bytes marked (table_in table) ≡ saved_bytes marked l = ap (saved_bytes marked) same in
+    let fits : leb (length (saved_bytes marked (table_in table))) room ≡ true = le-leb _ room (omega (arith, ap length bytes, k)) in
     let savable : is_savable (table_in table) ≡ true = ap is_savable same ∙ (both (is_laid (form_in form) capacity form) (is_savable l) w.0).1 in
     sym
     (save_by table room true true true (ap (is_table capacity) w.1 ∙ table_is capacity l n clean) savable fits
@@ -171,11 +171,14 @@ was_saved was form table e = (given was form table (size_ok capacity was) (is_sa
 
 pub hd_restore_save : HdRestoreSave
 hd_restore_save was form table room h own e k =
-    let is : is_saved coded capacity form ≡ true = ap (λ f. is_saved f capacity form) (sym own) ∙ was_saved was form table e in
-    let back : saved_bytes coded (saved_in (form_in form) form) ≡ form = ap (λ f. saved_bytes coded (saved_in f form)) own ∙ form_back capacity form h is in
+    let is : is_saved marked capacity form ≡ true = ap (λ f. is_saved f capacity form) (sym own) ∙ was_saved was form table e in
+    let back : saved_bytes marked (saved_in (form_in form) form) ≡ form = ap (λ f. saved_bytes marked (saved_in f form)) own ∙ form_back capacity form h is in
     ap (λ (b : List ℕ). replied room b no_state) (sym back) ∙ saved_again was form table room h e (omega (arith, ap length back, k))
 
 pub hd_restore_save_old : HdRestoreSaveOld
-hd_restore_save_old was form table room h e k =
-    let n : length (saved_bytes coded (saved_in (form_in form) form)) ≡ saved_size coded (count_in form) = saved_length (saved_in (form_in form) form) ∙ ap (saved_size coded) (saved_count (form_in form) form) in
-    (λ i. handed 0 (sym n i) (padded room (saved_bytes coded (saved_in (form_in form) form))) no_state) ∙ saved_again was form table room h e (omega (arith, n, k))
+hd_restore_save_old was form table room h own e k =
+    let l : saved_bytes marked (saved_in (form_in form) form) ≡ saved_bytes marked (saved_in plain form) = ap (λ f. saved_bytes marked (saved_in f form)) own in
+    let n : length (saved_bytes marked (saved_in plain form)) ≡ saved_size marked (count_in form) = saved_length (saved_in plain form) ∙ ap (saved_size marked) (saved_count false form) in
+    (λ i. handed 0 (sym n i) (padded room (saved_bytes marked (saved_in plain form))) no_state)
+    ∙ ap (λ (b : List ℕ). replied room b no_state) (sym l)
+    ∙ saved_again was form table room h e (omega (arith, ap length l, n, k))

@@ -13,12 +13,11 @@ use Rattle.types.specs.declared.value.Number.{Number}
 use Rattle.types.specs.declared.value.Number.TheVariants.{Value, None}
 use Rattle.frame.specs.declared.answer.Refusal.TheVariants.{NotAStore, NotATable}
 use Rattle.frame.specs.declared.answer.Answer.TheVariants.{Reply}
-use Rattle.frame.specs.Answer.{Outcome, within, seen, refused, no_state}
+use Rattle.frame.specs.Answer.{Outcome, within, seen, refused}
 use Rattle.frame.specs.Walk.{All}
 use Rattle.frame.proofs.Codes.{refusal_nonzero}
-use Rattle.store.specs.declared.value.Numbered.TheVariants as Numbered
 use Rattle.store.specs.Layout.{is_store}
-use Rattle.store.specs.Value.{telling, numbered_by, Telling, number_of}
+use Rattle.store.specs.Value.{telling, numbered_by}
 use Rattle.reporting.specs.declared.entry.Entry.{Entry}
 use Rattle.reporting.specs.Table.{capacity, holding}
 use Rattle.reporting.specs.Carried.{is_table, table_in}
@@ -32,19 +31,10 @@ use Rattle.readers.specs.Reading.{Read, read, unreadable, kth}
 use Rattle.readers.specs.Values.{Held, held, read_reply_held, report_frame_held}
 use Rattle.readers.specs.Claims.Served.{Typed}
 use Rattle.readers.proofs.Through.{Valued, Failed, read_number, report_number, read_ways, report-held}
-use Rattle.report.specs.Report.{report_of}
 use Rattle.server.specs.Lent.{Lent, lent, carried, serve_lent}
-use Rattle.hingedrift.specs.Serving.{handed, is_unicast}
+use Rattle.hingedrift.specs.Serving.{handed, is_unicast, number_left, handle_left}
 use Rattle.readers.specs.Told.{told, record_told, ValueFields, value_as, no_value, number_fields, value_fields, value_or, ReadFields, read_as, read_fields, ReportFields, report_as, report_fields}
 use Rattle.hingedrift.specs.Claims.Numbers.{number_said, HdReadNumber, HdReportNumber}
-use Rattle.store.specs.Contents.{entry_size}
-use Rattle.store.specs.Contents.{name_of}
-use Rattle.store.specs.declared.form.Form.{Form}
-use Rattle.hingedrift.specs.Forms.{form_said}
-use Rattle.hingedrift.specs.Forms.{in_form}
-use Rattle.hingedrift.specs.declared.form.Said.TheVariants.{Named}
-use Rattle.hingedrift.specs.declared.form.Said.TheVariants.{Nameless}
-use Rattle.hingedrift.specs.declared.form.Said.{Said}
 
 -- ---- an answer with number 0 was served
 
@@ -59,22 +49,20 @@ seen_of f o size reply after e =
       state = o.state;
     }
 
-module _ (s : List ℕ) (bs : List ℕ) (cluster unicast : ℕ) (frame : List ℕ) (room size : ℕ) (reply : List ℕ) (after : Lent) where
-  abbrev served : Form → Outcome State
-  served f = serve (entry_size f) capacity s (holding (table_in bs)) cluster (is_unicast unicast) frame room
+module _ (s bs : List ℕ) (cluster unicast : ℕ) (frame : List ℕ) (room size : ℕ) (reply : List ℕ) (after : Lent)
+    (e : handed 0 size reply after ≡ handle_left s bs cluster unicast frame room) where
+  abbrev served : Outcome State
+  served = serve 8 capacity s (holding (table_in bs)) cluster (is_unicast unicast) frame room
 
   -- the bytes were a table
-  abbrev Was : Form → Type 0
-  Was f = (is_table capacity bs ≡ true) × (seen (Reply size) reply (served f).state ≡ served f)
-
-  was_served : (f : Form) → handed 0 size reply after ≡ serve_lent (entry_size f) s bs cluster (is_unicast unicast) frame room → Was f
+  was_served : (is_table capacity bs ≡ true) × (seen (Reply size) reply served.state ≡ served)
   unfolding serve_lent
-  was_served f e = go (is_table capacity bs) refl e
+  was_served = go (is_table capacity bs) refl e
     where
-      go : (b : Bool) → is_table capacity bs ≡ b → handed 0 size reply after ≡ cond b (within (carried bs) (served f)) (refused room (cond (is_store (entry_size f) s) NotATable NotAStore) (lent s bs))
-          → Was f
-      go true t g = (t, seen_of (carried bs) (served f) size reply after g)
-      go false t g = absurd (omega (arith, refusal_nonzero (cond (is_store (entry_size f) s) NotATable NotAStore), ap (λ x. x.number) g))
+      go : (b : Bool) → is_table capacity bs ≡ b → handed 0 size reply after ≡ cond b (within (carried bs) served) (refused room (cond (is_store 8 s) NotATable NotAStore) (lent s bs))
+          → (is_table capacity bs ≡ true) × (seen (Reply size) reply served.state ≡ served)
+      go true t g = (t, seen_of (carried bs) served size reply after g)
+      go false t g = absurd (omega (arith, refusal_nonzero (cond (is_store 8 s) NotATable NotAStore), ap (λ x. x.number) g))
 
 -- entries that fit a table's bytes have intervals of sixteen bits
 intervals : (l : List Entry) → AllClean l → All (λ (e : Entry). (e.config.min_interval < 2 ^ 16) × (e.config.max_interval < 2 ^ 16)) l
@@ -100,51 +88,35 @@ said w t start len n z e = go w.number e
 -- ---- a read reply
 
 pub hd_read_number : HdReadNumber
-hd_read_number s form bs cluster unicast frame room h sb tb fb asks size reply after e k id t start len n z g = by_form (form_said form) e
+hd_read_number s bs cluster unicast frame room h sb tb fb asks size reply after e k id t start len n z g =
+    let y = found_one (read_as 0 0 0 no_value) read_fields (λ (r : ReadFields). r.found) (kth k (read_reply_held f)) (read_as 1 id 0 (value_as t start len n z)) refl refl g in
+    ⊎_elim (λ v. valued y.0 y.1 y.2 v) (λ v. failed y.0 y.2 v) (read_ways f k y.0 y.1)
   where
     f : List ℕ
     f = take size reply
 
-    code : ℕ
-    code = h.manufacturer_code.0
+    failed : (y : Held ReadRecord) → read_as 1 id 0 (value_as t start len n z) ≡ read_fields y → Failed y → number_said n z ≡ number_left s id
+    failed y r v = absurd (v.3 (sym (ap (λ (q : ReadFields). q.status) (r ∙ ap read_fields v.2))))
 
-    number : Form → ℕ → Telling
-    number o i = telling (number_of (entry_size o) s (name_of code i))
-
-    failed : (o : Form) (y : Held ReadRecord) → read_as 1 id 0 (value_as t start len n z) ≡ read_fields y → Failed y → number_said n z ≡ number o id
-    failed o y r v = absurd (v.3 (sym (ap (λ (q : ReadFields). q.status) (r ∙ ap read_fields v.2))))
-
-    valued : (o : Form) → Was s bs cluster unicast frame room size reply after o → (y : Held ReadRecord) → kth k (read_reply_held f) ≡ read (some y) → read_as 1 id 0 (value_as t start len n z) ≡ read_fields y
-        → Valued y → number_said n z ≡ number o id
-    valued o was y p r v =
+    valued : (y : Held ReadRecord) → kth k (read_reply_held f) ≡ read (some y) → read_as 1 id 0 (value_as t start len n z) ≡ read_fields y → Valued y
+        → number_said n z ≡ number_left s id
+    valued y p r v =
+        let was = was_served s bs cluster unicast frame room size reply after e in
         let typed : Typed s frame (table_in bs) = (sb, fb, intervals (table_in bs) (table_clean capacity bs tb was.0)) in
         let same : read_as 1 id 0 (value_as t start len n z) ≡ read_as 1 v.0 0 (value_fields v.3) = r ∙ ap read_fields v.4 in
         said v.3 t start len n z (ap (λ (q : ReadFields). q.value) same)
-        ∙ ap telling
-        (read_number (entry_size o) capacity s (table_in bs) cluster (is_unicast unicast) frame room h typed asks size reply _ was.1 k v.0 v.1 v.2 v.3 (p ∙ ap (λ (q : Held ReadRecord). read (some q)) v.4))
-        ∙ ap (number o) (sym (ap (λ (q : ReadFields). q.id) same))
-
-    by_form : (x : Said) → handed 0 size reply after ≡ in_form x (λ o. serve_lent (entry_size o) s bs cluster (is_unicast unicast) frame room) (refused room NotAStore (lent s bs))
-        → number_said n z ≡ in_form x (λ o. number o id) (telling (Numbered.Refused NotAStore))
-    by_form (Named o) e =
-        let y = found_one (read_as 0 0 0 no_value) read_fields (λ (r : ReadFields). r.found) (kth k (read_reply_held f)) (read_as 1 id 0 (value_as t start len n z)) refl refl g in
-        ⊎_elim (λ v. valued o (was_served s bs cluster unicast frame room size reply after o e) y.0 y.1 y.2 v) (λ v. failed o y.0 y.2 v) (read_ways f k y.0 y.1)
-    by_form Nameless e = absurd (omega (arith, refusal_nonzero NotAStore, ap (λ x. x.number) e))
+        ∙ ap telling (read_number 8 capacity s (table_in bs) cluster (is_unicast unicast) frame room h typed asks size reply _ was.1 k v.0 v.1 v.2 v.3 (p ∙ ap (λ (q : Held ReadRecord). read (some q)) v.4))
+        ∙ ap (λ (i : ℕ). number_left s i) (sym (ap (λ (q : ReadFields). q.id) same))
 
 -- ---- a report
 
 pub hd_report_number : HdReportNumber
-hd_report_number s form code sequence ids room short size frame e k id t start len n z g = by_form (form_said form) e
-  where
-    by_form : (x : Said) → handed 0 size frame no_state ≡ in_form x (λ o. report_of (entry_size o) s code sequence ids room) (refused room NotAStore no_state)
-        → number_said n z ≡ in_form x (λ o. telling (number_of (entry_size o) s (name_of code id))) (telling (Numbered.Refused NotAStore))
-    by_form (Named o) e =
-        let f : List ℕ = take size frame in
-        let y = found_one (report_as 0 0 no_value) report_fields (λ (r : ReportFields). r.found) (kth k (report_frame_held f)) (report_as 1 id (value_as t start len n z)) refl refl g in
-        let r : ReportRecord = y.0.is in
-        let v = report-held f k y.0 y.1 in
-        let p = y.1 ∙ ap (λ (o : Option ValueIn). read (some (held r o))) v.1 in
-        said v.0 t start len n z (ap (λ (q : ReportFields). q.value) y.2 ∙ ap value_or v.1)
-        ∙ ap telling (report_number (entry_size o) s code sequence ids room short size frame e k r.id r.type r.value v.0 p)
-        ∙ ap (λ (i : ℕ). telling (number_of (entry_size o) s (name_of code i))) (sym (ap (λ (q : ReportFields). q.id) y.2))
-    by_form Nameless e = absurd (omega (arith, refusal_nonzero NotAStore, ap (λ x. x.number) e))
+hd_report_number s sequence ids room short size frame e k id t start len n z g =
+    let f : List ℕ = take size frame in
+    let y = found_one (report_as 0 0 no_value) report_fields (λ (r : ReportFields). r.found) (kth k (report_frame_held f)) (report_as 1 id (value_as t start len n z)) refl refl g in
+    let r : ReportRecord = y.0.is in
+    let v = report-held f k y.0 y.1 in
+    let p = y.1 ∙ ap (λ (o : Option ValueIn). read (some (held r o))) v.1 in
+    said v.0 t start len n z (ap (λ (q : ReportFields). q.value) y.2 ∙ ap value_or v.1)
+    ∙ ap telling (report_number 8 s sequence ids room short size frame e k r.id r.type r.value v.0 p)
+    ∙ ap (λ (i : ℕ). number_left s i) (sym (ap (λ (q : ReportFields). q.id) y.2))

@@ -53,23 +53,23 @@ one_setting e = ((λ i. (e i).type), ((λ i. (e i).minimum), ((λ i. (e i).maxim
 -- src/serving.rt
 
 pub hd_report_turn_once : HdReportTurnOnce
-hd_report_turn_once store form table code sequence now last frame r q m n x y bs cs u v e f =
-    let w = one_handed (turn_left store form table code sequence now last (length frame)) r q m n x y (after_turn bs u) (after_turn cs v) e f in
+hd_report_turn_once store table sequence now last frame r q m n x y bs cs u v e f =
+    let w = one_handed (turn_left store table sequence now last (length frame)) r q m n x y (after_turn bs u) (after_turn cs v) e f in
     (w.0, (w.1.0, (w.1.1.0, (ap (λ (z : After). z.table) w.1.1.1, ap (λ (z : After). z.last) w.1.1.1))))
 
 pub hd_number_once : HdNumberOnce
-hd_number_once store form code attribute r q x y e f = let p = e ∙ sym f in (ap (λ (z : Telling). z.answer) p, ap (λ (z : Telling). z.value) p)
+hd_number_once store attribute r q x y e f = let p = e ∙ sym f in (ap (λ (z : Telling). z.answer) p, ap (λ (z : Telling). z.value) p)
 
 pub hd_handle_request_once : HdHandleRequestOnce
-hd_handle_request_once store form table cluster unicast request reply r q m n x y s u bs cs e f =
-    let w = one_handed (handle_left store form table cluster unicast request (length reply)) r q m n x y (lent s bs) (lent u cs) e f in
+hd_handle_request_once store table cluster unicast request reply r q m n x y s u bs cs e f =
+    let w = one_handed (handle_left store table cluster unicast request (length reply)) r q m n x y (lent s bs) (lent u cs) e f in
     (w.0, (w.1.0, (w.1.1.0, (ap (λ (z : Lent). z.store) w.1.1.1, ap (λ (z : Lent). z.table) w.1.1.1))))
 
 pub hd_unsupported_cluster_once : HdUnsupportedClusterOnce
 hd_unsupported_cluster_once served cluster unicast request reply r q m n x y e f = one_reply (unsupported_left served cluster unicast request (length reply)) r q m n x y e f
 
 pub hd_report_once : HdReportOnce
-hd_report_once store form code sequence ids frame r q m n x y e f = one_reply (report_left store form code sequence ids (length frame)) r q m n x y e f
+hd_report_once store sequence ids frame r q m n x y e f = one_reply (report_left store sequence ids (length frame)) r q m n x y e f
 
 -- src/table.rt
 
@@ -77,15 +77,15 @@ pub hd_table_new_once : HdTableNewOnce
 hd_table_new_once table r q bs cs e f = one_table (new_left table) r q bs cs e f
 
 pub hd_configure_once : HdConfigureOnce
-hd_configure_once table cluster code attribute minimum maximum change mark r q bs cs x y e f =
-    one_outcome (configure_left table (key_as cluster code attribute) (config_of minimum maximum change mark) mark) r q bs cs x y e f
+hd_configure_once table cluster attribute minimum maximum change mark r q bs cs x y e f =
+    one_outcome (configure_left table (key_as cluster attribute) (config_of minimum maximum change mark) mark) r q bs cs x y e f
 
 pub hd_clear_once : HdClearOnce
-hd_clear_once table cluster code attribute r q bs cs e f = one_table (clear_left table (key_as cluster code attribute)) r q bs cs e f
+hd_clear_once table cluster attribute r q bs cs e f = one_table (clear_left table (key_as cluster attribute)) r q bs cs e f
 
 pub hd_configuration_once : HdConfigurationOnce
-hd_configuration_once table cluster code attribute r q a b k l m n x y u v e f =
-    let w = one_outcome (configuration_left table (key_as cluster code attribute)) r q table table (configuration_as a k m x u) (configuration_as b l n y v) e f in
+hd_configuration_once table cluster attribute r q a b k l m n x y u v e f =
+    let w = one_outcome (configuration_left table (key_as cluster attribute)) r q table table (configuration_as a k m x u) (configuration_as b l n y v) e f in
     let c = w.1.1 in (
       w.0,
       (
@@ -95,10 +95,10 @@ hd_configuration_once table cluster code attribute r q a b k l m n x y u v e f =
     )
 
 pub hd_ask_once : HdAskOnce
-hd_ask_once table cluster code attribute now value r q x y e f = let w = one_outcome (ask_left table (key_as cluster code attribute) now value) r q table table x y e f in (w.0, w.1.1)
+hd_ask_once table cluster attribute now value r q x y e f = let w = one_outcome (ask_left table (key_as cluster attribute) now value) r q table table x y e f in (w.0, w.1.1)
 
 pub hd_mark_once : HdMarkOnce
-hd_mark_once table cluster code attribute now value r q bs cs e f = one_table (mark_left table (key_as cluster code attribute) now value) r q bs cs e f
+hd_mark_once table cluster attribute now value r q bs cs e f = one_table (mark_left table (key_as cluster attribute) now value) r q bs cs e f
 
 -- src/saving.rt
 

@@ -1,35 +1,11 @@
 -- Definitions. The readers' functions towards C: those of crate `readers`. Each gives document 01's number and results: what the reader's answer
 -- tells.
 use Rattle.std.specs.Prelude.{ℕ, List}
-use Rattle.frame.specs.declared.answer.Refusal.TheVariants.{HeaderShort}
-use Rattle.frame.specs.declared.header.HeaderRead.{HeaderRead}
-use Rattle.frame.specs.declared.header.HeaderRead.TheVariants.{Header, Short}
-use Rattle.frame.specs.Answer.{refusal_number}
-use Rattle.frame.specs.Header.{header_of}
 use Rattle.readers.specs.Reading.{counted, kth}
 use Rattle.readers.specs.Replies.{Response, write_reply_of, configure_reply_of, configuration_reply_of, report_frame_of, read_reply_of, discover_reply_of, default_response_of}
 use Rattle.readers.specs.Values.{read_reply_held, report_frame_held}
 use Rattle.readers.specs.Answers.{Sized, sized, attributes_in}
-use Rattle.readers.specs.Told.{Told, told, count_told, ReadFields, read_record_told, ReportFields, report_record_told, WriteFields, write_record_told, ConfigureFields, configure_record_told, SettingFields, configuration_record_told, discovery_told, DiscoverFields, discover_record_told, default_response_told}
-
--- ---- a header by itself
-
-pub record HeaderFields : Type 0 where
-  pub control : ℕ
-  pub code : ℕ
-  pub sequence : ℕ
-  pub command : ℕ
-
-abbrev pub header_as : ℕ → ℕ → ℕ → ℕ → HeaderFields
-header_as control code sequence command = record { control = control; code = code; sequence = sequence; command = command }
-
--- hd_header: 2 for a frame that is too short to have one
-abbrev pub header_by : HeaderRead → Told HeaderFields
-header_by (Header h) = told 0 (header_as h.frame_control.0 h.manufacturer_code.0 h.sequence_number h.command_identifier.0)
-header_by Short = told (refusal_number HeaderShort) (header_as 0 0 0 0)
-
-abbrev pub header_left : List ℕ → Told HeaderFields
-header_left f = header_by (header_of f)
+use Rattle.readers.specs.Told.{Told, count_told, ReadFields, read_record_told, ReportFields, report_record_told, WriteFields, write_record_told, ConfigureFields, configure_record_told, SettingFields, configuration_record_told, discovery_told, DiscoverFields, discover_record_told, default_response_told}
 
 -- ---- the checks: how many records
 

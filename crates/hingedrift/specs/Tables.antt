@@ -9,9 +9,9 @@ use Rattle.reporting.specs.Table.{capacity}
 use Rattle.reporting.specs.Carried.{size_ok, is_table, table_bytes}
 use Rattle.reporting.specs.Lent.{table_number, ask_lent, configuration_lent, mark_lent, clear_lent, configure_lent}
 
--- a cluster, a manufacturer code and an attribute, as C hands them over
-abbrev pub key_as : ℕ → ℕ → ℕ → Key
-key_as cluster code attribute = record { cluster = record { 0 = cluster }; code = record { 0 = code }; attribute = record { 0 = attribute } }
+-- a cluster and an attribute, as C hands them over
+abbrev pub key_as : ℕ → ℕ → Key
+key_as cluster attribute = record { cluster = record { 0 = cluster }; attribute = record { 0 = attribute } }
 
 -- a mark is 0, signed, or 1, unsigned
 abbrev pub config_of : ℕ → ℕ → ℕ → ℕ → ReportingConfig

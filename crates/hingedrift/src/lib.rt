@@ -1,7 +1,5 @@
 // What the box's radio driver, which is C, calls: numbers and byte buffers, thin over the proved crates. include/hingedrift.h
 // declares it.
-mod form;
-pub mod moving;
 pub mod reading;
 pub mod saving;
 pub mod serving;

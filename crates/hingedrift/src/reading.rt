@@ -3,10 +3,8 @@
 ghost use Rattle.std.specs.Prelude.{◌≡◌};
 ghost use Rattle.readers.specs.Answers.{count_is};
 ghost use Rattle.readers.specs.Told.{told, count_told, value_as, value_fields, read_as, report_as, write_as, configure_as, setting_as, sized_as, discover_as, response_as};
-ghost use Rattle.hingedrift.specs.Reading.{header_as, header_left, read_checked, write_checked, configure_checked, configuration_checked, report_checked, discover_checked, read_recorded, report_recorded, write_recorded, configure_recorded, configuration_recorded, discover_recorded, response_told};
+ghost use Rattle.hingedrift.specs.Reading.{read_checked, write_checked, configure_checked, configuration_checked, report_checked, discover_checked, read_recorded, report_recorded, write_recorded, configure_recorded, configuration_recorded, discover_recorded, response_told};
 
-use frame::answer::Refusal;
-use frame::header::{HeaderRead, read_header};
 use readers::configuration_reply::{
     ConfigurationReplyRecord, check_configuration_reply, configuration_reply_record,
 };
@@ -60,34 +58,6 @@ fn hand_value(
         *numbered = 1;
         *number = z;
     }
-}
-
-// A header by itself: the code is 0 where it has none.
-#[unsafe(no_mangle)]
-pub extern "C" fn hd_header(
-    frame: &[u8],
-    control: &mut u8,
-    code: &mut u16,
-    sequence: &mut u8,
-    command: &mut u8,
-) -> u8
-    ensures { told result (header_as control.new code.new sequence.new command.new) ≡ header_left frame.now }
-{
-    *control = 0;
-    *code = 0;
-    *sequence = 0;
-    *command = 0;
-    let HeaderRead::Header(h) = read_header(frame) else {
-        return Refusal::HeaderShort.number();
-    };
-    let bits = h.frame_control;
-    let maker = h.manufacturer_code;
-    let asked = h.command_identifier;
-    *control = bits.0;
-    *code = maker.0;
-    *sequence = h.sequence_number;
-    *command = asked.0;
-    0
 }
 
 // The reply to Read Attributes.

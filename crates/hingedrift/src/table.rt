@@ -3,21 +3,19 @@ ghost use Rattle.std.specs.Prelude.{◌≡◌};
 ghost use Rattle.hingedrift.specs.Tables.{key_as, config_of, left, no_result, configuration_as, new_left, configure_left, clear_left, mark_left, ask_left, configuration_left};
 
 use frame::answer::Refusal;
-use frame::header::ManufacturerCode;
 use frame::reply::clear;
-use reporting::carried::{TABLE_BYTES, is_table, told_if};
+use reporting::carried::{TABLE_BYTES, is_table};
 use reporting::entry::{Key, ReportingConfig};
 use reporting::lent::{ask_lent, clear_lent, configuration_lent, configure_in, mark_lent};
 use reporting::table::{Change, Report, Setting};
 use types::ids::{AttributeId, ClusterId};
 
-// The key of a cluster, a manufacturer code and an attribute, as C hands them over.
-fn key_of(cluster: u16, code: u16, attribute: u16) -> Key
-    ensures { result ≡ key_as cluster code attribute }
+// The key of a cluster and an attribute, as C hands them over.
+fn key_of(cluster: u16, attribute: u16) -> Key
+    ensures { result ≡ key_as cluster attribute }
 {
     Key {
         cluster: ClusterId(cluster),
-        code: ManufacturerCode(code),
         attribute: AttributeId(attribute),
     }
 }
@@ -39,7 +37,6 @@ pub extern "C" fn hd_table_new(table: &mut [u8]) -> u8
 pub extern "C" fn hd_configure(
     table: &mut [u8],
     cluster: u16,
-    code: u16,
     attribute: u16,
     minimum: u16,
     maximum: u16,
@@ -47,7 +44,7 @@ pub extern "C" fn hd_configure(
     mark: u8,
     accepted: &mut u8,
 ) -> u8
-    ensures { left result table.new accepted.new ≡ configure_left table.old (key_as cluster code attribute) (config_of minimum maximum change mark) mark }
+    ensures { left result table.new accepted.new ≡ configure_left table.old (key_as cluster attribute) (config_of minimum maximum change mark) mark }
 {
     *accepted = 0;
     if !is_table(table) {
@@ -62,7 +59,7 @@ pub extern "C" fn hd_configure(
         reportable_change: change,
         unsigned: mark == 1,
     };
-    match configure_in(table, key_of(cluster, code, attribute), config) {
+    match configure_in(table, key_of(cluster, attribute), config) {
         Change::Done => {
             *accepted = 1;
             0
@@ -74,10 +71,10 @@ pub extern "C" fn hd_configure(
 
 // Takes an attribute's configuration out of the table.
 #[unsafe(no_mangle)]
-pub extern "C" fn hd_clear(table: &mut [u8], cluster: u16, code: u16, attribute: u16) -> u8
-    ensures { left result table.new no_result ≡ clear_left table.old (key_as cluster code attribute) }
+pub extern "C" fn hd_clear(table: &mut [u8], cluster: u16, attribute: u16) -> u8
+    ensures { left result table.new no_result ≡ clear_left table.old (key_as cluster attribute) }
 {
-    if clear_lent(table, key_of(cluster, code, attribute)) {
+    if clear_lent(table, key_of(cluster, attribute)) {
         return 0;
     }
     Refusal::NotATable.number()
@@ -88,7 +85,6 @@ pub extern "C" fn hd_clear(table: &mut [u8], cluster: u16, code: u16, attribute:
 pub extern "C" fn hd_configuration(
     table: &[u8],
     cluster: u16,
-    code: u16,
     attribute: u16,
     found: &mut u8,
     minimum: &mut u16,
@@ -96,20 +92,20 @@ pub extern "C" fn hd_configuration(
     change: &mut u64,
     mark: &mut u8,
 ) -> u8
-    ensures { left result table.now (configuration_as found.new minimum.new maximum.new change.new mark.new) ≡ configuration_left table.now (key_as cluster code attribute) }
+    ensures { left result table.now (configuration_as found.new minimum.new maximum.new change.new mark.new) ≡ configuration_left table.now (key_as cluster attribute) }
 {
     *found = 0;
     *minimum = 0;
     *maximum = 0;
     *change = 0;
     *mark = 0;
-    match configuration_lent(table, key_of(cluster, code, attribute)) {
+    match configuration_lent(table, key_of(cluster, attribute)) {
         Setting::Given(config) => {
             *found = 1;
             *minimum = config.min_interval;
             *maximum = config.max_interval;
             *change = config.reportable_change;
-            *mark = told_if(config.unsigned, 1) as u8;
+            *mark = if config.unsigned { 1 } else { 0 };
             0
         }
         Setting::Nothing => 0,
@@ -122,16 +118,15 @@ pub extern "C" fn hd_configuration(
 pub extern "C" fn hd_ask(
     table: &[u8],
     cluster: u16,
-    code: u16,
     attribute: u16,
     now: u32,
     value: i64,
     due: &mut u8,
 ) -> u8
-    ensures { left result table.now due.new ≡ ask_left table.now (key_as cluster code attribute) now value }
+    ensures { left result table.now due.new ≡ ask_left table.now (key_as cluster attribute) now value }
 {
     *due = 0;
-    match ask_lent(table, key_of(cluster, code, attribute), now, value) {
+    match ask_lent(table, key_of(cluster, attribute), now, value) {
         Report::Due => {
             *due = 1;
             0
@@ -146,14 +141,13 @@ pub extern "C" fn hd_ask(
 pub extern "C" fn hd_mark(
     table: &mut [u8],
     cluster: u16,
-    code: u16,
     attribute: u16,
     now: u32,
     value: i64,
 ) -> u8
-    ensures { left result table.new no_result ≡ mark_left table.old (key_as cluster code attribute) now value }
+    ensures { left result table.new no_result ≡ mark_left table.old (key_as cluster attribute) now value }
 {
-    if mark_lent(table, key_of(cluster, code, attribute), now, value) {
+    if mark_lent(table, key_of(cluster, attribute), now, value) {
         return 0;
     }
     Refusal::NotATable.number()

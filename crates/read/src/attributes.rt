@@ -4,7 +4,6 @@ ghost use Rattle.frame.specs.Status.{status_code};
 ghost use Rattle.frame.specs.Answer.{seen, no_state};
 ghost use Rattle.frame.specs.Inside.Buffer.{putting, put};
 ghost use Rattle.frame.specs.Inside.Shortened.{Turned, Walked};
-ghost use Rattle.store.specs.Contents.{entry_size};
 ghost use Rattle.read.specs.Read.{id_at, value as valueRecord, failure, encode, record_for, read_of};
 ghost use Rattle.read.specs.Inside.{item_of};
 
@@ -13,7 +12,6 @@ use frame::command_identifier::CommandIdentifier;
 use frame::header::{ZclHeader, write_response_header};
 use frame::reply::{Put, clear, put_both, put_run};
 use frame::status::Status;
-use store::form::Form;
 use store::lookup::{Found, find, name_of};
 use store::value::value_of;
 use types::ids::AttributeId;
@@ -59,18 +57,11 @@ fn put_value(reply: &mut [u8], out: usize, id: AttributeId, code: u8, value: &[u
 
 // One id: where an attribute is not found, the record is id and 86; otherwise its value, or 89 where that does not fit. Full where
 // not even id and status do.
-fn read_turn(
-    store: &[u8],
-    form: Form,
-    request: ZclHeader,
-    id: AttributeId,
-    reply: &mut [u8],
-    out: usize,
-) -> Put
-    ensures { Turned encode (record_for (entry_size form) store.now request) id.0 reply.old out result reply.new }
+fn read_turn(store: &[u8], request: ZclHeader, id: AttributeId, reply: &mut [u8], out: usize) -> Put
+    ensures { Turned encode (record_for 8 store.now request) id.0 reply.old out result reply.new }
 {
     let name = name_of(request.manufacturer_code, id);
-    let Found::At(a) = find(store, form, name) else {
+    let Found::At(a) = find(store, name) else {
         return put_failure(reply, out, id, Status::UnsupportedAttribute);
     };
     let code = a.type_id;
@@ -84,13 +75,12 @@ fn read_turn(
 // Every id of the body, behind a header that ends at `from`. The walk stops without error at the first record that does not fit.
 fn read_records(
     store: &[u8],
-    form: Form,
     request: ZclHeader,
     body: &[u8],
     reply: &mut [u8],
     from: usize,
 ) -> Answer
-    ensures { Walked encode (record_for (entry_size form) store.now request) (id_at body.now) (length body.now) reply.old from result reply.new }
+    ensures { Walked encode (record_for 8 store.now request) (id_at body.now) (length body.now) reply.old from result reply.new }
 {
     let mut at: usize = 0;
     let mut out = from;
@@ -98,7 +88,7 @@ fn read_records(
         let NextId::Id(id, next) = next_id(body, at) else {
             return refuse(reply, Refusal::RecordCut);
         };
-        let Put::At(o) = read_turn(store, form, request, id, reply, out) else {
+        let Put::At(o) = read_turn(store, request, id, reply, out) else {
             return Answer::Reply(out);
         };
         at = next;
@@ -108,19 +98,13 @@ fn read_records(
 }
 
 // Read Attributes. The store may be any bytes; whoever serves a frame has checked it.
-pub fn read_attributes(
-    store: &[u8],
-    form: Form,
-    request: ZclHeader,
-    body: &[u8],
-    reply: &mut [u8],
-) -> Answer
-    ensures { seen result reply.new no_state ≡ read_of (entry_size form) store.now request body.now (length reply.old) }
+pub fn read_attributes(store: &[u8], request: ZclHeader, body: &[u8], reply: &mut [u8]) -> Answer
+    ensures { seen result reply.new no_state ≡ read_of 8 store.now request body.now (length reply.old) }
 {
     clear(reply);
     let put = write_response_header(reply, request, CommandIdentifier::ReadAttributesResponse);
     let Put::At(from) = put else {
         return Answer::Refused(Refusal::ReplyTooLong);
     };
-    read_records(store, form, request, body, reply, from)
+    read_records(store, request, body, reply, from)
 }

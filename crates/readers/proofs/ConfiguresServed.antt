@@ -10,7 +10,7 @@ use Rattle.types.proofs.Numbers.{unsigned_below}
 use Rattle.frame.specs.declared.status.Status.{Status}
 use Rattle.frame.specs.declared.command_identifier.CommandIdentifier.TheVariants.{ConfigureReporting, ConfigureReportingResponse}
 use Rattle.frame.specs.Status.{status_code}
-use Rattle.frame.specs.Header.{head_size}
+use Rattle.frame.specs.Header.{reply_head}
 use Rattle.frame.specs.Walk.{item, All}
 use Rattle.frame.specs.Sized.{up_to}
 use Rattle.frame.specs.Encoded.{fits}
@@ -63,13 +63,13 @@ module _ (body : List ℕ) (bytes : AllBytes body) where
   named_all = every_read (configure_at body) (length body) Named named_at
 
 sent : Commands ConfigureReportingResponse (encode_failures encode) (All ConfigureSendable) ConfigureReporting configure_made
-unfolding commanded configure_of configure_entries
+unfolding commanded configure_of configure_entries reply_head
 sent form limit s l unicast h body room t store =
     let doing : Doing (List Entry) ConfigureRecord Failure = configuring form limit s h in
     record {
-      sendable = keeps_failures doing ConfigureSendable Named listed_good (fits encode room (head_size h)) (configures body) l (named_all body t.1);
+      sendable = keeps_failures doing ConfigureSendable Named listed_good (fits encode room 3) (configures body) l (named_all body t.1);
       sends = headed_sends h ConfigureReportingResponse l room (performed doing (configures body) l room) _
-          (performed_sends doing (configures body) l room h ConfigureReportingResponse);
+          (performed_sends doing (configures body) l room (reply_head h ConfigureReportingResponse));
     }
 
 -- THE PROMISE

@@ -13,7 +13,7 @@ use Rattle.types.specs.Number.{AllBytes}
 use Rattle.frame.specs.declared.answer.Refusal.TheVariants.{RecordCut, NotSuchAReply}
 use Rattle.frame.specs.declared.command_identifier.CommandIdentifier.TheVariants.{DiscoverAttributesResponse}
 use Rattle.frame.specs.declared.header.ZclHeader.{ZclHeader}
-use Rattle.frame.specs.Header.{reply_head, head_size}
+use Rattle.frame.specs.Header.{reply_head}
 use Rattle.frame.specs.Encoded.{encode_all}
 use Rattle.discover.specs.Discover as Discover
 use Rattle.readers.specs.declared.layout.Layout.TheVariants.{Discovered}
@@ -71,7 +71,7 @@ unfolding discover_reply_of
 discover_back request d h =
     let f : List ℕ = reply_head request DiscoverAttributesResponse ++ discovery_bytes d in
     ap (λ (b : Read ℕ). and_then b (discovery_at f)) (body_at request DiscoverAttributesResponse (discovery_bytes d))
-    ∙ at_back f (head_size request) d h (body_is request DiscoverAttributesResponse (discovery_bytes d))
+    ∙ at_back f 3 d h (body_is request DiscoverAttributesResponse (discovery_bytes d))
 
 -- WHAT IS ACCEPTED was so written
 pub discover_only : (f : List ℕ) (d : Discovery) → AllBytes f → discover_reply_of f ≡ read d

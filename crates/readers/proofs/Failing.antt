@@ -13,7 +13,7 @@ use Rattle.frame.specs.Walk.{All}
 use Rattle.frame.specs.declared.answer.Refusal.TheVariants.{RecordCut}
 use Rattle.frame.specs.declared.command_identifier.CommandIdentifier.{CommandIdentifier}
 use Rattle.frame.specs.declared.header.ZclHeader.{ZclHeader}
-use Rattle.frame.specs.Header.{reply_head, head_size}
+use Rattle.frame.specs.Header.{reply_head}
 use Rattle.frame.specs.Encoded.{encode_all}
 use Rattle.frame.specs.Failures.{encode_failures}
 use Rattle.readers.specs.declared.layout.Layout.{Layout}
@@ -84,7 +84,7 @@ module _ {R : Type 0} (command : CommandIdentifier) (layout : Layout) (decode : 
   failing_back request rs h =
       let f : List ℕ = reply_head request command ++ encode_failures encode rs in
       ap (λ (b : Read ℕ). records_of decode f (and_then b (failures_from layout f))) (body_at request command (encode_failures encode rs))
-      ∙ from_back f (head_size request) rs h (body_is request command (encode_failures encode rs))
+      ∙ from_back f 3 rs h (body_is request command (encode_failures encode rs))
 
   failing_only : (f : List ℕ) (rs : List R) → AllBytes f → records_of decode f (failures_of command layout f) ≡ read rs
       → All Good rs × ((p : ℕ) × (body_of command f ≡ read p) × (drop p f ≡ encode_failures encode rs))

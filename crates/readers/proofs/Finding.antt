@@ -45,10 +45,9 @@ abbrev pub Reports : (ReportRecord → Type 0) → Reported → Type 0
 Reports Good (all rs) = All Good rs
 Reports Good (trouble why) = Unit {0}
 
-module _ (form : ℕ) (s : List ℕ) (code room head : ℕ) (Good : ReportRecord → Type 0) (Fine : ℕ → Type 0)
-    (finds : (id : ℕ) → Fine id → (a : Attribute) → find_of form s (name_of code id) ≡ At a → Good (record_of s id a)) where
-  reports_by : (rs : List ReportRecord) (id : ℕ) → All Good rs → Fine id → (f : Found) → find_of form s (name_of code id) ≡ f
-      → Reports Good (report_by s room head rs id f)
+module _ (form : ℕ) (s : List ℕ) (room head : ℕ) (Good : ReportRecord → Type 0) (Fine : ℕ → Type 0)
+    (finds : (id : ℕ) → Fine id → (a : Attribute) → find_of form s (name_of 0 id) ≡ At a → Good (record_of s id a)) where
+  reports_by : (rs : List ReportRecord) (id : ℕ) → All Good rs → Fine id → (f : Found) → find_of form s (name_of 0 id) ≡ f → Reports Good (report_by s room head rs id f)
   reports_by rs id h b (At a) e = go (reportable a) (fits encode room head longer)
     where
       longer : List ReportRecord
@@ -60,10 +59,10 @@ module _ (form : ℕ) (s : List ℕ) (code room head : ℕ) (Good : ReportRecord
       go false y = tt
   reports_by rs id h b Nothing e = tt
 
-  reports_turn : (y : Reported) (id : ℕ) → Reports Good y → Fine id → Reports Good (report_one form s code room head y id)
-  reports_turn (all rs) id h b = reports_by rs id h b (find_of form s (name_of code id)) refl
+  reports_turn : (y : Reported) (id : ℕ) → Reports Good y → Fine id → Reports Good (report_one form s room head y id)
+  reports_turn (all rs) id h b = reports_by rs id h b (find_of form s (name_of 0 id)) refl
   reports_turn (trouble why) id h b = tt
 
-  pub made_report : (ids : List ℕ) → All Fine ids → Reports Good (report_from form s code room head [] ids)
+  pub made_report : (ids : List ℕ) → All Fine ids → Reports Good (report_from form s room head [] ids)
   unfolding report_from
-  made_report ids t = walk_keeps (report_one form s code room head) goes_on (Reports Good) Fine reports_turn done ids (all []) tt t
+  made_report ids t = walk_keeps (report_one form s room head) goes_on (Reports Good) Fine reports_turn done ids (all []) tt t

@@ -42,7 +42,7 @@ pub mod ServesBack  -- the promise, command by command
 -- The number comes through.
 pub mod Numbered  -- the number of a whole value is that of its bytes alone
 pub mod Through  -- the number that is read is the number in the store
-pub mod WorkedNumbers  -- over store T, and over one with two makers' attributes, by computing
+pub mod WorkedNumbers  -- over store T, by computing
 -- No second answer, and the bench replies.
 pub mod Views  -- what an answer says tells the answer
 pub mod Cases  -- each answer tells what its contract says

@@ -1,5 +1,5 @@
 -- The bytes of an outcome that is a reply, for the two shapes of commands: a shortened list, and a list of failures. Assumes nothing.
-use mathlib.Core.Path.{◌≡◌, subst}
+use mathlib.Core.Path.{◌≡◌}
 use mathlib.Core.Bool.{Bool, true, false, cond}
 use mathlib.Core.List.{List, [], ◌++◌}
 use Prim.Native.Nat.{ℕ}
@@ -10,7 +10,7 @@ use Rattle.frame.specs.declared.header.ZclHeader.{ZclHeader}
 use Rattle.frame.specs.declared.command_identifier.CommandIdentifier.{CommandIdentifier}
 use Rattle.frame.specs.declared.answer.Refusal.{Refusal}
 use Rattle.frame.specs.declared.answer.Refusal.TheVariants.{RecordCut, ReplyTooLong}
-use Rattle.frame.specs.Header.{reply_head, head_size}
+use Rattle.frame.specs.Header.{reply_head}
 use Rattle.frame.specs.Answer.{Outcome, no_state, replied, refused}
 use Rattle.frame.specs.Walk.{Records, Way, through, broken, stopped, reached}
 use Rattle.frame.specs.Encoded.{encode_all, fits}
@@ -18,7 +18,6 @@ use Rattle.frame.specs.Shortened.{Making, shortened_from, shortened_reply, short
 use Rattle.frame.specs.Failures.{Doing, Sofar, pass, encode_failures, answered, concluded, performed, headed}
 use Rattle.frame.proofs.Buffer.{take_padded}
 use Rattle.frame.proofs.Codes.{refusal_nonzero}
-use Rattle.frame.proofs.Headers.{reply_head_length}
 use Rattle.readers.specs.Claims.Served.{kept}
 
 -- the bytes of a reply: as many of the buffer as its size says
@@ -54,16 +53,12 @@ reply_sends encode room head (through rs) = sends_replied room (head ++ encode_a
 reply_sends encode room head (broken rs) = sends_refused room RecordCut no_state (head ++ encode_all encode rs)
 reply_sends encode room head (stopped rs more) = sends_replied room (head ++ encode_all encode rs) no_state
 
-pub shortened_sends : {Q R : Type 0} (encode : R → List ℕ) (making : Making Q R) (request : ZclHeader) (command : CommandIdentifier) (requests : Records Q) (room : ℕ)
-    → (let head = reply_head request command in
-    Sends (shortened encode making head requests room) (head ++ encode_all encode (kept (shortened_from encode making room (head_size request) [] requests))))
+pub shortened_sends : {Q R : Type 0} (encode : R → List ℕ) (making : Making Q R) (head : List ℕ) (requests : Records Q) (room : ℕ)
+    → Sends (shortened encode making head requests room) (head ++ encode_all encode (kept (shortened_from encode making room (length head) [] requests)))
 unfolding shortened
-shortened_sends encode making request command requests room =
-    let head : List ℕ = reply_head request command in
-    subst (λ (n : ℕ). Sends (shortened encode making head requests room) (head ++ encode_all encode (kept (shortened_from encode making room n [] requests))))
-    (reply_head_length request command)
-    (sends_tested room (leb (length head) room) _ ReplyTooLong no_state _
-    (reply_sends encode room head (shortened_from encode making room (length head) [] requests)))
+shortened_sends encode making head requests room =
+    sends_tested room (leb (length head) room) _ ReplyTooLong no_state _
+    (reply_sends encode room head (shortened_from encode making room (length head) [] requests))
 
 -- ---- a list of failures: all that were listed
 
@@ -76,15 +71,11 @@ concluded_sends bytes room head (through x) =
 concluded_sends bytes room head (broken x) = sends_refused room RecordCut x.state _
 concluded_sends bytes room head (stopped x y) = sends_refused room ReplyTooLong y.state _
 
-pub performed_sends : {S R F : Type 0} (doing : Doing S R F) (rs : Records R) (s : S) (room : ℕ) (request : ZclHeader) (command : CommandIdentifier)
-    → (let head = reply_head request command in
-    Sends (performed doing rs s room head) (head ++ encode_failures doing.bytes (reached (pass doing (fits doing.bytes room (head_size request)) rs s)).failures))
+pub performed_sends : {S R F : Type 0} (doing : Doing S R F) (rs : Records R) (s : S) (room : ℕ) (head : List ℕ)
+    → Sends (performed doing rs s room head)
+    (head ++ encode_failures doing.bytes (reached (pass doing (fits doing.bytes room (length head)) rs s)).failures)
 unfolding performed
-performed_sends doing rs s room request command =
-    let head : List ℕ = reply_head request command in
-    subst (λ (n : ℕ). Sends (performed doing rs s room head) (head ++ encode_failures doing.bytes (reached (pass doing (fits doing.bytes room n) rs s)).failures))
-    (reply_head_length request command)
-    (concluded_sends doing.bytes room head (pass doing (fits doing.bytes room (length head)) rs s))
+performed_sends doing rs s room head = concluded_sends doing.bytes room head (pass doing (fits doing.bytes room (length head)) rs s)
 
 pub headed_sends : {S : Type 0} (request : ZclHeader) (command : CommandIdentifier) (s : S) (room : ℕ) (rest : List ℕ → Outcome S) (out : List ℕ)
     → Sends (rest (reply_head request command)) out → Sends (headed request command s room rest) out

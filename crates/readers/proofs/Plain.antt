@@ -7,7 +7,7 @@ use Rattle.types.specs.Number.{AllBytes}
 use Rattle.frame.specs.Walk.{All}
 use Rattle.frame.specs.declared.command_identifier.CommandIdentifier.{CommandIdentifier}
 use Rattle.frame.specs.declared.header.ZclHeader.{ZclHeader}
-use Rattle.frame.specs.Header.{reply_head, head_size}
+use Rattle.frame.specs.Header.{reply_head}
 use Rattle.frame.specs.Encoded.{encode_all}
 use Rattle.readers.specs.declared.layout.Layout.{Layout}
 use Rattle.readers.specs.Layout.{length_of}
@@ -32,7 +32,7 @@ module _ {R : Type 0} (command : CommandIdentifier) (layout : Layout) (decode : 
   plain_back request rs h =
       let f : List ℕ = reply_head request command ++ encode_all encode rs in
       ap (λ (b : Read ℕ). records_of decode f (and_then b (spans_from (length_of layout) f))) (body_at request command (encode_all encode rs))
-      ∙ records_back (length_of layout) decode encode Good codec f rs (head_size request) h (body_is request command (encode_all encode rs))
+      ∙ records_back (length_of layout) decode encode Good codec f rs 3 h (body_is request command (encode_all encode rs))
 
   plain_only : (f : List ℕ) (rs : List R) → AllBytes f → records_of decode f (spans_of command layout f) ≡ read rs
       → All Good rs × ((p : ℕ) × (body_of command f ≡ read p) × (drop p f ≡ encode_all encode rs))

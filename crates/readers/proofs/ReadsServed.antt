@@ -8,7 +8,7 @@ use Rattle.types.specs.Number.{unsigned_at, AllBytes}
 use Rattle.types.proofs.Numbers.{unsigned_below}
 use Rattle.frame.specs.declared.header.ZclHeader.{ZclHeader}
 use Rattle.frame.specs.declared.command_identifier.CommandIdentifier.TheVariants.{ReadAttributes, ReadAttributesResponse}
-use Rattle.frame.specs.Header.{head_size}
+use Rattle.frame.specs.Header.{reply_head}
 use Rattle.frame.specs.Walk.{item, All}
 use Rattle.frame.specs.Encoded.{encode_all}
 use Rattle.frame.proofs.Sized.{up_to_is}
@@ -39,12 +39,12 @@ makes form s h store fit id b =
     made_read form s h ReadSendable id (λ a e. (b, found_whole form s (name_of h.manufacturer_code.0 id) a store e)) (λ status k. (b, k)) fit
 
 sent : Commands ReadAttributesResponse (encode_all encode) (All ReadSendable) ReadAttributes read_made
-unfolding commanded read_of
+unfolding commanded read_of reply_head
 sent form limit s l unicast h body room t store =
     record {
-      sendable = keeps_shortened encode (record_for form s h) room (head_size h) ReadSendable (λ id. id < 2 ^ 16) (makes form s h store) (ids_from body 0)
+      sendable = keeps_shortened encode (record_for form s h) room 3 ReadSendable (λ id. id < 2 ^ 16) (makes form s h store) (ids_from body 0)
           (every_read (id_at body) (length body) (λ id. id < 2 ^ 16) (id_below body t.1));
-      sends = shortened_sends encode (record_for form s h) h ReadAttributesResponse (ids_from body 0) room;
+      sends = shortened_sends encode (record_for form s h) (reply_head h ReadAttributesResponse) (ids_from body 0) room;
     }
 
 -- THE PROMISE

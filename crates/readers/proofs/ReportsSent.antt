@@ -1,5 +1,5 @@
 -- Reading a report that was made gives the records of its list of ids. Assumes nothing.
-use mathlib.Core.Path.{◌≡◌, refl, ap, ◌∙◌, subst}
+use mathlib.Core.Path.{◌≡◌, refl, ap, ◌∙◌}
 use mathlib.Core.Bool.{cond}
 use mathlib.Core.List.{List, [], ◌++◌}
 use Prim.Native.Nat.{ℕ, ◌<◌, ◌^◌}
@@ -10,13 +10,13 @@ use Rattle.frame.specs.Walk.{All}
 use Rattle.frame.specs.declared.command_identifier.CommandIdentifier.TheVariants.{ReportAttributes}
 use Rattle.frame.specs.declared.answer.Answer.TheVariants.{Reply}
 use Rattle.frame.specs.declared.answer.Refusal.TheVariants.{ReplyTooLong, NotAStore, EmptyReport}
+use Rattle.frame.specs.Header.{reply_head}
 use Rattle.frame.specs.Answer.{Outcome, no_state, seen, refused}
 use Rattle.frame.specs.Encoded.{encode_all}
 use Rattle.frame.proofs.Codes.{refusal_nonzero}
-use Rattle.frame.proofs.Headers.{reply_head_length}
 use Rattle.store.specs.Contents.{name_of}
 use Rattle.store.specs.Layout.{is_store}
-use Rattle.report.specs.Report.{ReportRecord, encode, Reported, all, trouble, report_from, report_reply, unasked, report_head, report_of}
+use Rattle.report.specs.Report.{ReportRecord, encode, Reported, all, trouble, report_from, report_reply, unasked, report_of}
 use Rattle.readers.specs.Reading.{read}
 use Rattle.readers.specs.Replies.{report_frame_of}
 use Rattle.readers.specs.Claims.Sendable.{ReportSendable}
@@ -30,34 +30,32 @@ use Rattle.readers.proofs.Answers.{seen_zero, read_sent}
 
 -- ---- THE PROMISE
 
-module _ (back : ReportFrames) (room code sequence size : ℕ) (reply : List ℕ) where
+module _ (back : ReportFrames) (room sequence size : ℕ) (reply : List ℕ) where
   -- what was sent is all records, and they are read
-  by_report : (y : Reported) → Reports ReportSendable y → seen (Reply size) reply no_state ≡ report_reply room (report_head code sequence) y
+  by_report : (y : Reported) → Reports ReportSendable y → seen (Reply size) reply no_state ≡ report_reply room (reply_head (unasked sequence) ReportAttributes) y
       → (rs : List ReportRecord) × (y ≡ all rs) × (report_frame_of (take size reply) ≡ read rs)
   unfolding report_reply
   by_report (all rs) g e =
-      let head : List ℕ = report_head code sequence in (
+      let head : List ℕ = reply_head (unasked sequence) ReportAttributes in (
         rs,
         refl,
-        read_sent report_frame_of ReportAttributes (encode_all encode) (All ReportSendable) back.0 (unasked code sequence) (report_reply room head (all rs)) rs
+        read_sent report_frame_of ReportAttributes (encode_all encode) (All ReportSendable) back.0 (unasked sequence) (report_reply room head (all rs)) rs
             (record { sendable = g; sends = sends_replied room (head ++ encode_all encode rs) no_state }) size reply no_state e,
       )
   by_report (trouble why) g e = absurd (omega (arith, refusal_nonzero why, ap (λ (o : Outcome (Unit {0})). o.number) e))
 
 pub report_sent : ReportFrames → ReportSent
-unfolding report_of
-report_sent back form s code sequence ids room short size reply e =
-    let head : List ℕ = report_head code sequence in
-    let y : Reported = report_from form s code room (length head) [] ids in
+unfolding report_of reply_head
+report_sent back form s sequence ids room short size reply e =
+    let head : List ℕ = reply_head (unasked sequence) ReportAttributes in
+    let y : Reported = report_from form s room 3 [] ids in
     let one : Outcome (Unit {0}) = cond (ltb 0 (length ids)) (report_reply room head y) (refused room EmptyReport no_state) in
-    let two : Outcome (Unit {0}) = cond (leb (length head) room) one (refused room ReplyTooLong no_state) in
+    let two : Outcome (Unit {0}) = cond (leb 3 room) one (refused room ReplyTooLong no_state) in
     let p = passed room (is_store form s) two NotAStore no_state (seen_zero _ size reply no_state e) in
     let e₂ : seen (Reply size) reply no_state ≡ two = e ∙ p.1 in
-    let q = passed room (leb (length head) room) one ReplyTooLong no_state (seen_zero two size reply no_state e₂) in
+    let q = passed room (leb 3 room) one ReplyTooLong no_state (seen_zero two size reply no_state e₂) in
     let e₃ : seen (Reply size) reply no_state ≡ one = e₂ ∙ q.1 in
     let n = passed room (ltb 0 (length ids)) (report_reply room head y) EmptyReport no_state (seen_zero one size reply no_state e₃) in
-    subst (λ (k : ℕ). (rs : List ReportRecord) × (report_from form s code room k [] ids ≡ all rs) × (report_frame_of (take size reply) ≡ read rs))
-    (reply_head_length (unasked code sequence) ReportAttributes)
-    (by_report back room code sequence size reply y
-    (made_report form s code room (length head) ReportSendable (λ id. id < 2 ^ 16) (λ id b a f. (b, found_whole form s (name_of code id) a p.0 f)) ids short)
-    (e₃ ∙ n.1))
+    by_report back room sequence size reply y
+    (made_report form s room 3 ReportSendable (λ id. id < 2 ^ 16) (λ id b a f. (b, found_whole form s (name_of 0 id) a p.0 f)) ids short)
+    (e₃ ∙ n.1)

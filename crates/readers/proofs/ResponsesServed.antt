@@ -1,8 +1,8 @@
 -- Reading a Default Response gives the request's command and the status: to a cluster command, to any other global command, and of a
 -- cluster that is not served. Assumes nothing.
-use mathlib.Core.Path.{◌≡◌, refl, sym, ap, ◌∙◌, subst}
+use mathlib.Core.Path.{◌≡◌, refl, sym, subst}
 use mathlib.Core.Bool.{Bool, not, ◌&&◌}
-use mathlib.Core.List.{List, [], ◌++◌, append-nil}
+use mathlib.Core.List.{List, [], ◌++◌}
 use Prim.Native.Nat.{ℕ}
 use lib.ListN.{length}
 use lib.Dec.{leb}
@@ -34,7 +34,8 @@ abbrev Anything : Response → Type 0
 Anything r = Unit {0}
 
 responses_back : DefaultResponsesBack → ReadsBack default_response_of DefaultResponse response_bytes Anything
-responses_back back request x t = ap default_response_of (sym (append-nil (reply_head request DefaultResponse ++ response_bytes x))) ∙ back request x []
+unfolding reply_head
+responses_back back request x t = back request x []
 
 abbrev response : ZclHeader → Status → Response
 response h status = record { command = h.command_identifier.0; status = status_code status }

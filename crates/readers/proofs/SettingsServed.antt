@@ -15,7 +15,7 @@ use Rattle.frame.specs.declared.header.ZclHeader.{ZclHeader}
 use Rattle.frame.specs.declared.command_identifier.CommandIdentifier.TheVariants.{ReadReportingConfiguration, ReadReportingConfigurationResponse}
 use Rattle.frame.specs.declared.status.Status.TheVariants.{UnreportableAttribute}
 use Rattle.frame.specs.Status.{status_code}
-use Rattle.frame.specs.Header.{head_size}
+use Rattle.frame.specs.Header.{reply_head}
 use Rattle.frame.specs.Walk.{item, All}
 use Rattle.frame.specs.Encoded.{encode_all}
 use Rattle.frame.specs.Shortened.{Making}
@@ -87,13 +87,13 @@ module _ (l : List Entry) (short : All Short l) (r : Asked) (n : Named r) where
   makes form s h = made_by (key_for s h r.id) (find_of form s (name_of h.manufacturer_code.0 r.id))
 
 sent : Commands ReadReportingConfigurationResponse (encode_all encode) (All SettingSendable) ReadReportingConfiguration settings_made
-unfolding commanded configuration_of
+unfolding commanded configuration_of reply_head
 sent form limit s l unicast h body room t store =
     let making : Making Asked SettingRecord = λ fit. record_for form s l h in
     record {
-      sendable = keeps_shortened encode making room (head_size h) SettingSendable Named (λ fit r k. makes l t.2 r k form s h) (asked_from body 0)
+      sendable = keeps_shortened encode making room 3 SettingSendable Named (λ fit r k. makes l t.2 r k form s h) (asked_from body 0)
           (every_read (asked_at body) (length body) Named (named_at body t.1));
-      sends = shortened_sends encode making h ReadReportingConfigurationResponse (asked_from body 0) room;
+      sends = shortened_sends encode making (reply_head h ReadReportingConfigurationResponse) (asked_from body 0) room;
     }
 
 -- THE PROMISE

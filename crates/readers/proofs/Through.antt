@@ -15,7 +15,6 @@ use Rattle.types.specs.Value.{number_at}
 use Rattle.frame.specs.declared.header.ZclHeader.{ZclHeader}
 use Rattle.frame.specs.declared.command_identifier.CommandIdentifier.TheVariants.{ReadAttributes, ReadAttributesResponse, ReportAttributes}
 use Rattle.frame.specs.declared.answer.Refusal.TheVariants.{NotAStore}
-use Rattle.frame.specs.Header.{head_size}
 use Rattle.frame.specs.Answer.{no_state}
 use Rattle.frame.specs.Walk.{All}
 use Rattle.frame.proofs.Walks.{any}
@@ -26,7 +25,7 @@ use Rattle.store.specs.Layout.{is_store}
 use Rattle.store.specs.Value.{value_of, numbered_by, number_of}
 use Rattle.reporting.specs.declared.entry.Entry.{Entry}
 use Rattle.read.specs.Read.{ReadRecord, value, failure, encode, ids_from, record_for}
-use Rattle.report.specs.Report.{ReportRecord, report_record, all, report_from, unasked, report_of}
+use Rattle.report.specs.Report.{ReportRecord, report_record, all, report_from, report_of}
 use Rattle.readers.specs.declared.layout.Layout.TheVariants.{ReadStatus, Report}
 use Rattle.readers.specs.declared.value.ValueIn.{ValueIn}
 use Rattle.readers.specs.Reading.{Read, read, unreadable, mapped, kth, Span, cut_out, records_of}
@@ -115,20 +114,19 @@ module _ (form : ℕ) (s : List ℕ) where
 
   -- ---- a report
 
-  module _ (code : ℕ) where
-    abbrev ReportTells : ReportRecord → Type 0
-    ReportTells r = Tells (name_of code r.id) r.type r.value
+  abbrev ReportTells : ReportRecord → Type 0
+  ReportTells r = Tells (name_of 0 r.id) r.type r.value
 
-    report_tells : (f : List ℕ) (x : Span) (id t : ℕ) (v : List ℕ) (w : ValueIn) → report_held f x ≡ held (report_record id t v) (some w)
-        → ReportTells (reported_record (cut_out f x)) → numbered_by w.number ≡ number_of form s (name_of code id)
-    unfolding reported_record
-    report_tells f x id t v w e g =
-        let i : unsigned_at (cut_out f x) 0 2 ≡ id = ap (λ (y : Held ReportRecord). y.is.id) e in
-        let o : some (value_in f x 2) ≡ some w = ap (λ (y : Held ReportRecord). y.value) e in
-        let u : w ≡ value_in f x 2 = cc in
-        ap (λ (y : ValueIn). numbered_by y.number) u
-        ∙ value_tells f x 2 (name_of code (unsigned_at (cut_out f x) 0 2)) g
-        ∙ ap (λ (j : ℕ). number_of form s (name_of code j)) i
+  report_tells : (f : List ℕ) (x : Span) (id t : ℕ) (v : List ℕ) (w : ValueIn) → report_held f x ≡ held (report_record id t v) (some w)
+      → ReportTells (reported_record (cut_out f x)) → numbered_by w.number ≡ number_of form s (name_of 0 id)
+  unfolding reported_record
+  report_tells f x id t v w e g =
+      let i : unsigned_at (cut_out f x) 0 2 ≡ id = ap (λ (y : Held ReportRecord). y.is.id) e in
+      let o : some (value_in f x 2) ≡ some w = ap (λ (y : Held ReportRecord). y.value) e in
+      let u : w ≡ value_in f x 2 = cc in
+      ap (λ (y : ValueIn). numbered_by y.number) u
+      ∙ value_tells f x 2 (name_of 0 (unsigned_at (cut_out f x) 0 2)) g
+      ∙ ap (λ (j : ℕ). number_of form s (name_of 0 j)) i
 
 -- ---- THE THEOREMS
 
@@ -136,7 +134,7 @@ module _ (form : ℕ) (s : List ℕ) where
 read_made_tells : (form limit : ℕ) (s : List ℕ) (l : List Entry) (h : ZclHeader) (body : List ℕ) (room : ℕ) → is_store form s ≡ true
     → All (ReadTells form s h.manufacturer_code.0) (read_made form limit s l h body room)
 read_made_tells form limit s l h body room store =
-    keeps_shortened encode (record_for form s h) room (head_size h) (ReadTells form s h.manufacturer_code.0) (λ id. Unit {0})
+    keeps_shortened encode (record_for form s h) room 3 (ReadTells form s h.manufacturer_code.0) (λ id. Unit {0})
     (λ fit id u. made_read form s h (ReadTells form s h.manufacturer_code.0) id
     (found_tells form s store (name_of h.manufacturer_code.0 id)) (λ status k. tt) fit)
     (ids_from body 0)
@@ -154,21 +152,21 @@ read_number form limit s l cluster unicast frame room h typed asks size reply af
     read_tells form s code f y.0 id t v w y.1 y.2
 
 -- every value of a report was found
-report_made_tells : (form : ℕ) (s : List ℕ) (code : ℕ) (ids : List ℕ) (room head : ℕ) → is_store form s ≡ true → All (λ (id : ℕ). id < 2 ^ 16) ids
-    → (rs : List ReportRecord) → report_from form s code room head [] ids ≡ all rs → All (ReportTells form s code) rs
-report_made_tells form s code ids room head store short rs e =
-    subst (Reports (ReportTells form s code)) e
-    (made_report form s code room head (ReportTells form s code) (λ id. id < 2 ^ 16) (λ id b. found_tells form s store (name_of code id)) ids short)
+report_made_tells : (form : ℕ) (s : List ℕ) (ids : List ℕ) (room : ℕ) → is_store form s ≡ true → All (λ (id : ℕ). id < 2 ^ 16) ids
+    → (rs : List ReportRecord) → report_from form s room 3 [] ids ≡ all rs → All (ReportTells form s) rs
+report_made_tells form s ids room store short rs e =
+    subst (Reports (ReportTells form s)) e
+    (made_report form s room 3 (ReportTells form s) (λ id. id < 2 ^ 16) (λ id b. found_tells form s store (name_of 0 id)) ids short)
 
 pub report_number : ReportNumber
 unfolding report_frame_of records_of report_frame_held report_of
-report_number form s code sequence ids room short size reply e k id t v w i =
+report_number form s sequence ids room short size reply e k id t v w i =
     let f : List ℕ = take size reply in
-    let sent = report_sent form s code sequence ids room short size reply e in
+    let sent = report_sent form s sequence ids room short size reply e in
     let store = (passed room (is_store form s) _ NotAStore no_state (seen_zero _ size reply no_state e)).0 in
-    let good = report_made_tells form s code ids room (head_size (unasked code sequence)) store short sent.0 sent.1 in
-    let y = in_reply (λ (x : Span). reported_record (cut_out f x)) (report_held f) (ReportTells form s code) (spans_of ReportAttributes Report f) _ sent.2 good k _ i in
-    report_tells form s code f y.0 id t v w y.1 y.2
+    let good = report_made_tells form s ids room store short sent.0 sent.1 in
+    let y = in_reply (λ (x : Span). reported_record (cut_out f x)) (report_held f) (ReportTells form s) (spans_of ReportAttributes Report f) _ sent.2 good k _ i in
+    report_tells form s f y.0 id t v w y.1 y.2
 
 -- ---- record k
 

@@ -1,7 +1,6 @@
--- Numbers over document 01's store T, served and read back, by computing: an unsigned counter with its top bit set, and a negative one. And two makers'
--- attributes with one number, each read by its code. Assumes nothing.
+-- Numbers over document 01's store T, served and read back, by computing: an unsigned counter with its top bit set, and a negative one.
+-- Assumes nothing.
 use mathlib.Core.Path.{◌≡◌, refl}
-use mathlib.Core.Bool.{true}
 use mathlib.Core.List.{List, [], ◌∷◌}
 use mathlib.Core.Option.{Option, none, some}
 use Prim.Native.Nat.{ℕ}
@@ -17,19 +16,17 @@ use Rattle.frame.specs.Reply.{padded}
 use Rattle.frame.specs.Walk.{records_in, records_from, walk}
 use Rattle.frame.specs.Encoded.{encode_all, fits}
 use Rattle.frame.specs.Shortened.{with_record_for, shortened_from, shortened_reply, shortened}
-use Rattle.store.specs.Contents.{attribute_at, attributes_from, attributes_of, of_code, find_in, find_of}
+use Rattle.store.specs.Contents.{attribute_at, attributes_from, attributes_of, find_in, find_of}
 use Rattle.store.specs.Layout.{each, ascending, room_ok, is_text, length_ok, follow_on, end_from, unused_ok, is_store}
 use Rattle.store.specs.Value.{used_of, value_of}
-use Rattle.reporting.specs.Table.{capacity, holding}
 use Rattle.read.specs.Read.{id_at, encode, record_by, record_for, read_of}
-use Rattle.discover.specs.Discover.{encode as encodeDiscovered, at_or_after, listed, complete_byte, discovered_all, discover_reply, discover_of}
 use Rattle.server.specs.Serve.{commanded, typed, by_header, tabled, serve}
-use Rattle.server.specs.Claims.Bench.{T, bench_answer, cluster}
+use Rattle.server.specs.Claims.Bench.{T, bench_answer}
 use Rattle.report.specs.Report.{encode as encodeReport, report_from, report_reply, report_of}
 use Rattle.readers.specs.declared.value.ValueIn.{ValueIn}
-use Rattle.readers.specs.Reading.{Read, read, unreadable, kth, body_of, spans_in, spans_from, records_of}
-use Rattle.readers.specs.Layout.{up_to, valued, length_of}
-use Rattle.readers.specs.Replies.{discovery, spans_of, read_record, reported_record, discovered_record, discovered_from, discover_reply_of}
+use Rattle.readers.specs.Reading.{Read, read, unreadable, kth, body_of, spans_in, spans_from}
+use Rattle.readers.specs.Layout.{valued, length_of}
+use Rattle.readers.specs.Replies.{spans_of, read_record, reported_record}
 use Rattle.readers.specs.Values.{value_in, Held, read_reply_held, report_frame_held}
 use Rattle.readers.proofs.Outs.{out_of}
 
@@ -54,44 +51,9 @@ read_worked = (refl, refl)
 
 -- and reported
 abbrev report : List ℕ
-report = out_of (report_of 8 (T 0x07) 0 0x2e (0 ∷ 5 ∷ []) 64)
+report = out_of (report_of 8 (T 0x07) 0x2e (0 ∷ 5 ∷ []) 64)
 
 report_worked : (came_with (kth 0 (report_frame_held report)) ≡ value_at_place 0x23 6 4 (pos 2147483648))
     × (came_with (kth 1 (report_frame_held report)) ≡ value_at_place 0x29 13 2 (negsuc 199))
 unfolding all_zero le bytes_of unsigned_at signed_of signed_at size_of shape_of is_signed number_at upto count by_shape value_at frame_type_of header_of reply_head padded walk encode_all fits attribute_at attributes_from attributes_of find_in find_of each ascending room_ok is_text length_ok follow_on end_from unused_ok is_store used_of value_of encodeReport report_from report_reply report_of body_of spans_in spans_from valued length_of spans_of reported_record value_in report_frame_held
 report_worked = (refl, refl)
-
--- ---- two makers, one attribute number
-
--- a store of the second form: attribute 0 without a code is the counter, attribute 0 of code 1234 the negative number
-abbrev shared : List ℕ
-shared =
-    0x21 ∷ 0xfc ∷ 0x02 ∷ 0x00
-    ∷ 0x00 ∷ 0x00 ∷ 0x00 ∷ 0x00 ∷ 0x23 ∷ 0x02 ∷ 0x18 ∷ 0x00 ∷ 0x04 ∷ 0x00
-    ∷ 0x00 ∷ 0x00 ∷ 0x34 ∷ 0x12 ∷ 0x29 ∷ 0x03 ∷ 0x1c ∷ 0x00 ∷ 0x02 ∷ 0x00
-    ∷ 0x00 ∷ 0x00 ∷ 0x00 ∷ 0x80 ∷ 0x38 ∷ 0xff
-    ∷ []
-
-abbrev answer_to : List ℕ → List ℕ
-answer_to frame = out_of (serve 10 capacity shared (holding []) cluster true frame 64)
-
-abbrev uncoded : List ℕ
-uncoded = answer_to (0x00 ∷ 0x2a ∷ 0x00 ∷ 0x00 ∷ 0x00 ∷ [])
-
-abbrev coded : List ℕ
-coded = answer_to (0x04 ∷ 0x34 ∷ 0x12 ∷ 0x2a ∷ 0x00 ∷ 0x00 ∷ 0x00 ∷ [])
-
-coded_worked : (came_with (kth 0 (read_reply_held uncoded)) ≡ value_at_place 0x23 7 4 (pos 2147483648))
-    × (coded ≡ 0x1c ∷ 0x34 ∷ 0x12 ∷ 0x2a ∷ 0x01 ∷ 0x00 ∷ 0x00 ∷ 0x00 ∷ 0x29 ∷ 0x38 ∷ 0xff ∷ [])
-    × (came_with (kth 0 (read_reply_held coded)) ≡ value_at_place 0x29 9 2 (negsuc 199))
-unfolding all_zero le bytes_of unsigned_at signed_of signed_at size_of shape_of is_signed number_at upto count by_shape value_at frame_type_of header_of reply_head command_of padded records_in records_from walk encode_all fits with_record_for shortened_from shortened_reply shortened attribute_at attributes_from attributes_of find_in find_of each ascending room_ok is_text length_ok follow_on end_from unused_ok is_store used_of value_of id_at encode record_by record_for read_of commanded typed by_header tabled serve body_of spans_in spans_from valued length_of spans_of read_record value_in read_reply_held
-coded_worked = (refl, refl, refl)
-
--- and discovered: from 0 on, up to five
-abbrev found : List ℕ
-found = answer_to (0x04 ∷ 0x34 ∷ 0x12 ∷ 0x2c ∷ 0x0c ∷ 0x00 ∷ 0x00 ∷ 0x05 ∷ [])
-
-discover_worked : (found ≡ 0x1c ∷ 0x34 ∷ 0x12 ∷ 0x2c ∷ 0x0d ∷ 0x01 ∷ 0x00 ∷ 0x00 ∷ 0x29 ∷ [])
-    × (discover_reply_of found ≡ read (discovery 1 (record { id = 0; type = 0x29 } ∷ [])))
-unfolding le bytes_of unsigned_at size_of shape_of frame_type_of header_of reply_head command_of padded encode_all attribute_at attributes_from attributes_of of_code each ascending room_ok is_text length_ok follow_on end_from unused_ok is_store encodeDiscovered at_or_after listed complete_byte discovered_all discover_reply discover_of commanded typed by_header tabled serve body_of spans_in spans_from records_of up_to length_of discovered_record discovered_from discover_reply_of
-discover_worked = (refl, refl)

@@ -1,5 +1,5 @@
 -- Reading the reply to a write, undivided or not, gives the failures that were listed. Assumes nothing.
-use mathlib.Core.Path.{◌≡◌, refl, ap, ◌∙◌, subst}
+use mathlib.Core.Path.{◌≡◌, refl, subst}
 use mathlib.Core.Bool.{Bool, true, false, cond}
 use mathlib.Core.List.{List, ◌++◌}
 use Prim.Native.Nat.{ℕ, ◌+◌, ◌<◌, ◌^◌}
@@ -13,11 +13,10 @@ use Rattle.types.specs.declared.extent.Extent.TheVariants.{End, Cut, Without}
 use Rattle.types.proofs.Numbers.{unsigned_below}
 use Rattle.frame.specs.declared.header.ZclHeader.{ZclHeader}
 use Rattle.frame.specs.declared.command_identifier.CommandIdentifier.TheVariants.{WriteAttributes, WriteAttributesUndivided, WriteAttributesResponse}
-use Rattle.frame.specs.Header.{reply_head, head_size}
+use Rattle.frame.specs.Header.{reply_head}
 use Rattle.frame.specs.Walk.{item, unread, Way, through, broken, stopped, reached, All}
 use Rattle.frame.specs.Encoded.{fits}
 use Rattle.frame.specs.Failures.{Sofar, pass, encode_failures, concluded, performed}
-use Rattle.frame.proofs.Headers.{reply_head_length}
 use Rattle.write.specs.Request.{WriteRecord, valued, record_at, records_at, records}
 use Rattle.write.specs.Reply.{Failure, encode}
 use Rattle.write.specs.Write.{writing, checking, settled, written_all, write_attributes, write_undivided}
@@ -66,12 +65,12 @@ module _ (body : List ℕ) (bytes : AllBytes body) where
 -- ---- 02
 
 written_sent : Commands WriteAttributesResponse (encode_failures encode) (All WriteSendable) WriteAttributes write_made
-unfolding commanded write_attributes
+unfolding commanded write_attributes reply_head
 written_sent form limit s l unicast h body room t store =
     record {
-      sendable = written_good body t.1 form h s (fits encode room (head_size h));
+      sendable = written_good body t.1 form h s (fits encode room 3);
       sends = headed_sends h WriteAttributesResponse s room (performed (writing form h) (records body) s room) _
-          (performed_sends (writing form h) (records body) s room h WriteAttributesResponse);
+          (performed_sends (writing form h) (records body) s room (reply_head h WriteAttributesResponse));
     }
 
 pub write_served : WriteReplies → WriteServed
@@ -85,18 +84,15 @@ settled_failures writes (broken x) = refl
 settled_failures writes (stopped x y) = refl
 
 undivided_sent : Commands WriteAttributesResponse (encode_failures encode) (All WriteSendable) WriteAttributesUndivided undivided_made
-unfolding commanded write_undivided
+unfolding commanded write_undivided reply_head
 undivided_sent form limit s l unicast h body room t store =
     let head : List ℕ = reply_head h WriteAttributesResponse in
-    let way : ℕ → Way (Sofar (List ℕ) Failure) = λ n. pass (checking form h) (fits encode room n) (records body) s in
-    let leads : List ℕ → Way (Sofar (List ℕ) Failure) = λ head. settled (written_all form h body) (way (length head)) in
-    let failures : (reached (leads head)).failures ≡ (reached (way (head_size h))).failures =
-    settled_failures (written_all form h body) (way (length head))
-    ∙ ap (λ (n : ℕ). (reached (way n)).failures) (reply_head_length h WriteAttributesResponse) in
+    let way : List ℕ → Way (Sofar (List ℕ) Failure) = λ head. pass (checking form h) (fits encode room (length head)) (records body) s in
+    let leads : List ℕ → Way (Sofar (List ℕ) Failure) = λ head. settled (written_all form h body) (way head) in
     record {
-      sendable = checked_good body t.1 form h s (fits encode room (head_size h));
+      sendable = checked_good body t.1 form h s (fits encode room 3);
       sends = headed_sends h WriteAttributesResponse s room (λ head. concluded encode room head (leads head)) _
-          (subst (λ (fs : List Failure). Sends (concluded encode room head (leads head)) (head ++ encode_failures encode fs)) failures
+          (subst (λ (fs : List Failure). Sends (concluded encode room head (leads head)) (head ++ encode_failures encode fs)) (settled_failures (written_all form h body) (way head))
           (concluded_sends encode room head (leads head)));
     }
 

@@ -1,9 +1,9 @@
 -- Laws of what ours says to an input (`specs/Ours.antt`): a law for each way out of a function. Assumes nothing.
 use mathlib.Core.Path.{◌≡◌, refl, sym, ap, ◌∙◌}
-use mathlib.Core.Bool.{true, false, true≢false, false≢true}
+use mathlib.Core.Bool.{Bool, true, false, true≢false, false≢true}
 use mathlib.Core.Logic.{inl, inr}
 use mathlib.Core.Option.{some}
-use mathlib.Core.List.{List, [], ◌∷◌, ◌++◌}
+use mathlib.Core.List.{List, [], ◌∷◌}
 use Prim.Native.Nat.{ℕ, ◌+◌, ◌-◌, ◌/◌, ◌%◌, ◌^◌, ◌≤◌, ◌<◌}
 use native.Mathlib.Omega.{arith}
 use native.Mathlib.Nat.{mod-eq_of_lt}
@@ -18,7 +18,7 @@ use mir.Facts.{to_z-of_z}
 use types.Run.{OneOf, miss}
 use denote.Enum.Declared.{tag_of}
 use Rattle.types.specs.Number.{bytes_of, unsigned_at, residue}
-use Rattle.types.specs.Ids.{size_of, shape_of, is_analog, is_reportable}
+use Rattle.types.specs.Ids.{size_of, is_analog, is_reportable}
 use Rattle.types.specs.Extent.{extent_of}
 use Rattle.types.specs.declared.extent.Extent.{Extent}
 use Rattle.types.specs.declared.extent.Extent.TheVariants.{End, Cut, Without}
@@ -33,17 +33,16 @@ use Rattle.frame.specs.declared.reply.Put.{Put}
 use Rattle.frame.specs.declared.reply.Put.TheVariants.{At, Full}
 use Rattle.frame.specs.declared.status.Status.{Status}
 use Rattle.frame.specs.declared.answer.Refusal.{Refusal}
-use Rattle.frame.specs.declared.answer.Refusal.TheVariants.{OtherCluster, HeaderShort, ReservedFrameType, RecordCut, ReplyTooLong, NothingToSend, NotAStore, NotATable, NoNumber, NotSuchAReply, EmptyReport, NotReportable, NotASavedForm, CannotGoBack}
+use Rattle.frame.specs.declared.answer.Refusal.TheVariants.{OtherCluster, HeaderShort, ReservedFrameType, RecordCut, ReplyTooLong, NothingToSend, NotAStore, NotATable, NoNumber, NotSuchAReply, EmptyReport, NotReportable, NotASavedForm}
 use Rattle.frame.specs.declared.header.ZclHeader.{ZclHeader}
 use Rattle.frame.specs.declared.header.HeaderRead.TheVariants.{Header, Short}
 use Rattle.frame.proofs.Buffer.{put_ways}
-use Rattle.store.specs.declared.form.Form.TheVariants.{First}
-use Rattle.store.specs.Contents.{entry_size, name_of}
+use Rattle.store.specs.Contents.{name_of}
 use Rattle.store.specs.Value.{Telling, telling, number_of}
 use Rattle.store.specs.Write.{Wrote, wrote, write_of}
 use Rattle.store.specs.declared.value.Numbered.TheVariants as Numbered
 use Rattle.replay.specs.Bytes.{same}
-use Rattle.replay.specs.Names.{known_from, named, of_names}
+use Rattle.replay.specs.Names.{named, of_names}
 use Rattle.replay.specs.Ours.{agreement, bit_of, size_byte, of_type, frame_type_byte, of_header, extent_says, of_extent, number_says, of_number, write_says, of_write}
 use Rattle.replay.specs.declared.cases.Agreement.TheVariants.{Is, NoInput}
 use Rattle.replay.specs.Inside.{matched}
@@ -67,21 +66,9 @@ pub names_other : (input held : List ℕ) → same (55 ∷ []) input ≡ false �
 unfolding of_names
 names_other input held h = rw h
 
-module _ (input held : List ℕ) (h : same (55 ∷ []) input ≡ true) (lower upper : List ℕ) (el : lower ≡ known_from 40 0) (eu : upper ≡ known_from 216 40) where
-  -- the codes below 28 and those from there on are all
-  codes_are : lower ++ upper ≡ named
-  unfolding named known_from shape_of size_of
-  codes_are = λ i. el i ++ eu i
-
-  names_is : Is (same (lower ++ upper) held) ≡ agreement (of_names input) held
-  unfolding of_names
-  names_is = rw h (ap (λ (l : List ℕ). Is (same l held)) codes_are)
-
-  pub names_on : (o : ℕ) → matched held 0 lower ≡ At o → Is (same upper (drop o held)) ≡ agreement (of_names input) held
-  names_on o m = ap Is (sym (same_on held 0 lower upper o m)) ∙ names_is
-
-  pub names_off : matched held 0 lower ≡ Full → Is false ≡ agreement (of_names input) held
-  names_off m = ap Is (sym (same_none held 0 lower upper m)) ∙ names_is
+pub names_says : (input held : List ℕ) → same (55 ∷ []) input ≡ true → (codes : List ℕ) → codes ≡ named → (b : Bool) → b ≡ same codes held → Is b ≡ agreement (of_names input) held
+unfolding of_names
+names_says input held h codes e b p = rw h (ap Is (p ∙ ap (λ (l : List ℕ). same l held) e))
 
 -- ---- a header
 
@@ -157,7 +144,6 @@ some_number NotSuchAReply = refl
 some_number EmptyReport = refl
 some_number NotReportable = refl
 some_number NotASavedForm = refl
-some_number CannotGoBack = refl
 
 module _ (held : List ℕ) where
   pub number_refused : (why : Refusal) (n : ℕ) → n ≡ refusal_number why → Is (same (n ∷ []) held) ≡ agreement (some (number_says (telling (Numbered.Refused why)))) held
@@ -177,7 +163,7 @@ pub number_short : (input held : List ℕ) → length input < 2 → NoInput ≡ 
 unfolding of_number
 number_short input held h = rw (lt-ltb (length input) 2 h)
 
-pub number-says : (input held : List ℕ) (t : Telling) → 2 ≤ length input → t ≡ telling (number_of (entry_size First) (drop 2 input) (name_of 0 (unsigned_at input 0 2)))
+pub number-says : (input held : List ℕ) (t : Telling) → 2 ≤ length input → t ≡ telling (number_of 8 (drop 2 input) (name_of 0 (unsigned_at input 0 2)))
     → agreement (some (number_says t)) held ≡ agreement (of_number input) held
 unfolding of_number
 number-says input held t h e = rw (le-ltb (length input) 2 h) (ap (λ (u : Telling). agreement (some (number_says u)) held) e)
@@ -205,11 +191,11 @@ write_short input held n e h = let k : length input < 5 + unsigned_at input 3 2 
 
 pub write-says : (input held : List ℕ) (n name : ℕ) (s v : List ℕ) → n ≡ unsigned_at input 3 2 → 5 + n ≤ length input
     → s ≡ drop (5 + n) input → name ≡ name_of 0 (unsigned_at input 0 2) → v ≡ take n (drop 5 input)
-    → agreement (some (write_says (write_of (entry_size First) s name (get_or input 2 0) v))) held ≡ agreement (of_write input) held
+    → agreement (some (write_says (write_of 8 s name (get_or input 2 0) v))) held ≡ agreement (of_write input) held
 unfolding of_write
 write-says input held n name s v e h es en ev =
     let k : 5 + unsigned_at input 3 2 ≤ length input = omega arith in
     let fs : s ≡ drop (5 + unsigned_at input 3 2) input = es ∙ ap (λ (i : ℕ). drop (5 + i) input) e in
     let fv : v ≡ take (unsigned_at input 3 2) (drop 5 input) = ev ∙ ap (λ (i : ℕ). take i (drop 5 input)) e in
     rw (le-ltb (length input) (5 + unsigned_at input 3 2) k)
-    (λ i. agreement (some (write_says (write_of (entry_size First) (fs i) (en i) (get_or input 2 0) (fv i)))) held)
+    (λ i. agreement (some (write_says (write_of 8 (fs i) (en i) (get_or input 2 0) (fv i)))) held)

@@ -17,8 +17,7 @@ use Rattle.frame.specs.declared.answer.Answer.{Answer}
 use Rattle.frame.specs.declared.reply.Put.{Put}
 use Rattle.frame.specs.declared.reply.Put.TheVariants.{At, Full}
 use Rattle.frame.proofs.Buffer.{put_fits, sets_padded}
-use Rattle.store.specs.declared.form.Form.TheVariants.{First}
-use Rattle.store.specs.Contents.{entry_size, cluster_of}
+use Rattle.store.specs.Contents.{cluster_of}
 use Rattle.reporting.specs.declared.carried.ReadTable.{ReadTable}
 use Rattle.reporting.specs.Table.{Table, table_of, holding, capacity}
 use Rattle.reporting.specs.Carried.{table_in, is_table, Reading, reading, table_read, read_t, slot_bytes, table_length}
@@ -86,12 +85,12 @@ module _ (used s frame : List ℕ) (room : ℕ) (r : ReadTable) (e : reading r �
     request_known = ap (λ (b : Bool). agreement (cond b (some (request_says used s frame room)) none) held) (sym (table_known r (whole_table used) e ∙ k))
 
     -- `copy` is the store, and `cluster` the store's own
-    module _ (answer : Answer) (reply copy after left : List ℕ) (u : Table) (cluster : ℕ) (ec : copy ≡ s) (el : cluster ≡ cluster_of copy) (p : seen answer reply (state after u) ≡ serve (entry_size First) capacity copy (met r) cluster true frame room) (q : left ≡ table_says u) where
+    module _ (answer : Answer) (reply copy after left : List ℕ) (u : Table) (cluster : ℕ) (ec : copy ≡ s) (el : cluster ≡ cluster_of copy) (p : seen answer reply (state after u) ≡ serve 8 capacity copy (met r) cluster true frame room) (q : left ≡ table_says u) where
       request_is : answer_says used (seen answer reply left) ≡ request_says used s frame room
       unfolding request_says
       request_is =
           ap (λ (l : List ℕ). answer_says used (seen answer reply l)) q
-          ∙ ap (λ (o : Outcome State). answer_says used (table_left o)) (p ∙ (λ i. serve (entry_size First) capacity (ec i) (table_met r (whole_table used) e k i) ((el ∙ ap cluster_of ec) i) true frame room))
+          ∙ ap (λ (o : Outcome State). answer_says used (table_left o)) (p ∙ (λ i. serve 8 capacity (ec i) (table_met r (whole_table used) e k i) ((el ∙ ap cluster_of ec) i) true frame room))
 
       pub request_off : matched held 0 (answer_says used (seen answer reply left)) ≡ Full → Is false ≡ agreement (cond (is_table capacity (whole_table used)) (some (request_says used s frame room)) none) held
       request_off m = ap Is (sym (same_off (request_says used s frame room) held (ap (matched held 0) (sym request_is) ∙ m))) ∙ request_known

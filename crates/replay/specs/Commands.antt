@@ -7,8 +7,6 @@ use Rattle.frame.specs.Answer.{Outcome, within}
 use Rattle.frame.specs.declared.header.ZclHeader.{ZclHeader}
 use Rattle.frame.specs.declared.header.HeaderRead.{HeaderRead}
 use Rattle.frame.specs.declared.header.HeaderRead.TheVariants.{Header, Short}
-use Rattle.store.specs.declared.form.Form.TheVariants.{First}
-use Rattle.store.specs.Contents.{entry_size}
 use Rattle.read.specs.Read.{read_of}
 use Rattle.write.specs.Write.{write_attributes, write_undivided, write_silently}
 use Rattle.discover.specs.Discover.{discover_of}
@@ -40,11 +38,11 @@ asked_of frame = asked_in (header_of frame)
 
 -- reading and discovering leave the store as it was
 abbrev pub outcome_of : Command → ZclHeader → List ℕ → List ℕ → ℕ → Outcome (List ℕ)
-outcome_of Read request body s room = within (λ u. s) (read_of (entry_size First) s request body room)
-outcome_of Write request body s room = write_attributes (entry_size First) s request body room
-outcome_of Undivided request body s room = write_undivided (entry_size First) s request body room
-outcome_of Silent request body s room = write_silently (entry_size First) s request body room
-outcome_of Discover request body s room = within (λ u. s) (discover_of (entry_size First) s request body room)
+outcome_of Read request body s room = within (λ u. s) (read_of 8 s request body room)
+outcome_of Write request body s room = write_attributes 8 s request body room
+outcome_of Undivided request body s room = write_undivided 8 s request body room
+outcome_of Silent request body s room = write_silently 8 s request body room
+outcome_of Discover request body s room = within (λ u. s) (discover_of 8 s request body room)
 
 -- ---- its answers, as bytes
 

@@ -10,9 +10,8 @@ use Rattle.replay.specs.Ours.{bit_of}
 
 -- ---- a call of 17 bytes: the operation (1), cluster (2), attribute (2), and twelve bytes by the operation
 
--- no call names a manufacturer code
 unfoldable pub key_in : List ℕ → Key
-key_in c = record { cluster = record { 0 = unsigned_at c 1 2 }; code = record { 0 = 0 }; attribute = record { 0 = unsigned_at c 3 2 } }
+key_in c = record { cluster = record { 0 = unsigned_at c 1 2 }; attribute = record { 0 = unsigned_at c 3 2 } }
 
 -- a configuration: minimum (2), maximum (2), change (8)
 unfoldable pub config_in : List ℕ → ReportingConfig

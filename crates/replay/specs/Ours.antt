@@ -14,8 +14,7 @@ use Rattle.frame.specs.declared.header.FrameType.{FrameType}
 use Rattle.frame.specs.declared.header.FrameType.TheVariants.{GlobalCommand, ClusterCommand, Reserved}
 use Rattle.frame.specs.declared.header.HeaderRead.{HeaderRead}
 use Rattle.frame.specs.declared.header.HeaderRead.TheVariants.{Header, Short}
-use Rattle.store.specs.declared.form.Form.TheVariants.{First}
-use Rattle.store.specs.Contents.{entry_size, name_of}
+use Rattle.store.specs.Contents.{name_of}
 use Rattle.store.specs.Layout.{is_store}
 use Rattle.store.specs.Value.{Telling, telling, number_of}
 use Rattle.store.specs.Write.{Wrote, write_of}
@@ -79,7 +78,7 @@ of_extent input = cond (eqb (length input) 0) none (some (extent_says (extent_of
 -- ---- s: bytes, which may be a store
 
 unfoldable pub of_store : List ℕ → Option (List ℕ)
-of_store input = some (bit_of (is_store (entry_size First) input) ∷ [])
+of_store input = some (bit_of (is_store 8 input) ∷ [])
 
 -- ---- v: an id (2), and a store
 
@@ -88,7 +87,7 @@ unfoldable pub number_says : Telling → List ℕ
 number_says t = cond (eqb t.answer 0) (0 ∷ bytes_of 8 (residue (2 ^ 64) t.value)) (t.answer ∷ [])
 
 unfoldable pub of_number : List ℕ → Option (List ℕ)
-of_number input = cond (ltb (length input) 2) none (some (number_says (telling (number_of (entry_size First) (drop 2 input) (name_of 0 (unsigned_at input 0 2))))))
+of_number input = cond (ltb (length input) 2) none (some (number_says (telling (number_of 8 (drop 2 input) (name_of 0 (unsigned_at input 0 2))))))
 
 -- ---- w: an id (2), a type, the length of a value (2), the value, and a store
 
@@ -101,4 +100,4 @@ of_write input =
     let n : ℕ = unsigned_at input 3 2 in
     cond (ltb (length input) (5 + n))
     none
-    (some (write_says (write_of (entry_size First) (drop (5 + n) input) (name_of 0 (unsigned_at input 0 2)) (get_or input 2 0) (take n (drop 5 input)))))
+    (some (write_says (write_of 8 (drop (5 + n) input) (name_of 0 (unsigned_at input 0 2)) (get_or input 2 0) (take n (drop 5 input)))))

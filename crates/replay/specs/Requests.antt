@@ -4,8 +4,7 @@ use Rattle.std.proofs.Math.Option.{Option, none, some}
 use Rattle.types.specs.Number.{unsigned_at}
 use Rattle.frame.specs.Reply.{padded}
 use Rattle.frame.specs.Answer.{Outcome, within}
-use Rattle.store.specs.declared.form.Form.TheVariants.{First}
-use Rattle.store.specs.Contents.{entry_size, cluster_of}
+use Rattle.store.specs.Contents.{cluster_of}
 use Rattle.reporting.specs.Table.{holding, capacity}
 use Rattle.reporting.specs.Carried.{table_in, is_table, slot_bytes, table_length}
 use Rattle.server.specs.Serve.{State, serve}
@@ -23,7 +22,7 @@ table_left o = within (λ s. table_says s.table) o
 -- a unicast request for the store's own cluster: 01, the number, the reply's length, the reply, and 00 where the table is as it was,
 -- else 01 and the table
 unfoldable pub request_says : List ℕ → List ℕ → List ℕ → ℕ → List ℕ
-request_says used s frame room = answer_says used (table_left (serve (entry_size First) capacity s (holding (table_in (whole_table used))) (cluster_of s) true frame room))
+request_says used s frame room = answer_says used (table_left (serve 8 capacity s (holding (table_in (whole_table used))) (cluster_of s) true frame room))
 
 -- ---- q, y: the room (1), the table as far as it is used, the store's length (2), the store, and a frame
 

@@ -13,7 +13,6 @@ use frame::answer::Answer;
 use frame::header::{FrameType, HeaderRead, ZclHeader, read_header};
 use frame::reply::{Put, put_run};
 use read::attributes::read_attributes;
-use store::form::Form;
 use store::layout::part;
 use types::number::{byte_at, u16_at};
 use write::attributes::{
@@ -77,7 +76,7 @@ fn asked_of(frame: &[u8]) -> Asked
     asked_by(h.command_identifier.0, h)
 }
 
-// The command's function, over a store of the first form.
+// The command's function.
 fn call(
     command: Command,
     request: ZclHeader,
@@ -88,11 +87,11 @@ fn call(
     ensures { seen result reply.new store.new ≡ outcome_of command request body.now store.old (length reply.old) }
 {
     match command {
-        Command::Read => read_attributes(store, Form::First, request, body, reply),
-        Command::Write => write_attributes(store, Form::First, request, body, reply),
-        Command::Undivided => write_attributes_undivided(store, Form::First, request, body, reply),
-        Command::Silent => write_attributes_no_response(store, Form::First, request, body, reply),
-        Command::Discover => discover_attributes(store, Form::First, request, body, reply),
+        Command::Read => read_attributes(store, request, body, reply),
+        Command::Write => write_attributes(store, request, body, reply),
+        Command::Undivided => write_attributes_undivided(store, request, body, reply),
+        Command::Silent => write_attributes_no_response(store, request, body, reply),
+        Command::Discover => discover_attributes(store, request, body, reply),
     }
 }
 

@@ -10,7 +10,6 @@ ghost use Rattle.replay.specs.Inside.{matched, given, found as found_at};
 
 use super::bytes::{match_run, rest, same};
 use super::cases::{Agreement, low};
-use frame::header::ManufacturerCode;
 use frame::reply::Put;
 use reporting::carried::{SLOT, TABLE_BYTES, write_table};
 use reporting::entry::{Key, ReportingConfig};
@@ -29,13 +28,11 @@ struct Given {
     at: Put,
 }
 
-// No call names a manufacturer code.
 fn key_in(call: &[u8]) -> Key
     ensures { result ≡ key_in call.now }
 {
     Key {
         cluster: ClusterId(u16_at(call, 1)),
-        code: ManufacturerCode(0),
         attribute: AttributeId(u16_at(call, 3)),
     }
 }

@@ -1,16 +1,15 @@
 // The types that have a name, held to what was recorded.
 ghost use Rattle.std.specs.Prelude.{◌≡◌};
 ghost use Rattle.replay.specs.Ours.{agreement};
-ghost use Rattle.replay.specs.Names.{known_from, of_names};
+ghost use Rattle.replay.specs.Names.{named, of_names};
 
-use super::bytes::{match_run, rest, same};
+use super::bytes::same;
 use super::cases::Agreement;
-use frame::reply::Put;
 use types::ids::TypeId;
 
-// The codes of the named types below 28, in their order.
-fn lower_codes() -> [u8; 26]
-    ensures { result ≡ known_from 40 0 }
+// The codes of the named types, in their order.
+fn codes() -> [u8; 55]
+    ensures { result ≡ named }
 {
     [
         TypeId::NO_DATA,
@@ -39,14 +38,6 @@ fn lower_codes() -> [u8; 26]
         TypeId::UINT48,
         TypeId::UINT56,
         TypeId::UINT64,
-    ]
-}
-
-// Those from 28 on.
-fn upper_codes() -> [u8; 29]
-    ensures { result ≡ known_from 216 40 }
-{
-    [
         TypeId::INT8,
         TypeId::INT16,
         TypeId::INT24,
@@ -83,14 +74,10 @@ fn upper_codes() -> [u8; 29]
 pub(crate) fn of_names(input: &[u8], held: &[u8]) -> Agreement
     ensures { result ≡ agreement (of_names input.now) held.now }
 {
+    let says = codes();
     let count = [55];
-    if !same(&count, input) {
-        return Agreement::NoInput;
+    if same(&count, input) {
+        return Agreement::Is(same(&says, held));
     }
-    let lower = lower_codes();
-    let Put::At(at) = match_run(held, 0, &lower) else {
-        return Agreement::Is(false);
-    };
-    let upper = upper_codes();
-    Agreement::Is(same(&upper, rest(held, at)))
+    Agreement::NoInput
 }

@@ -13,7 +13,6 @@ use super::methods::lay;
 use frame::reply::{Put, put_run};
 use reporting::carried::{ReadTable, SLOT, TABLE_BYTES, read_table};
 use server::serve::handle_request;
-use store::form::Form;
 use store::layout::part;
 use types::ids::ClusterId;
 use types::number::{byte_at, u16_at};
@@ -48,15 +47,7 @@ fn served(
     }
     let table = known.table;
     put_run(copy, 0, store);
-    let done = handle_request(
-        copy,
-        Form::First,
-        table,
-        ClusterId(u16_at(copy, 0)),
-        true,
-        frame,
-        reply,
-    );
+    let done = handle_request(copy, table, ClusterId(u16_at(copy, 0)), true, frame, reply);
     let answer = done.answer;
     let left = done.table;
     let mut bytes = [0u8; TABLE_BYTES];

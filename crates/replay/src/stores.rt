@@ -1,9 +1,7 @@
-// What ours says to the lines of stores, which are of the first form, held to what was recorded.
+// What ours says to the lines of stores, held to what was recorded.
 ghost use Rattle.std.specs.Prelude.{◌≡◌, ◌≤◌, ◌^◌, length};
 ghost use Rattle.std.proofs.Math.Option.{some};
 ghost use Rattle.types.specs.Number.{unsigned_at, residue};
-ghost use Rattle.store.specs.declared.form.Form.TheVariants.{First};
-ghost use Rattle.store.specs.Contents.{entry_size, name_of};
 ghost use Rattle.store.specs.Value.{telling};
 ghost use Rattle.store.specs.Write.{write_of};
 ghost use Rattle.replay.specs.Ours.{agreement, number_says, write_says, of_store, of_number, of_write};
@@ -12,7 +10,6 @@ use super::bytes::{blank, match_run, rest, same};
 use super::cases::{Agreement, bit};
 use frame::header::ManufacturerCode;
 use frame::reply::{Put, put_run};
-use store::form::Form;
 use store::layout::{is_store, part};
 use store::lookup::{Name, name_of};
 use store::value::{Numbered, number_of};
@@ -24,13 +21,13 @@ use types::number::{le_bytes, u16_at};
 pub(crate) fn of_store(input: &[u8], held: &[u8]) -> Agreement
     ensures { result ≡ agreement (of_store input.now) held.now }
 {
-    let says = [bit(is_store(input, Form::First))];
+    let says = [bit(is_store(input))];
     Agreement::Is(same(&says, held))
 }
 
-// The name of the id at the start of an input, without a manufacturer code.
+// The name of the id at the start of an input.
 fn name_at_start(input: &[u8]) -> Name
-    ensures { result.0 ≡ name_of 0 (unsigned_at input.now 0 2) }
+    ensures { result.0 ≡ unsigned_at input.now 0 2 }
 {
     name_of(ManufacturerCode(0), AttributeId(u16_at(input, 0)))
 }
@@ -69,10 +66,7 @@ pub(crate) fn of_number(input: &[u8], held: &[u8]) -> Agreement
     if input.len() < 2 {
         return Agreement::NoInput;
     }
-    numbered(
-        number_of(rest(input, 2), Form::First, name_at_start(input)),
-        held,
-    )
+    numbered(number_of(rest(input, 2), name_at_start(input)), held)
 }
 
 // The status of a write, and then the store as it is afterwards; `copy` is for that store.
@@ -85,10 +79,10 @@ fn written(
     copy: &mut [u8],
 ) -> Agreement
     requires { length copy.old ≡ length store.now }
-    ensures { result ≡ agreement (some (write_says (write_of (entry_size First) store.now name.0 type_id.0 value.now))) held.now }
+    ensures { result ≡ agreement (some (write_says (write_of 8 store.now name.0 type_id.0 value.now))) held.now }
 {
     put_run(copy, 0, store);
-    let status = write(copy, Form::First, name, type_id, value);
+    let status = write(copy, name, type_id, value);
     let says = [status.to_u8()];
     let Put::At(at) = match_run(held, 0, &says) else {
         return Agreement::Is(false);

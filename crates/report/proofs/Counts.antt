@@ -8,16 +8,15 @@ use native.Mathlib.Omega.{arith}
 use lib.ListN.{length, get_or, take}
 use lib.Dec.{ltb}
 use lib.IntN.{ℤ}
-use borrow.Author.Tests.{eq-eqb}
 use Rattle.store.specs.declared.lookup.Attribute.{Attribute}
 use Rattle.reporting.specs.declared.entry.Key.{Key}
 use Rattle.reporting.specs.declared.entry.ReportingConfig.{ReportingConfig}
 use Rattle.reporting.specs.declared.entry.Entry.{Entry}
 use Rattle.reporting.specs.Entries.{matches, find_l, lookup_l, fresh, replaced, update_l, configure_l, last_first, clear_l, mark_e, mark_l}
 use Rattle.reporting.proofs.Others.{key_is}
-use Rattle.report.specs.Turn.{Turn, key_of, mark_each}
+use Rattle.report.specs.Turn.{Turn, mark_each}
 use Rattle.report.specs.Claims.Turns.{turned, frame_of}
-use Rattle.report.specs.Claims.Fairness.{count, of_cluster}
+use Rattle.report.specs.Claims.Fairness.{count}
 
 -- ---- what keeps the number
 
@@ -38,8 +37,8 @@ module _ (ok : Key → Bool) where
   count_each s now (a ∷ more) l = count_each s now more (mark_l _ now _ l) ∙ count_mark _ now _ l
 
   -- a turn
-  pub count_turned : (u : Turn) (l : List Entry) → count ok (turned u l) ≡ count ok l
-  count_turned u l = count_each u.store u.now (frame_of u l) l
+  pub count_turned : (form : ℕ) (u : Turn) (l : List Entry) → count ok (turned form u l) ≡ count ok l
+  count_turned form u l = count_each u.store u.now (frame_of form u l) l
 
   -- one more that does not count
   count_append : (l : List Entry) (x : Entry) → ok x.key ≡ false → count ok (l ++ (x ∷ [])) ≡ count ok l
@@ -99,11 +98,6 @@ module _ (ok : Key → Bool) where
       go : (b : Bool) → count ok (clear_l k es) ≤ count ok es → count ok (cond b (last_first es) (e ∷ clear_l k es)) ≤ count ok (e ∷ es)
       go true ih = less (ok e.key) (count ok (last_first es)) (count ok es) (let h = count_hole es in omega (arith, h))
       go false ih = both (ok e.key) (count ok (clear_l k es)) (count ok es) ih
-
--- ---- the entries of a cluster and code
-
-pub own_key : (cluster code id : ℕ) → of_cluster cluster code (key_of cluster code id) ≡ true
-own_key cluster code id = rw (eq-eqb cluster cluster refl) (eq-eqb code code refl)
 
 -- ---- a sharper test counts fewer
 

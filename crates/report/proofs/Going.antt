@@ -19,50 +19,50 @@ use Rattle.report.specs.Inside.Report.{More, Over, Shown, Reports}
 
 -- ---- one id and the rest of the list
 
-module _ (form : ℕ) (s : List ℕ) (code room head : ℕ) (rs : List ReportRecord) (id : ℕ) (ids : List ℕ) where
+module _ (form : ℕ) (s : List ℕ) (room head : ℕ) (rs : List ReportRecord) (id : ℕ) (ids : List ℕ) where
   -- the walk from what this id makes of the records
   abbrev on : Reported → Reported
-  on y = reached (cond (goes_on y) (walk (report_one form s code room head) goes_on y done ids) (stopped (all rs) y))
+  on y = reached (cond (goes_on y) (walk (report_one form s room head) goes_on y done ids) (stopped (all rs) y))
 
   -- the rest goes on from these records
-  from_more : (more : List ReportRecord) → report_one form s code room head (all rs) id ≡ all more → report_from form s code room head rs (id ∷ ids) ≡ report_from form s code room head more ids
+  from_more : (more : List ReportRecord) → report_one form s room head (all rs) id ≡ all more → report_from form s room head rs (id ∷ ids) ≡ report_from form s room head more ids
   unfolding report_from walk
   from_more more e = ap on e
 
   -- the rest is not looked at
-  from_over : (why : Refusal) → report_one form s code room head (all rs) id ≡ trouble why → report_from form s code room head rs (id ∷ ids) ≡ trouble why
+  from_over : (why : Refusal) → report_one form s room head (all rs) id ≡ trouble why → report_from form s room head rs (id ∷ ids) ≡ trouble why
   unfolding report_from walk
   from_over why e = ap on e
 
 -- ---- the loop
 
 -- where the loop stands: the records that the buffer shows behind the head, and that the rest of the list goes on from them
-pub record Going (form : ℕ) (s : List ℕ) (code : ℕ) (ids : List ℕ) (room : ℕ) (head frame : List ℕ) (i out : ℕ) : Type 0 where
+pub record Going (s ids : List ℕ) (room : ℕ) (head frame : List ℕ) (i out : ℕ) : Type 0 where
   pub records : List ReportRecord
   pub shows : Shows frame out (head ++ encode_all encode records)
-  pub same : report_from form s code room (length head) records (drop i ids) ≡ report_from form s code room (length head) [] ids
+  pub same : report_from 8 s room (length head) records (drop i ids) ≡ report_from 8 s room (length head) [] ids
 
-pub going_first : (form : ℕ) (s : List ℕ) (code : ℕ) (ids : List ℕ) (room : ℕ) (head frame : List ℕ) (out : ℕ) → Shows frame out head → Going form s code ids room head frame 0 out
+pub going_first : (s ids : List ℕ) (room : ℕ) (head frame : List ℕ) (out : ℕ) → Shows frame out head → Going s ids room head frame 0 out
 unfolding encode_all
-going_first form s code ids room head frame out w = record { records = []; shows = subst (Shows frame out) (sym (append-nil head)) w; same = refl }
+going_first s ids room head frame out w = record { records = []; shows = subst (Shows frame out) (sym (append-nil head)) w; same = refl }
 
-module _ (form : ℕ) (s : List ℕ) (code : ℕ) (ids : List ℕ) (room : ℕ) (head frame : List ℕ) (i out : ℕ) (g : Going form s code ids room head frame i out) (len : length frame ≡ room) where
+module _ (s ids : List ℕ) (room : ℕ) (head frame : List ℕ) (i out : ℕ) (g : Going s ids room head frame i out) (len : length frame ≡ room) where
   -- no id is left
-  pub going_done : length ids ≤ i → seen (Reply out) frame no_state ≡ report_reply room head (report_from form s code room (length head) [] ids)
+  pub going_done : length ids ≤ i → seen (Reply out) frame no_state ≡ report_reply room head (report_from 8 s room (length head) [] ids)
   unfolding report_from walk report_reply
   going_done h =
       seen_reply room frame out (head ++ encode_all encode g.records) no_state g.shows len
-      ∙ ap (report_reply room head) (sym (ap (report_from form s code room (length head) g.records) (drop_of_length-le ids h)) ∙ g.same)
+      ∙ ap (report_reply room head) (sym (ap (report_from 8 s room (length head) g.records) (drop_of_length-le ids h)) ∙ g.same)
 
-  module _ (h : i < length ids) (r : Answer) (after : List ℕ) (turn : Reports form s code (get_or ids i 0) frame out r after) where
+  module _ (h : i < length ids) (r : Answer) (after : List ℕ) (turn : Reports s (get_or ids i 0) frame out r after) where
     -- the next id, with the rest of the list behind it
-    next : report_from form s code room (length head) g.records (get_or ids i 0 ∷ drop (i + 1) ids) ≡ report_from form s code room (length head) [] ids
+    next : report_from 8 s room (length head) g.records (get_or ids i 0 ∷ drop (i + 1) ids) ≡ report_from 8 s room (length head) [] ids
     next =
-        sym (ap (report_from form s code room (length head) g.records) (drop-cons ids i 0 h ∙ ap (λ (k : ℕ). get_or ids i 0 ∷ drop k ids) (sym (add-one i)))) ∙ g.same
+        sym (ap (report_from 8 s room (length head) g.records) (drop-cons ids i 0 h ∙ ap (λ (k : ℕ). get_or ids i 0 ∷ drop k ids) (sym (add-one i)))) ∙ g.same
 
     -- what it makes of the records
     abbrev made : ℕ → Reported
-    made k = report_one form s code k (length head) (all g.records) (get_or ids i 0)
+    made k = report_one 8 s k (length head) (all g.records) (get_or ids i 0)
 
     shown : (a : Answer) → r ≡ a → Shown head room (made room) a after
     shown a q =
@@ -70,20 +70,20 @@ module _ (form : ℕ) (s : List ℕ) (code : ℕ) (ids : List ℕ) (room : ℕ) 
         (subst (λ (k : ℕ). Shown head k (made k) r after) len (turn head g.records g.shows))
 
     -- its record fits
-    pub going_more : (o : ℕ) → r ≡ Reply o → Going form s code ids room head after (i + 1) o
+    pub going_more : (o : ℕ) → r ≡ Reply o → Going s ids room head after (i + 1) o
     going_more o q =
         let w : More head room (made room) o after = shown (Reply o) q in
         record {
           records = w.records;
           shows = w.longer.shows;
-          same = sym (from_more form s code room (length head) g.records (get_or ids i 0) (drop (i + 1) ids) w.records w.is) ∙ next;
+          same = sym (from_more 8 s room (length head) g.records (get_or ids i 0) (drop (i + 1) ids) w.records w.is) ∙ next;
         }
 
     -- it ends the report
-    pub going_ends : (why : Refusal) → r ≡ Refused why → seen r after no_state ≡ report_reply room head (report_from form s code room (length head) [] ids)
+    pub going_ends : (why : Refusal) → r ≡ Refused why → seen r after no_state ≡ report_reply room head (report_from 8 s room (length head) [] ids)
     unfolding report_reply
     going_ends why q =
         let w : Over room (made room) why after = shown (Refused why) q in
         ap (λ (x : Answer). seen x after no_state) q
         ∙ seen_refused room after why no_state w.cleared
-        ∙ ap (report_reply room head) (sym (from_over form s code room (length head) g.records (get_or ids i 0) (drop (i + 1) ids) why w.is) ∙ next)
+        ∙ ap (report_reply room head) (sym (from_over 8 s room (length head) g.records (get_or ids i 0) (drop (i + 1) ids) why w.is) ∙ next)

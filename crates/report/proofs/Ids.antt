@@ -23,46 +23,46 @@ use Rattle.report.specs.Report.{ReportRecord, encode, record_of, all, trouble, a
 use Rattle.report.specs.Inside.Report.{Shown, Reports}
 
 -- an id that ends the report: the buffer was cleared
-module _ (form : ℕ) (s : List ℕ) (code id : ℕ) (d : List ℕ) (out : ℕ) (why : Refusal) (r : Answer) (room : ℕ) (after : List ℕ) (g : seen r after no_state ≡ refused room why no_state)
+module _ (s : List ℕ) (id : ℕ) (d : List ℕ) (out : ℕ) (why : Refusal) (r : Answer) (room : ℕ) (after : List ℕ) (g : seen r after no_state ≡ refused room why no_state)
     (same : room ≡ length d) where
-  ends_with : ((head : List ℕ) (rs : List ReportRecord) → Shows d out (head ++ encode_all encode rs) → report_one form s code (length d) (length head) (all rs) id ≡ trouble why)
-      → Reports form s code id d out r after
+  ends_with : ((head : List ℕ) (rs : List ReportRecord) → Shows d out (head ++ encode_all encode rs) → report_one 8 s (length d) (length head) (all rs) id ≡ trouble why)
+      → Reports s id d out r after
   ends_with e head rs w =
       let q = seen_same r (Refused why) after (zeros room) no_state no_state g in
-      subst (λ (x : Answer). Shown head (length d) (report_one form s code (length d) (length head) (all rs) id) x after) (sym q.0)
+      subst (λ (x : Answer). Shown head (length d) (report_one 8 s (length d) (length head) (all rs) id) x after) (sym q.0)
       (record { is = e head rs w; cleared = q.1.0 ∙ ap zeros same })
 
-module _ (form : ℕ) (s : List ℕ) (code id : ℕ) (d : List ℕ) (out : ℕ) where
+module _ (s : List ℕ) (id : ℕ) (d : List ℕ) (out : ℕ) where
   -- nothing found
-  pub turn_nothing : find_of form s (name_of code id) ≡ Nothing → (r : Answer) (after : List ℕ) → seen r after no_state ≡ refused (length d) NotReportable no_state → Reports form s code id d out r after
-  turn_nothing f r after g = ends_with form s code id d out NotReportable r (length d) after g refl (λ head rs w. ap (report_by s (length d) (length head) rs id) f)
+  pub turn_nothing : find_of 8 s (name_of 0 id) ≡ Nothing → (r : Answer) (after : List ℕ) → seen r after no_state ≡ refused (length d) NotReportable no_state → Reports s id d out r after
+  turn_nothing f r after g = ends_with s id d out NotReportable r (length d) after g refl (λ head rs w. ap (report_by s (length d) (length head) rs id) f)
 
-  module _ (a : Attribute) (f : find_of form s (name_of code id) ≡ At a) where
+  module _ (a : Attribute) (f : find_of 8 s (name_of 0 id) ≡ At a) where
     -- not reportable
-    pub turn_unreportable : reportable a ≡ false → (r : Answer) (after : List ℕ) → seen r after no_state ≡ refused (length d) NotReportable no_state → Reports form s code id d out r after
+    pub turn_unreportable : reportable a ≡ false → (r : Answer) (after : List ℕ) → seen r after no_state ≡ refused (length d) NotReportable no_state → Reports s id d out r after
     turn_unreportable q r after g =
-        ends_with form s code id d out NotReportable r (length d) after g refl (λ head rs w. ap (report_by s (length d) (length head) rs id) f ∙ rw q refl)
+        ends_with s id d out NotReportable r (length d) after g refl (λ head rs w. ap (report_by s (length d) (length head) rs id) f ∙ rw q refl)
 
     module _ (q : reportable a ≡ true) (p : Put) (d₁ : List ℕ) (g : putting p d₁ ≡ put d out (encode (record_of s id a))) where
       -- the turn, by whether there is room
       by_room : (room head : ℕ) (rs : List ReportRecord) (b : Bool) → fits encode room head (rs ++ (record_of s id a ∷ [])) ≡ b
-          → report_one form s code room head (all rs) id ≡ cond b (all (rs ++ (record_of s id a ∷ []))) (trouble ReplyTooLong)
+          → report_one 8 s room head (all rs) id ≡ cond b (all (rs ++ (record_of s id a ∷ []))) (trouble ReplyTooLong)
       by_room room head rs b e =
           ap (report_by s room head rs id) f
           ∙ ap (λ (x : Bool). cond x (added room head rs (record_of s id a)) (trouble NotReportable)) q
           ∙ ap (λ (x : Bool). cond x (all (rs ++ (record_of s id a ∷ []))) (trouble ReplyTooLong)) e
 
       -- its record fits
-      pub turn_more : (o : ℕ) → p ≡ PutAt o → Reports form s code id d out (Reply o) d₁
+      pub turn_more : (o : ℕ) → p ≡ PutAt o → Reports s id d out (Reply o) d₁
       turn_more o e head rs w =
           let x : Longer encode head (rs ++ (record_of s id a ∷ [])) (length d) o d₁ = put_record encode head rs (record_of s id a) d out (PutAt o) d₁ w (ap (λ (k : Put). putting k d₁) (sym e) ∙ g) in
           record { records = rs ++ (record_of s id a ∷ []); is = by_room (length d) (length head) rs true x.fit; longer = x }
 
       -- it does not
-      pub turn_full : p ≡ Full → (r : Answer) (after : List ℕ) → seen r after no_state ≡ refused (length d₁) ReplyTooLong no_state → length d₁ ≡ length d → Reports form s code id d out r after
-      turn_full e r after k same = ends_with form s code id d out ReplyTooLong r (length d₁) after k same too_long
+      pub turn_full : p ≡ Full → (r : Answer) (after : List ℕ) → seen r after no_state ≡ refused (length d₁) ReplyTooLong no_state → length d₁ ≡ length d → Reports s id d out r after
+      turn_full e r after k same = ends_with s id d out ReplyTooLong r (length d₁) after k same too_long
         where
-          too_long : (head : List ℕ) (rs : List ReportRecord) → Shows d out (head ++ encode_all encode rs) → report_one form s code (length d) (length head) (all rs) id ≡ trouble ReplyTooLong
+          too_long : (head : List ℕ) (rs : List ReportRecord) → Shows d out (head ++ encode_all encode rs) → report_one 8 s (length d) (length head) (all rs) id ≡ trouble ReplyTooLong
           too_long head rs w =
               let x : Stays encode head (rs ++ (record_of s id a ∷ [])) (length d) d d₁ = put_record encode head rs (record_of s id a) d out Full d₁ w (ap (λ (k : Put). putting k d₁) (sym e) ∙ g) in
               by_room (length d) (length head) rs false x.unfit

@@ -11,8 +11,8 @@ use native.Mathlib.Nat.{zero-mul, suc-mul, mul-le-mul_right}
 use lib.ListN.{length}
 use lib.Dec.{leb, eqb}
 use lib.IntN.{ℤ}
+use borrow.Author.Tests.{eq-eqb}
 use Rattle.store.specs.declared.lookup.Attribute.{Attribute}
-use Rattle.store.specs.Contents.{id_of}
 use Rattle.reporting.specs.declared.entry.ReportingConfig.{ReportingConfig}
 use Rattle.reporting.specs.declared.entry.Entry.{Entry}
 use Rattle.reporting.specs.Entries.{lookup_l, Distinct, fresh}
@@ -24,14 +24,14 @@ use Rattle.reporting.proofs.Histories.{configure_own, configure_distinct, after_
 use Rattle.reporting.proofs.Follows.{Follows, Unmarked, AllRipe, timed, untimed}
 use Rattle.reporting.proofs.Promise.{late_yes, moved_iff}
 use Rattle.report.specs.Round.{round, fitting}
-use Rattle.report.specs.Turn.{key_of, due_of, one_frame, written_of}
+use Rattle.report.specs.Turn.{id_of, key_of, due_of, one_frame, written_of}
 use Rattle.report.specs.Claims.Words.{names, Each, OneOf}
 use Rattle.report.specs.Claims.Turns.{begins, frame_of, turned}
 use Rattle.report.specs.Claims.History.{Happening, turn, event, leaves, left_by, Met, turns_of, Handed}
-use Rattle.report.specs.Claims.Fairness.{count, of_cluster, Standing, EachAlone, found, reported}
+use Rattle.report.specs.Claims.Fairness.{count, of_cluster, Standing, EachAlone, found, reported, StoresOfBytes}
 use Rattle.report.specs.Claims.Demand3.{Look, look_of, looks_of, Paced, NoneReported, SinceReport, TurnsStanding, MostApart, Demand3OfTurns}
 use Rattle.report.proofs.Lists.{not_empty, same_first, same_rest, names_append, names_round, fitting_splits}
-use Rattle.report.proofs.Counts.{own_key, count_less}
+use Rattle.report.proofs.Counts.{count_less}
 use Rattle.report.proofs.Rows.{in_row}
 use Rattle.report.proofs.Looks.{ask_of, asks_of, follow, marks_distinct}
 
@@ -94,62 +94,62 @@ module _ (g : ReportingConfig) (acc : AcceptedRecord g) (e : Entry) (c : e.confi
 
 -- ---- what is reported was found due
 
-written_due : (x : ℕ) (m : Met) → reported x m ≡ true → found x m ≡ true
-written_due x m = go (begins m.turn)
+written_due : (form x : ℕ) (m : Met) → reported form x m ≡ true → found form x m ≡ true
+written_due form x m = go (begins form m.turn)
   where
     all : List Attribute
-    all = round id_of m.turn.last (due_of m.turn.form m.turn.store m.turn.code m.turn.now m.entries)
+    all = round id_of m.turn.last (due_of form m.turn.store m.turn.now m.entries)
 
-    go : (b : Bool) → names id_of x (cond b (written_of m.turn m.entries) []) ≡ true → names id_of x (cond b (due_of m.turn.form m.turn.store m.turn.code m.turn.now m.entries) []) ≡ true
+    go : (b : Bool) → names id_of x (cond b (written_of form m.turn m.entries) []) ≡ true → names id_of x (cond b (due_of form m.turn.store m.turn.now m.entries) []) ≡ true
     go true h =
         let p = fitting_splits (one_frame m.turn) all in
-        sym (names_round id_of x m.turn.last (due_of m.turn.form m.turn.store m.turn.code m.turn.now m.entries))
+        sym (names_round id_of x m.turn.last (due_of form m.turn.store m.turn.now m.entries))
         ∙ ap (names id_of x) p.1
         ∙ names_append id_of x (fitting (one_frame m.turn) all) p.0
         ∙ ap (λ b. b || names id_of x p.0) h
     go false h = h
 
 -- of a turn among many
-either : (x : ℕ) (ms : List Met) (pre : List Look) (z : Look) (post : List Look) → looks_of x ms ≡ pre ++ (z ∷ post) → (m : Met) × (look_of x m ≡ z)
-either x [] [] z post h = absurd (not_empty z post (sym h))
-either x [] (p ∷ pre) z post h = absurd (not_empty p (pre ++ (z ∷ post)) (sym h))
-either x (m ∷ ms) [] z post h = (m, same_first (look_of x m) z (looks_of x ms) post h)
-either x (m ∷ ms) (p ∷ pre) z post h = either x ms pre z post (same_rest (look_of x m) p (looks_of x ms) (pre ++ (z ∷ post)) h)
+either : (form x : ℕ) (ms : List Met) (pre : List Look) (z : Look) (post : List Look) → looks_of form x ms ≡ pre ++ (z ∷ post) → (m : Met) × (look_of form x m ≡ z)
+either form x [] [] z post h = absurd (not_empty z post (sym h))
+either form x [] (p ∷ pre) z post h = absurd (not_empty p (pre ++ (z ∷ post)) (sym h))
+either form x (m ∷ ms) [] z post h = (m, same_first (look_of form x m) z (looks_of form x ms) post h)
+either form x (m ∷ ms) (p ∷ pre) z post h = either form x ms pre z post (same_rest (look_of form x m) p (looks_of form x ms) (pre ++ (z ∷ post)) h)
 
-report_found : (x : ℕ) (ms : List Met) (y z : Look) → SinceReport (looks_of x ms) y z → z.reported ≡ true → z.found ≡ true
-report_found x ms y z s h =
-    let m = either x ms (s.earlier ++ (y ∷ s.between)) z s.later (s.order ∙ sym (append_assoc s.earlier (y ∷ s.between) (z ∷ s.later))) in
-    ap (λ (q : Look). q.found) (sym m.1) ∙ written_due x m.0 (ap (λ (q : Look). q.reported) m.1 ∙ h)
+report_found : (form x : ℕ) (ms : List Met) (y z : Look) → SinceReport (looks_of form x ms) y z → z.reported ≡ true → z.found ≡ true
+report_found form x ms y z s h =
+    let m = either form x ms (s.earlier ++ (y ∷ s.between)) z s.later (s.order ∙ sym (append_assoc s.earlier (y ∷ s.between) (z ∷ s.later))) in
+    ap (λ (q : Look). q.found) (sym m.1) ∙ written_due form x m.0 (ap (λ (q : Look). q.reported) m.1 ∙ h)
 
 -- ---- the promise
 
 pub turns_standing : TurnsStanding
-turns_standing limit cluster code x G start g later d k acc s =
-    let e = fresh (key_of cluster code x) g in
-    let ms = turns_of limit cluster code later start in
-    let f = follow limit cluster code x later start (fresh (key_of cluster code x) g) d k s.left_alone s.present in
+turns_standing form limit cluster x G start g later d k acc s =
+    let e = fresh (key_of cluster x) g in
+    let ms = turns_of form limit cluster later start in
+    let f = follow form limit cluster x later start (fresh (key_of cluster x) g) d k s.left_alone s.present in
     record {
-      first = λ earlier z after o n. until g acc (fresh (key_of cluster code x) g) refl (looks_of x (turns_of limit cluster code later start)) f earlier z after o refl n;
-      late = λ y z w h. is_late g acc (fresh (key_of cluster code x) g) refl (looks_of x (turns_of limit cluster code later start)) f y z w h;
-      least = λ y z w h. is_least g acc (fresh (key_of cluster code x) g) refl (looks_of x (turns_of limit cluster code later start)) f y z w G s.paced (report_found x (turns_of limit cluster code later start) y z w h);
-      moved = λ y z w h i. is_moved g acc (fresh (key_of cluster code x) g) refl (looks_of x (turns_of limit cluster code later start)) f y z w h i;
+      first = λ earlier z after o n. until g acc (fresh (key_of cluster x) g) refl (looks_of form x (turns_of form limit cluster later start)) f earlier z after o refl n;
+      late = λ y z w h. is_late g acc (fresh (key_of cluster x) g) refl (looks_of form x (turns_of form limit cluster later start)) f y z w h;
+      least = λ y z w h. is_least g acc (fresh (key_of cluster x) g) refl (looks_of form x (turns_of form limit cluster later start)) f y z w G s.paced (report_found form x (turns_of form limit cluster later start) y z w h);
+      moved = λ y z w h i. is_moved g acc (fresh (key_of cluster x) g) refl (looks_of form x (turns_of form limit cluster later start)) f y z w h i;
     }
 
-left_distinct : (limit : ℕ) (hs : List Happening) (l : List Entry) → Distinct l → Distinct (left_by limit hs l)
-left_distinct limit [] l d = d
-left_distinct limit (turn u ∷ hs) l d = left_distinct limit hs (turned u l) (marks_distinct u.store u.now (frame_of u l) l d)
-left_distinct limit (event e ∷ hs) l d = left_distinct limit hs (after limit e l) (after_distinct limit e l d)
+left_distinct : (form limit : ℕ) (hs : List Happening) (l : List Entry) → Distinct l → Distinct (left_by form limit hs l)
+left_distinct form limit [] l d = d
+left_distinct form limit (turn u ∷ hs) l d = left_distinct form limit hs (turned form u l) (marks_distinct u.store u.now (frame_of form u l) l d)
+left_distinct form limit (event e ∷ hs) l d = left_distinct form limit hs (after limit e l) (after_distinct limit e l d)
 
-left_append : (limit : ℕ) (hs gs : List Happening) (l : List Entry) → left_by limit (hs ++ gs) l ≡ left_by limit gs (left_by limit hs l)
-left_append limit [] gs l = refl
-left_append limit (h ∷ hs) gs l = left_append limit hs gs (leaves limit h l)
+left_append : (form limit : ℕ) (hs gs : List Happening) (l : List Entry) → left_by form limit (hs ++ gs) l ≡ left_by form limit gs (left_by form limit hs l)
+left_append form limit [] gs l = refl
+left_append form limit (h ∷ hs) gs l = left_append form limit hs gs (leaves form limit h l)
 
 pub demand_3_of_turns : Demand3OfTurns
-demand_3_of_turns limit cluster code x G earlier g later ok acc s =
-    let e = left_append limit earlier (event (configured (key_of cluster code x) g) ∷ []) [] in
-    turns_standing limit cluster code x G (left_by limit (earlier ++ (event (configured (key_of cluster code x) g) ∷ [])) []) g later
-    (subst Distinct (sym e) (configure_distinct limit (key_of cluster code x) g (left_by limit earlier []) (left_distinct limit earlier [] tt)))
-    (ap (lookup_l (key_of cluster code x)) e ∙ configure_own limit (key_of cluster code x) g (left_by limit earlier []) ok)
+demand_3_of_turns form limit cluster x G earlier g later ok acc s =
+    let e = left_append form limit earlier (event (configured (key_of cluster x) g) ∷ []) [] in
+    turns_standing form limit cluster x G (left_by form limit (earlier ++ (event (configured (key_of cluster x) g) ∷ [])) []) g later
+    (subst Distinct (sym e) (configure_distinct limit (key_of cluster x) g (left_by form limit earlier []) (left_distinct form limit earlier [] tt)))
+    (ap (lookup_l (key_of cluster x)) e ∙ configure_own limit (key_of cluster x) g (left_by form limit earlier []) ok)
     acc s
 
 -- ---- how far apart reports are
@@ -159,58 +159,58 @@ AllFound [] = Unit
 AllFound (q ∷ qs) = (q.found ≡ true) × AllFound qs
 
 -- the turns that these are
-record Turns (x : ℕ) (ms : List Met) (early late : List Look) : Type 0 where
+record Turns (form x : ℕ) (ms : List Met) (early late : List Look) : Type 0 where
   first : List Met
   second : List Met
   whole : ms ≡ first ++ second
-  are_first : looks_of x first ≡ early
-  are_second : looks_of x second ≡ late
+  are_first : looks_of form x first ≡ early
+  are_second : looks_of form x second ≡ late
 
-look_split : (x : ℕ) (ms : List Met) (early late : List Look) → looks_of x ms ≡ early ++ late → Turns x ms early late
-look_split x [] [] late h = record { first = []; second = []; whole = refl; are_first = refl; are_second = h }
-look_split x (m ∷ ms) [] late h = record { first = []; second = m ∷ ms; whole = refl; are_first = refl; are_second = h }
-look_split x [] (q ∷ early) late h = absurd (not_empty q (early ++ late) (sym h))
-look_split x (m ∷ ms) (q ∷ early) late h =
-    let r = look_split x ms early late (same_rest (look_of x m) q (looks_of x ms) (early ++ late) h) in
-    record { first = m ∷ r.first; second = r.second; whole = ap (λ t. m ∷ t) r.whole; are_first = λ i. same_first (look_of x m) q (looks_of x ms) (early ++ late) h i ∷ r.are_first i; are_second = r.are_second }
+look_split : (form x : ℕ) (ms : List Met) (early late : List Look) → looks_of form x ms ≡ early ++ late → Turns form x ms early late
+look_split form x [] [] late h = record { first = []; second = []; whole = refl; are_first = refl; are_second = h }
+look_split form x (m ∷ ms) [] late h = record { first = []; second = m ∷ ms; whole = refl; are_first = refl; are_second = h }
+look_split form x [] (q ∷ early) late h = absurd (not_empty q (early ++ late) (sym h))
+look_split form x (m ∷ ms) (q ∷ early) late h =
+    let r = look_split form x ms early late (same_rest (look_of form x m) q (looks_of form x ms) (early ++ late) h) in
+    record { first = m ∷ r.first; second = r.second; whole = ap (λ t. m ∷ t) r.whole; are_first = λ i. same_first (look_of form x m) q (looks_of form x ms) (early ++ late) h i ∷ r.are_first i; are_second = r.are_second }
 
-found_each : (x : ℕ) (ms : List Met) → AllFound (looks_of x ms) → Each (found x) ms
-found_each x [] h = tt
-found_each x (m ∷ ms) h = (h.0, found_each x ms h.1)
+found_each : (form x : ℕ) (ms : List Met) → AllFound (looks_of form x ms) → Each (found form x) ms
+found_each form x [] h = tt
+found_each form x (m ∷ ms) h = (h.0, found_each form x ms h.1)
 
-not_one : (x : ℕ) (ms : List Met) → NoneReported (looks_of x ms) → OneOf (reported x) ms → ⊥
-not_one x [] n o = o
-not_one x (m ∷ ms) n (inl t) = true≢false (sym t ∙ n.0)
-not_one x (m ∷ ms) n (inr o) = not_one x ms n.1 o
+not_one : (form x : ℕ) (ms : List Met) → NoneReported (looks_of form x ms) → OneOf (reported form x) ms → ⊥
+not_one form x [] n o = o
+not_one form x (m ∷ ms) n (inl t) = true≢false (sym t ∙ n.0)
+not_one form x (m ∷ ms) n (inr o) = not_one form x ms n.1 o
 
-looks_length : (x : ℕ) (ms : List Met) → length (looks_of x ms) ≡ length ms
-looks_length x [] = refl
-looks_length x (m ∷ ms) = ap suc (looks_length x ms)
+looks_length : (form x : ℕ) (ms : List Met) → length (looks_of form x ms) ≡ length ms
+looks_length form x [] = refl
+looks_length form x (m ∷ ms) = ap suc (looks_length form x ms)
 
--- an attribute that has an entry makes the code's one at least
-some_entry : (cluster code x : ℕ) (l : List Entry) (e : Entry) → lookup_l (key_of cluster code x) l ≡ some e → 1 ≤ count (of_cluster cluster code) l
-some_entry cluster code x l e h = let c = count_less (λ k. false) (of_cluster cluster code) (λ k t. absurd (false≢true t)) (key_of cluster code x) e l h refl (own_key cluster code x) in omega (arith, c)
+-- an attribute that has an entry makes the cluster's one at least
+some_entry : (cluster x : ℕ) (l : List Entry) (e : Entry) → lookup_l (key_of cluster x) l ≡ some e → 1 ≤ count (of_cluster cluster) l
+some_entry cluster x l e h = let c = count_less (λ k. false) (of_cluster cluster) (λ k t. absurd (false≢true t)) (key_of cluster x) e l h refl (eq-eqb cluster cluster refl) in omega (arith, c)
 
 -- a row of turns that find it due and do not report it is shorter than n
-short : (limit cluster code x : ℕ) (hs : List Happening) (l : List Entry) (pre row post : List Look) → 1 ≤ count (of_cluster cluster code) l → Standing cluster code hs
-    → Handed (turns_of limit cluster code hs l) → EachAlone (turns_of limit cluster code hs l)
-    → looks_of x (turns_of limit cluster code hs l) ≡ pre ++ (row ++ post) → AllFound row → NoneReported row → length row < count (of_cluster cluster code) l
-short limit cluster code x hs l pre row post one st ha al o fo no-report = go (dec_le (count (of_cluster cluster code) l) (length row))
+short : (form limit cluster x : ℕ) (hs : List Happening) (l : List Entry) (pre row post : List Look) → 1 ≤ count (of_cluster cluster) l → Standing cluster hs
+    → StoresOfBytes (turns_of form limit cluster hs l) → Handed form (turns_of form limit cluster hs l) → EachAlone form (turns_of form limit cluster hs l)
+    → looks_of form x (turns_of form limit cluster hs l) ≡ pre ++ (row ++ post) → AllFound row → NoneReported row → length row < count (of_cluster cluster) l
+short form limit cluster x hs l pre row post one st by ha al o fo no-report = go (dec_le (count (of_cluster cluster) l) (length row))
   where
-    a : Turns x (turns_of limit cluster code hs l) pre (row ++ post)
-    a = look_split x (turns_of limit cluster code hs l) pre (row ++ post) o
+    a : Turns form x (turns_of form limit cluster hs l) pre (row ++ post)
+    a = look_split form x (turns_of form limit cluster hs l) pre (row ++ post) o
 
-    b : Turns x a.second row post
-    b = look_split x a.second row post a.are_second
+    b : Turns form x a.second row post
+    b = look_split form x a.second row post a.are_second
 
     same_length : length row ≡ length b.first
-    same_length = ap length (sym b.are_first) ∙ looks_length x b.first
+    same_length = ap length (sym b.are_first) ∙ looks_length form x b.first
 
-    go : Dec (count (of_cluster cluster code) l ≤ length row) → length row < count (of_cluster cluster code) l
+    go : Dec (count (of_cluster cluster) l ≤ length row) → length row < count (of_cluster cluster) l
     go (yes h) =
-        absurd (not_one x b.first (subst NoneReported (sym b.are_first) no-report)
-        (in_row limit cluster code x hs l a.first b.first b.second st (a.whole ∙ ap (λ t. a.first ++ t) b.whole) ha al
-        (omega (arith, h, one, same_length)) (omega (arith, h, same_length)) (found_each x b.first (subst AllFound (sym b.are_first) fo))))
+        absurd (not_one form x b.first (subst NoneReported (sym b.are_first) no-report)
+        (in_row form limit cluster x hs l a.first b.first b.second st (a.whole ∙ ap (λ t. a.first ++ t) b.whole) by ha al
+        (omega (arith, h, one, same_length)) (omega (arith, h, same_length)) (found_each form x b.first (subst AllFound (sym b.are_first) fo))))
     go (no h) = omega arith
 
 -- G seconds a turn
@@ -246,12 +246,12 @@ module _ (g : ReportingConfig) (acc : AcceptedRecord g) (G n t : ℕ) (v : ℤ) 
       go (no w) ih = ih (omega arith)
 
 pub most_apart : MostApart
-most_apart limit cluster code x G start e later d k acc s st ha al y z w =
-    let f = follow limit cluster code x later start e d k s.left_alone s.present in
-    let r = since e.config acc e refl (looks_of x (turns_of limit cluster code later start)) f y z w in
-    let p = paced e.config acc e refl (looks_of x (turns_of limit cluster code later start)) f y z w G s.paced in
-    let one = some_entry cluster code x start e k in
+most_apart form limit cluster x G start e later d k acc s st by ha al y z w =
+    let f = follow form limit cluster x later start e d k s.left_alone s.present in
+    let r = since e.config acc e refl (looks_of form x (turns_of form limit cluster later start)) f y z w in
+    let p = paced e.config acc e refl (looks_of form x (turns_of form limit cluster later start)) f y z w G s.paced in
+    let one = some_entry cluster x start e k in
     let m = acc.one in
-    walk e.config acc G (count (of_cluster cluster code) start) y.time y.value z w.later y w.between one (omega arith) p r.0 w.none
-    (λ pre row o fo no-report. short limit cluster code x later start (w.earlier ++ (y ∷ pre)) row (z ∷ w.later) one st ha al
+    walk e.config acc G (count (of_cluster cluster) start) y.time y.value z w.later y w.between one (omega arith) p r.0 w.none
+    (λ pre row o fo no-report. short form limit cluster x later start (w.earlier ++ (y ∷ pre)) row (z ∷ w.later) one st by ha al
     (w.order ∙ ap (λ b. w.earlier ++ (y ∷ (b ++ (z ∷ w.later)))) o ∙ ap (λ b. w.earlier ++ (y ∷ b)) (append_assoc pre row (z ∷ w.later)) ∙ sym (append_assoc w.earlier (y ∷ pre) (row ++ (z ∷ w.later)))) fo no-report)

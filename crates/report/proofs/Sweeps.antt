@@ -2,15 +2,16 @@
 -- What is left to write does not depend on what was marked: no id comes twice (`due-still`).
 use mathlib.Core.Path.{◌≡◌, refl, sym, ap, ◌∙◌}
 use mathlib.Core.Bool.{Bool, true, false, not, cond, ◌&&◌, ◌||◌, true≢false, false≢true}
+use mathlib.Core.Option.{none}
 use mathlib.Core.List.{List, [], ◌∷◌, ◌++◌, append-nil, append_assoc}
 use Prim.Native.Nat.{ℕ}
 use native.Mathlib.Omega.{arith}
 use lib.Dec.{ltb, eqb}
-use borrow.Author.Tests.{ne_eqb, ltb-true, not-true}
+use borrow.Author.Tests.{eq-eqb, ne_eqb, ltb-true, not-true}
 use Rattle.frame.specs.declared.answer.Refusal.TheVariants.{ReplyTooLong, NothingToSend, NotAStore}
 use Rattle.frame.specs.Answer.{refused}
 use Rattle.store.specs.declared.lookup.Attribute.{Attribute}
-use Rattle.store.specs.Contents.{cluster_of, attributes_of, reportable, code_of, id_of, of_code}
+use Rattle.store.specs.Contents.{cluster_of, attributes_of, reportable}
 use Rattle.store.specs.Layout.{is_store}
 use Rattle.reporting.specs.declared.entry.Entry.{Entry}
 use Rattle.reporting.specs.Entries.{lookup_l, mark_l}
@@ -18,19 +19,19 @@ use Rattle.reporting.specs.Due.{due_o}
 use Rattle.reporting.specs.Table.{capacity}
 use Rattle.reporting.specs.Carried.{table_in, table_bytes}
 use Rattle.report.specs.Round.{keep, above, round, fitting_behind, fitting}
-use Rattle.report.specs.Turn.{Turn, key_of, key_in, value_in, is_due, due_of, one_frame, written_of, mark_each, framed, sent, after_turn}
+use Rattle.report.specs.Turn.{Turn, id_of, key_of, value_in, is_due, due_of, one_frame, written_of, mark_each, framed, sent, after_turn}
 use Rattle.report.specs.Claims.Words.{names, Each, Row}
-use Rattle.report.specs.Inside.Loop.{Sweep, sweep_at, sweep_one, sweep, mine_of, swept, ended, LoopsAreTurns}
+use Rattle.report.specs.Inside.Loop.{Sweep, sweep_at, sweep_one, sweep, swept, ended, LoopsAreTurns}
 use Rattle.report.proofs.Lists.{or_false, not_empty, names_append, each_at, each_ok}
 use Rattle.report.proofs.Moves.{opened, store_row}
-use Rattle.report.proofs.Looks.{mark_other, other_id}
+use Rattle.report.proofs.Looks.{mark_other}
 
 -- ---- lists
 
 mark_behind : (s : List ℕ) (now : ℕ) (w : List Attribute) (a : Attribute) (l : List Entry)
-    → mark_each s now (w ++ (a ∷ [])) l ≡ mark_l (key_in s a) now (value_in s a) (mark_each s now w l)
+    → mark_each s now (w ++ (a ∷ [])) l ≡ mark_l (key_of (cluster_of s) (id_of a)) now (value_in s a) (mark_each s now w l)
 mark_behind s now [] a l = refl
-mark_behind s now (x ∷ w) a l = mark_behind s now w a (mark_l (key_in s x) now (value_in s x) l)
+mark_behind s now (x ∷ w) a l = mark_behind s now w a (mark_l (key_of (cluster_of s) (id_of x)) now (value_in s x) l)
 
 -- all of them fit
 abbrev all_fit : {A : Type 0} → (List A → Bool) → List A → List A → Bool
@@ -61,23 +62,18 @@ fit_append fit early (a ∷ l) m = go (fit (early ++ (a ∷ []))) (fit_append fi
 
 -- ---- what is due stays due while others are marked
 
-not_marked : (s : List ℕ) (now code x : ℕ) (w : List Attribute) (l : List Entry) → names id_of x w ≡ false → lookup_l (key_of (cluster_of s) code x) (mark_each s now w l) ≡ lookup_l (key_of (cluster_of s) code x) l
-not_marked s now code x [] l h = refl
-not_marked s now code x (a ∷ w) l h =
+not_marked : (s : List ℕ) (now x : ℕ) (w : List Attribute) (l : List Entry) → names id_of x w ≡ false → lookup_l (key_of (cluster_of s) x) (mark_each s now w l) ≡ lookup_l (key_of (cluster_of s) x) l
+not_marked s now x [] l h = refl
+not_marked s now x (a ∷ w) l h =
     let p = or_false (eqb (id_of a) x) (names id_of x w) h in
-    not_marked s now code x w (mark_l (key_in s a) now (value_in s a) l) p.1
-    ∙ mark_other s now (key_in s a) (key_of (cluster_of s) code x) (value_in s a) l (other_id (cluster_of s) (code_of a) code (id_of a) x p.0)
+    not_marked s now x w (mark_l (key_of (cluster_of s) (id_of a)) now (value_in s a) l) p.1
+    ∙ mark_other s now (key_of (cluster_of s) (id_of a)) (key_of (cluster_of s) x) (value_in s a) l (rw (eq-eqb (cluster_of s) (cluster_of s) refl) p.0)
 
 due_still : (s : List ℕ) (now : ℕ) (l : List Entry) (w : List Attribute) (a : Attribute) → names id_of (id_of a) w ≡ false → is_due s now (mark_each s now w l) a ≡ is_due s now l a
 unfolding is_due
-due_still s now l w a h = ap (λ o. reportable a && due_o o now (value_in s a)) (not_marked s now (code_of a) (id_of a) w l h)
+due_still s now l w a h = ap (λ o. reportable a && due_o o now (value_in s a)) (not_marked s now (id_of a) w l h)
 
 -- ---- one pass
-
--- once one did not fit, a pass changes nothing
-pub sweep_stays : (mine : Attribute → Bool) (u : Turn) (l : List Attribute) (x : Sweep) → x.full ≡ true → sweep mine u l x ≡ x
-sweep_stays mine u [] x h = refl
-sweep_stays mine u (a ∷ l) x h = rw h
 
 module _ (mine : Attribute → Bool) (u : Turn) (l : List Entry) where
   abbrev due : Attribute → Bool
@@ -86,6 +82,10 @@ module _ (mine : Attribute → Bool) (u : Turn) (l : List Entry) where
   -- with these written so far
   abbrev behind : List Attribute → Bool → Sweep
   behind w full = sweep_at (mark_each u.store u.now w l) w full
+
+  sweep_full : (as' : List Attribute) (w : List Attribute) → sweep mine u as' (behind w true) ≡ behind w true
+  sweep_full [] w = refl
+  sweep_full (a ∷ more) w = refl
 
   -- none that is still to come was written
   abbrev New : List Attribute → List Attribute → Type 0
@@ -123,7 +123,7 @@ module _ (mine : Attribute → Bool) (u : Turn) (l : List Entry) where
           → sweep mine u more (cond f (behind (w ++ (a ∷ [])) false) (behind w true))
           ≡ behind (w ++ cond f (a ∷ fitting_behind (one_frame u) (w ++ (a ∷ [])) rest) []) (not (cond f (all_fit (one_frame u) (w ++ (a ∷ [])) rest) false))
       both true jh = jh ∙ ap (λ x. behind x (not (all_fit (one_frame u) (w ++ (a ∷ [])) rest))) (append_assoc w (a ∷ []) (fitting_behind (one_frame u) (w ++ (a ∷ [])) rest))
-      both false jh = sweep_stays mine u more (behind w true) refl ∙ ap (λ x. behind x true) (sym (append-nil w))
+      both false jh = sweep_full more w ∙ ap (λ x. behind x true) (sym (append-nil w))
 
       go : (b d : Bool)
           → sweep mine u more (behind w false) ≡ behind (w ++ fitting_behind (one_frame u) w rest) (not (all_fit (one_frame u) w rest))
@@ -137,23 +137,6 @@ module _ (mine : Attribute → Bool) (u : Turn) (l : List Entry) where
       go false false ih jh = ih
 
 -- ---- both passes
-
--- a pass that asks for the code is one over the attributes of that code
-sweep_of_code : (code : ℕ) (mine : Attribute → Bool) (u : Turn) (l : List Attribute) (x : Sweep)
-    → sweep (λ a. eqb (code_of a) code && mine a) u l x ≡ sweep mine u (of_code code l) x
-unfolding of_code
-sweep_of_code code mine u [] x = refl
-sweep_of_code code mine u (a ∷ l) x = go (eqb (code_of a) code) x.full refl (sweep_of_code code mine u l)
-  where
-    both : Attribute → Bool
-    both b = eqb (code_of b) code && mine b
-
-    go : (t f : Bool) → x.full ≡ f → ((y : Sweep) → sweep both u l y ≡ sweep mine u (of_code code l) y)
-        → cond f x (sweep both u l (cond (t && mine a) (sweep_one u a x) x)) ≡ sweep mine u (cond t (a ∷ of_code code l) (of_code code l)) x
-    go true true e ih = sym (sweep_stays mine u (a ∷ of_code code l) x e)
-    go true false e ih = ih (cond (mine a) (sweep_one u a x) x) ∙ sym (ap (λ b. cond b x (sweep mine u (of_code code l) (cond (mine a) (sweep_one u a x) x))) e)
-    go false true e ih = sym (sweep_stays mine u (of_code code l) x e)
-    go false false e ih = ih x
 
 all-fit : (fit : List Attribute → Bool) (early l : List Attribute) → all_fit fit early l ≡ true → fitting_behind fit early l ≡ l
 all-fit fit early [] h = refl
@@ -173,7 +156,7 @@ all_append fit early (a ∷ l) m = go (fit (early ++ (a ∷ []))) (all_append fi
     go true ih = ih
     go false ih = refl
 
-module _ (u : Turn) (l : List Entry) (store : is_store u.form u.store ≡ true) where
+module _ (form : ℕ) (u : Turn) (l : List Entry) (store : is_store form u.store ≡ true) where
   abbrev up : Attribute → Bool
   up a = above u.last (id_of a)
 
@@ -181,16 +164,16 @@ module _ (u : Turn) (l : List Entry) (store : is_store u.form u.store ≡ true) 
   down a = not (above u.last (id_of a))
 
   abbrev attributes : List Attribute
-  attributes = of_code u.code (attributes_of u.form u.store)
+  attributes = attributes_of form u.store
 
   abbrev ups : List Attribute
-  ups = keep up (due_of u.form u.store u.code u.now l)
+  ups = keep up (due_of form u.store u.now l)
 
   abbrev downs : List Attribute
-  downs = keep down (due_of u.form u.store u.code u.now l)
+  downs = keep down (due_of form u.store u.now l)
 
   row : Row id_of ltb attributes
-  row = store_row u.form u.store u.code store
+  row = store_row form u.store store
 
   nothing_yet : (mine : Attribute → Bool) (as' : List Attribute) → New mine u l [] as'
   nothing_yet mine [] = tt
@@ -208,32 +191,26 @@ module _ (u : Turn) (l : List Entry) (store : is_store u.form u.store ≡ true) 
   first_pass : sweep up u attributes (sweep_at l [] false) ≡ behind up u l (fitting (one_frame u) ups) (not (all_fit (one_frame u) [] ups))
   first_pass = sweep_is up u l attributes [] row (nothing_yet up attributes)
 
-  -- both passes, over the attributes of the code alone
-  of_code_swept : swept u l ≡ sweep down u attributes (sweep up u attributes (sweep_at l [] false))
-  of_code_swept =
-      sweep_of_code u.code down u (attributes_of u.form u.store) (sweep (mine_of true u.code u.last) u (attributes_of u.form u.store) (sweep_at l [] false))
-      ∙ ap (sweep down u attributes) (sweep_of_code u.code up u (attributes_of u.form u.store) (sweep_at l [] false))
-
-  swept_is : swept u l ≡ behind down u l (written_of u l) (not (all_fit (one_frame u) [] (ups ++ downs)))
-  swept_is = of_code_swept ∙ ap (sweep down u attributes) first_pass ∙ go (all_fit (one_frame u) [] ups) refl
+  swept_is : swept form u l ≡ behind down u l (written_of form u l) (not (all_fit (one_frame u) [] (ups ++ downs)))
+  swept_is = ap (sweep down u attributes) first_pass ∙ go (all_fit (one_frame u) [] ups) refl
     where
       end : (w w' : List Attribute) (b b' : Bool) → w ≡ w' → b ≡ b' → behind down u l w (not b) ≡ behind down u l w' (not b')
       end w w' b b' p q = λ i. behind down u l (p i) (not (q i))
 
       goal : (b : Bool) → all_fit (one_frame u) [] ups ≡ b
-          → (written_of u l ≡ cond b (ups ++ fitting_behind (one_frame u) ups downs) (fitting (one_frame u) ups)) × (all_fit (one_frame u) [] (ups ++ downs) ≡ cond b (all_fit (one_frame u) ups downs) false)
+          → (written_of form u l ≡ cond b (ups ++ fitting_behind (one_frame u) ups downs) (fitting (one_frame u) ups)) × (all_fit (one_frame u) [] (ups ++ downs) ≡ cond b (all_fit (one_frame u) ups downs) false)
       goal b e = (
         fit_append (one_frame u) [] ups downs ∙ ap (λ c. cond c (ups ++ fitting_behind (one_frame u) ups downs) (fitting (one_frame u) ups)) e,
         all_append (one_frame u) [] ups downs ∙ ap (λ c. cond c (all_fit (one_frame u) ups downs) false) e,
       )
 
       go : (b : Bool) → all_fit (one_frame u) [] ups ≡ b
-          → sweep down u attributes (behind down u l (fitting (one_frame u) ups) (not b)) ≡ behind down u l (written_of u l) (not (all_fit (one_frame u) [] (ups ++ downs)))
+          → sweep down u attributes (behind down u l (fitting (one_frame u) ups) (not b)) ≡ behind down u l (written_of form u l) (not (all_fit (one_frame u) [] (ups ++ downs)))
       go true e =
           ap (λ w. sweep down u attributes (behind down u l w false)) (all-fit (one_frame u) [] ups e)
-          ∙ sweep_is down u l attributes ups row (others ups (each_ok up up (λ a t. t) (due_of u.form u.store u.code u.now l)) attributes)
+          ∙ sweep_is down u l attributes ups row (others ups (each_ok up up (λ a t. t) (due_of form u.store u.now l)) attributes)
           ∙ sym (end _ _ _ _ (goal true e).0 (goal true e).1)
-      go false e = sweep_stays down u attributes (behind down u l (fitting (one_frame u) ups) true) refl ∙ sym (end _ _ _ _ (goal false e).0 (goal false e).1)
+      go false e = sweep_full down u l attributes (fitting (one_frame u) ups) ∙ sym (end _ _ _ _ (goal false e).0 (goal false e).1)
 
 -- ---- the answer
 
@@ -259,8 +236,8 @@ end_is u bs own (a ∷ d) (x ∷ r) p q = go (one_frame u (x ∷ []))
     go false = ap (λ b. refused u.room ReplyTooLong (after_turn b u.last)) own
 
 pub loop_is : LoopsAreTurns
-loop_is u bs store table own room =
-    opened u bs table
-    ∙ (λ i. cond (store i) (cond (room i) (sent u bs (due_of u.form u.store u.code u.now (table_in bs)) (written_of u (table_in bs))) (refused u.room ReplyTooLong (after_turn bs u.last))) (refused u.room NotAStore (after_turn bs u.last)))
-    ∙ end_is u bs own (due_of u.form u.store u.code u.now (table_in bs)) (round id_of u.last (due_of u.form u.store u.code u.now (table_in bs))) (some_up u (due_of u.form u.store u.code u.now (table_in bs))) (λ e. ap (round id_of u.last) e)
-    ∙ ap (λ (c : Sweep). ended u c.entries c.full c.written) (sym (swept_is u (table_in bs) store))
+loop_is form u bs store table own room =
+    opened form u bs table
+    ∙ (λ i. cond (store i) (cond (room i) (sent u bs (due_of form u.store u.now (table_in bs)) (written_of form u (table_in bs))) (refused u.room ReplyTooLong (after_turn bs u.last))) (refused u.room NotAStore (after_turn bs u.last)))
+    ∙ end_is u bs own (due_of form u.store u.now (table_in bs)) (round id_of u.last (due_of form u.store u.now (table_in bs))) (some_up u (due_of form u.store u.now (table_in bs))) (λ e. ap (round id_of u.last) e)
+    ∙ ap (λ (c : Sweep). ended u c.entries c.full c.written) (sym (swept_is form u (table_in bs) store))

@@ -49,46 +49,46 @@ abbrev pub report_by : List ℕ → ℕ → ℕ → List ReportRecord → ℕ �
 report_by s room head rs id (At a) = cond (reportable a) (added room head rs (record_of s id a)) (trouble NotReportable)
 report_by s room head rs id Nothing = trouble NotReportable
 
--- one id, which is of this code; a report that has ended stays as it is
-abbrev pub report_one : ℕ → List ℕ → ℕ → ℕ → ℕ → Reported → ℕ → Reported
-report_one form s code room head (all rs) id = report_by s room head rs id (find_of form s (name_of code id))
-report_one form s code room head (trouble why) id = trouble why
+-- one id; a report that has ended stays as it is
+abbrev pub report_one : ℕ → List ℕ → ℕ → ℕ → Reported → ℕ → Reported
+report_one form s room head (all rs) id = report_by s room head rs id (find_of form s (name_of 0 id))
+report_one form s room head (trouble why) id = trouble why
 
 abbrev pub goes_on : Reported → Bool
 goes_on (all rs) = true
 goes_on (trouble why) = false
 
 -- every id, with these records before it
-unfoldable pub report_from : ℕ → List ℕ → ℕ → ℕ → ℕ → List ReportRecord → List ℕ → Reported
-report_from form s code room head rs ids = reached (walk (report_one form s code room head) goes_on (all rs) done ids)
+unfoldable pub report_from : ℕ → List ℕ → ℕ → ℕ → List ReportRecord → List ℕ → Reported
+report_from form s room head rs ids = reached (walk (report_one form s room head) goes_on (all rs) done ids)
 
 unfoldable pub report_reply : ℕ → List ℕ → Reported → Outcome (Unit {0})
 report_reply room head (all rs) = replied room (head ++ encode_all encode rs) no_state
 report_reply room head (trouble why) = refused room why no_state
 
--- a report answers no request: its header is as that of a reply to a request with this code and sequence number
-abbrev pub unasked : ℕ → ℕ → ZclHeader
-unasked code sequence =
+-- a report answers no request: its header is as that of a reply to this sequence number
+abbrev pub unasked : ℕ → ZclHeader
+unasked sequence =
     record {
       frame_control = record { 0 = 0 };
-      manufacturer_code = record { 0 = code };
+      manufacturer_code = record { 0 = 0 };
       sequence_number = sequence;
       command_identifier = record { 0 = 0 };
       body = 0;
     }
 
--- as that of a reply: where there is a code it stands before the sequence number, then 0a
-abbrev pub report_head : ℕ → ℕ → List ℕ
-report_head code sequence = reply_head (unasked code sequence) ReportAttributes
+-- 18, the sequence number, 0a
+abbrev pub report_head : ℕ → List ℕ
+report_head sequence = reply_head (unasked sequence) ReportAttributes
 
--- A REPORT of these attributes, which are all of one code: 7, 5 for the header, 11 for an empty list, then 12 or 5 per id
-unfoldable pub report_of : ℕ → List ℕ → ℕ → ℕ → List ℕ → ℕ → Outcome (Unit {0})
-report_of form s code sequence ids room =
-    let head : List ℕ = report_head code sequence in
+-- A REPORT of these attributes: 7, 5 for the header, 11 for an empty list, then 12 or 5 per id
+unfoldable pub report_of : ℕ → List ℕ → ℕ → List ℕ → ℕ → Outcome (Unit {0})
+report_of form s sequence ids room =
+    let head : List ℕ = report_head sequence in
     cond (is_store form s)
     (cond (leb (length head) room)
     (cond (ltb 0 (length ids))
-    (report_reply room head (report_from form s code room (length head) [] ids))
+    (report_reply room head (report_from form s room (length head) [] ids))
     (refused room EmptyReport no_state))
     (refused room ReplyTooLong no_state))
     (refused room NotAStore no_state)

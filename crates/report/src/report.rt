@@ -1,9 +1,7 @@
-// The Report Attributes frame (`AttributeReportBuilder` in the Rust; ZCL 2.5.11): a record for each id of a lent list, in its order. All are of one
-// manufacturer code.
+// The Report Attributes frame (`AttributeReportBuilder` in the Rust; ZCL 2.5.11): a record for each id of a lent list, in its order.
 ghost use Rattle.std.specs.Prelude.{◌≡◌, length};
 ghost use Rattle.frame.specs.Answer.{seen, no_state};
 ghost use Rattle.frame.specs.Inside.Buffer.{putting, put};
-ghost use Rattle.store.specs.Contents.{entry_size};
 ghost use Rattle.report.specs.Report.{encode, report_record, unasked as unaskedHeader, report_of};
 ghost use Rattle.report.specs.Inside.Report.{Reports, ReportsAll};
 
@@ -11,7 +9,6 @@ use frame::answer::{Answer, Refusal, refuse};
 use frame::command_identifier::CommandIdentifier;
 use frame::header::{FrameControl, ManufacturerCode, ZclHeader, write_response_header};
 use frame::reply::{Put, clear, put_both};
-use store::form::Form;
 use store::layout::is_store;
 use store::lookup::{Found, find, is_reportable, name_of};
 use store::value::value_of;
@@ -22,36 +19,29 @@ pub(crate) fn put_record(
     frame: &mut [u8],
     out: usize,
     id: AttributeId,
-    kind: u8,
+    code: u8,
     value: &[u8],
 ) -> Put
-    ensures { putting result frame.new ≡ put frame.old out (encode (report_record id.0 kind value.now)) }
+    ensures { putting result frame.new ≡ put frame.old out (encode (report_record id.0 code value.now)) }
 {
     let n = id.0;
-    let three = [(n % 256) as u8, (n / 256 % 256) as u8, kind];
+    let three = [(n % 256) as u8, (n / 256 % 256) as u8, code];
     put_both(frame, out, &three, value)
 }
 
 // One id: a frame longer by its record; a refusal where it is missing or not reportable, or where its record does not fit.
-fn report_one(
-    store: &[u8],
-    form: Form,
-    code: ManufacturerCode,
-    id: AttributeId,
-    frame: &mut [u8],
-    out: usize,
-) -> Answer
-    ensures { Reports (entry_size form) store.now code.0 id.0 frame.old out result frame.new }
+fn report_one(store: &[u8], id: AttributeId, frame: &mut [u8], out: usize) -> Answer
+    ensures { Reports store.now id.0 frame.old out result frame.new }
 {
-    let name = name_of(code, id);
-    let Found::At(a) = find(store, form, name) else {
+    let name = name_of(ManufacturerCode(0), id);
+    let Found::At(a) = find(store, name) else {
         return refuse(frame, Refusal::NotReportable);
     };
     if !is_reportable(a) {
         return refuse(frame, Refusal::NotReportable);
     }
-    let kind = a.type_id;
-    let put = put_record(frame, out, id, kind.0, value_of(store, a));
+    let code = a.type_id;
+    let put = put_record(frame, out, id, code.0, value_of(store, a));
     let Put::At(o) = put else {
         return refuse(frame, Refusal::ReplyTooLong);
     };
@@ -59,20 +49,13 @@ fn report_one(
 }
 
 // Every id of the list, behind a header that ends at `from`. The first trouble met counts.
-fn report_records(
-    store: &[u8],
-    form: Form,
-    code: ManufacturerCode,
-    ids: &[u16],
-    frame: &mut [u8],
-    from: usize,
-) -> Answer
-    ensures { ReportsAll (entry_size form) store.now code.0 ids.now frame.old from result frame.new }
+fn report_records(store: &[u8], ids: &[u16], frame: &mut [u8], from: usize) -> Answer
+    ensures { ReportsAll store.now ids.now frame.old from result frame.new }
 {
     let mut i: usize = 0;
     let mut out = from;
     while i < ids.len() {
-        let answer = report_one(store, form, code, AttributeId(ids[i]), frame, out);
+        let answer = report_one(store, AttributeId(ids[i]), frame, out);
         let Answer::Reply(longer) = answer else {
             return answer;
         };
@@ -82,35 +65,28 @@ fn report_records(
     Answer::Reply(out)
 }
 
-// A report answers no request: its header is as that of a reply to a request with this code and sequence number.
-pub(crate) fn unasked(code: ManufacturerCode, sequence: u8) -> ZclHeader
-    ensures { result ≡ unaskedHeader code.0 sequence }
+// A report answers no request: its header is as that of a reply to this sequence number.
+pub(crate) fn unasked(sequence: u8) -> ZclHeader
+    ensures { result ≡ unaskedHeader sequence }
 {
     ZclHeader {
         frame_control: FrameControl(0),
-        manufacturer_code: code,
+        manufacturer_code: ManufacturerCode(0),
         sequence_number: sequence,
         command_identifier: CommandId(0),
         body: 0,
     }
 }
 
-// A Report Attributes frame of these attributes of a code, 0 for none.
-pub fn report(
-    store: &[u8],
-    form: Form,
-    code: ManufacturerCode,
-    sequence: u8,
-    ids: &[u16],
-    frame: &mut [u8],
-) -> Answer
-    ensures { seen result frame.new no_state ≡ report_of (entry_size form) store.now code.0 sequence ids.now (length frame.old) }
+// A Report Attributes frame of these attributes.
+pub fn report(store: &[u8], sequence: u8, ids: &[u16], frame: &mut [u8]) -> Answer
+    ensures { seen result frame.new no_state ≡ report_of 8 store.now sequence ids.now (length frame.old) }
 {
-    if !is_store(store, form) {
+    if !is_store(store) {
         return refuse(frame, Refusal::NotAStore);
     }
     clear(frame);
-    let request = unasked(code, sequence);
+    let request = unasked(sequence);
     let put = write_response_header(frame, request, CommandIdentifier::ReportAttributes);
     let Put::At(from) = put else {
         return Answer::Refused(Refusal::ReplyTooLong);
@@ -118,5 +94,5 @@ pub fn report(
     if ids.len() == 0 {
         return refuse(frame, Refusal::EmptyReport);
     }
-    report_records(store, form, code, ids, frame, from)
+    report_records(store, ids, frame, from)
 }

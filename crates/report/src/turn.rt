@@ -1,28 +1,26 @@
-// One frame for all that is due (document 02, request 3), on the bytes that carry the reporting table; of the attributes of one manufacturer code
-// (request 8).
-ghost use Rattle.std.specs.Prelude.{◌≡◌, true, length};
+// One frame for all that is due (document 02, request 3), on the bytes that carry the reporting table.
+ghost use Rattle.std.specs.Prelude.{◌≡◌, true, ◌<◌, length};
 ghost use Rattle.frame.specs.Answer.{seen};
 ghost use Rattle.frame.specs.Inside.Buffer.{putting, put};
-ghost use Rattle.store.specs.Contents.{entry_size, id_of};
+ghost use Rattle.store.specs.Contents.{cluster_of};
 ghost use Rattle.reporting.specs.Table.{capacity};
 ghost use Rattle.reporting.specs.Carried.{is_table};
 ghost use Rattle.report.specs.Round.{above};
-ghost use Rattle.report.specs.Turn.{turn_for, key_in, value_in, record_in, after_turn, turn_of};
-ghost use Rattle.report.specs.Inside.Loop.{mine_of};
-ghost use Rattle.report.specs.Inside.Turn.{Tries, Steps, Sweeps, Finishes};
+ghost use Rattle.report.specs.Turn.{turn_for, id_of, key_of, value_in, record_in, after_turn, turn_of};
+ghost use Rattle.report.specs.Inside.Turn.{Tries, Steps, mine_of, Sweeps, Finishes};
 
 use super::report::{put_record, unasked};
 use frame::answer::{Answer, Refusal, refuse};
 use frame::command_identifier::CommandIdentifier;
-use frame::header::{ManufacturerCode, write_response_header};
+use frame::header::write_response_header;
 use frame::reply::{Put, clear};
 use reporting::carried::is_table;
 use reporting::entry::Key;
 use reporting::lent::{due_in, mark_in};
-use store::form::Form;
 use store::layout::is_store;
-use store::lookup::{Attribute, attribute_at, cluster_of, code_of, count_of, id_of, is_reportable};
+use store::lookup::{Attribute, attribute_at, cluster_of, count_of, is_reportable};
 use store::value::value_of;
+use types::ids::AttributeId;
 use types::value::{Number, number_at};
 
 // What an attribute came to: not due, a frame longer by its record, or no room for that.
@@ -54,22 +52,24 @@ fn value_in(store: &[u8], a: Attribute) -> i64
 
 // What its entry is found by.
 fn key_of(store: &[u8], a: Attribute) -> Key
-    ensures { result ≡ key_in store.now a }
+    requires { id_of a < 65536 }
+    ensures { result ≡ key_of (cluster_of store.now) (id_of a) }
 {
+    let id = a.name.0 as u16;
     Key {
         cluster: cluster_of(store),
-        code: code_of(a),
-        attribute: id_of(a),
+        attribute: AttributeId(id),
     }
 }
 
 // Puts its record.
 fn put_attribute(frame: &mut [u8], out: usize, store: &[u8], a: Attribute) -> Put
+    requires { id_of a < 65536 }
     ensures { putting result frame.new ≡ put frame.old out (record_in store.now a) }
 {
-    let id = id_of(a);
-    let kind = a.type_id;
-    put_record(frame, out, id, kind.0, value_of(store, a))
+    let id = a.name.0 as u16;
+    let code = a.type_id;
+    put_record(frame, out, AttributeId(id), code.0, value_of(store, a))
 }
 
 // Whether an attribute comes above the last id. A number above every id is none.
@@ -79,8 +79,7 @@ fn is_above(last: u32, a: Attribute) -> bool
     if 0xffff < last {
         return true;
     }
-    let id = id_of(a);
-    last < id.0 as u32
+    last < a.name.0
 }
 
 // An attribute whose turn it is.
@@ -92,7 +91,8 @@ fn try_attribute(
     frame: &mut [u8],
     out: usize,
 ) -> Tried
-    requires { is_table capacity table.old ≡ true }
+    requires table_value { is_table capacity table.old ≡ true }
+    requires a_bound { id_of a < 65536 }
     ensures { Tries store.now a time table.old frame.old out result table.new frame.new }
 {
     if !is_reportable(a) {
@@ -121,7 +121,8 @@ fn sweep_one(
     frame: &mut [u8],
     c: Swept,
 ) -> Swept
-    requires { is_table capacity table.old ≡ true }
+    requires table_value { is_table capacity table.old ≡ true }
+    requires a_bound { id_of a < 65536 }
     ensures { Steps store.now a mine time table.old frame.old c result table.new frame.new }
 {
     if c.full {
@@ -133,14 +134,11 @@ fn sweep_one(
     let tried = try_attribute(store, a, table, time, frame, c.out);
     match tried {
         Tried::Passed => c,
-        Tried::Longer(o) => {
-            let id = id_of(a);
-            Swept {
-                out: o,
-                last: id.0 as u32,
-                full: false,
-            }
-        }
+        Tried::Longer(o) => Swept {
+            out: o,
+            last: a.name.0,
+            full: false,
+        },
         Tried::Full => Swept {
             out: c.out,
             last: c.last,
@@ -149,14 +147,10 @@ fn sweep_one(
     }
 }
 
-// Whether it is an attribute's turn: it is of the code, and in the first pass above the last id, in the second not.
-fn is_mine(code: ManufacturerCode, last: u32, upper: bool, a: Attribute) -> bool
-    ensures { result ≡ mine_of upper code.0 last a }
+// Whether it is an attribute's turn: in the first pass above the last id, in the second not.
+fn is_mine(last: u32, upper: bool, a: Attribute) -> bool
+    ensures { result ≡ mine_of upper last (id_of a) }
 {
-    let own = code_of(a);
-    if own.0 != code.0 {
-        return false;
-    }
     let over = is_above(last, a);
     if upper {
         return over;
@@ -167,8 +161,6 @@ fn is_mine(code: ManufacturerCode, last: u32, upper: bool, a: Attribute) -> bool
 // One pass over the attributes of a store.
 fn sweep(
     store: &[u8],
-    form: Form,
-    code: ManufacturerCode,
     last: u32,
     upper: bool,
     table: &mut [u8],
@@ -177,14 +169,14 @@ fn sweep(
     from: Swept,
 ) -> Swept
     requires { is_table capacity table.old ≡ true }
-    ensures { Sweeps (entry_size form) store.now code.0 last upper time table.old frame.old from result table.new frame.new }
+    ensures { Sweeps store.now last upper time table.old frame.old from result table.new frame.new }
 {
     let n = count_of(store);
     let mut i: u16 = 0;
     let mut c = from;
     while i < n {
-        let a = attribute_at(store, form, i);
-        let mine = is_mine(code, last, upper, a);
+        let a = attribute_at(store, i);
+        let mine = is_mine(last, upper, a);
         c = sweep_one(store, a, mine, table, time, frame, c);
         i += 1;
     }
@@ -211,20 +203,18 @@ pub struct Turned {
     pub last: u32,
 }
 
-// A REPORT TURN for one store and code, 0 for none: all that is due and fits, in one frame, and marked. `last` is the last id of the code reported.
+// A REPORT TURN for one store: all that is due and fits, in one frame, and marked. `last` is the last id reported.
 pub fn report_turn(
     store: &[u8],
-    form: Form,
     table: &mut [u8],
-    code: ManufacturerCode,
     sequence: u8,
     time: u32,
     last: u32,
     frame: &mut [u8],
 ) -> Turned
-    ensures { seen result.answer frame.new (after_turn table.new result.last) ≡ turn_of (turn_for (entry_size form) store.now code.0 sequence last time (length frame.old)) table.old }
+    ensures { seen result.answer frame.new (after_turn table.new result.last) ≡ turn_of 8 (turn_for store.now sequence last time (length frame.old)) table.old }
 {
-    if !is_store(store, form) {
+    if !is_store(store) {
         let answer = refuse(frame, Refusal::NotAStore);
         return Turned {
             answer: answer,
@@ -239,7 +229,7 @@ pub fn report_turn(
         };
     }
     clear(frame);
-    let request = unasked(code, sequence);
+    let request = unasked(sequence);
     let put = write_response_header(frame, request, CommandIdentifier::ReportAttributes);
     let Put::At(from) = put else {
         return Turned {
@@ -252,8 +242,8 @@ pub fn report_turn(
         last: last,
         full: false,
     };
-    let first = sweep(store, form, code, last, true, table, time, frame, start);
-    let both = sweep(store, form, code, last, false, table, time, frame, first);
+    let first = sweep(store, last, true, table, time, frame, start);
+    let both = sweep(store, last, false, table, time, frame, first);
     let answer = finish(frame, from, both);
     Turned {
         answer: answer,

@@ -18,7 +18,6 @@ use Rattle.types.specs.Number.{bytes_of, unsigned_at, signed_at, residue}
 use Rattle.types.proofs.Numbers.{one_byte, length_bytes}
 use Rattle.types.proofs.Machine.{flipped_is}
 use Rattle.frame.proofs.Buffer.{sets_append}
-use Rattle.reporting.specs.declared.entry.Entry.{Entry}
 use Rattle.reporting.specs.Carried.{widths, laid, numbers_in, is_slot, entry_of}
 
 -- ---- the bits of a signed number
@@ -60,35 +59,33 @@ module _ (bs : List ℕ) (at : ℕ) where
       ∷ unsigned_at bs (at + 2) 2
       ∷ unsigned_at bs (at + 4) 2
       ∷ unsigned_at bs (at + 6) 2
-      ∷ unsigned_at bs (at + 8) 2
-      ∷ unsigned_at bs (at + 10) 8
-      ∷ unsigned_at bs (at + 18) 1
-      ∷ unsigned_at bs (at + 19) 1
-      ∷ unsigned_at bs (at + 20) 4
-      ∷ unsigned_at bs (at + 24) 8
+      ∷ unsigned_at bs (at + 8) 8
+      ∷ unsigned_at bs (at + 16) 1
+      ∷ unsigned_at bs (at + 17) 1
+      ∷ unsigned_at bs (at + 18) 4
+      ∷ unsigned_at bs (at + 22) 8
       ∷ []
   slot_numbers =
       let a : at + 2 + 2 ≡ at + 4 = omega arith in
       let b : at + 4 + 2 ≡ at + 6 = omega arith in
       let c : at + 6 + 2 ≡ at + 8 = omega arith in
-      let d : at + 8 + 2 ≡ at + 10 = omega arith in
-      let e : at + 10 + 8 ≡ at + 18 = omega arith in
-      let f : at + 18 + 1 ≡ at + 19 = omega arith in
-      let g : at + 19 + 1 ≡ at + 20 = omega arith in
-      let h : at + 20 + 4 ≡ at + 24 = omega arith in
-      numbers-at widths bs at ∙ rw (a, b, c, d, e, f, g, h)
+      let d : at + 8 + 8 ≡ at + 16 = omega arith in
+      let e : at + 16 + 1 ≡ at + 17 = omega arith in
+      let f : at + 17 + 1 ≡ at + 18 = omega arith in
+      let g : at + 18 + 4 ≡ at + 22 = omega arith in
+      numbers-at widths bs at ∙ rw (a, b, c, d, e, f, g)
 
   -- a slot's form, by its mark, flag, time and value
-  pub form_at : is_slot (numbers_in widths (drop at bs)) ≡ (leb (get_or bs (at + 18) 0) 1 && (leb (get_or bs (at + 19) 0) 1 && (eqb (get_or bs (at + 19) 0) 1 || (eqb (unsigned_at bs (at + 20) 4) 0 && eqb (unsigned_at bs (at + 24) 8) 0))))
+  pub form_at : is_slot (numbers_in widths (drop at bs)) ≡ (leb (get_or bs (at + 16) 0) 1 && (leb (get_or bs (at + 17) 0) 1 && (eqb (get_or bs (at + 17) 0) 1 || (eqb (unsigned_at bs (at + 18) 4) 0 && eqb (unsigned_at bs (at + 22) 8) 0))))
   unfolding is_slot
-  form_at = ap is_slot slot_numbers ∙ rw (one_byte bs (at + 18), one_byte bs (at + 19))
+  form_at = ap is_slot slot_numbers ∙ rw (one_byte bs (at + 16), one_byte bs (at + 17))
 
   -- by the code's tests of a mark u and a flag f
-  module _ (u : ℕ) (eu : u ≡ get_or bs (at + 18) 0) where
+  module _ (u : ℕ) (eu : u ≡ get_or bs (at + 16) 0) where
     pub form_marks : 1 < u → false ≡ is_slot (numbers_in widths (drop at bs))
     form_marks h = sym (form_at ∙ rw (← eu, lt-leb u 1 h))
 
-    module _ (k : u ≤ 1) (f : ℕ) (ef : f ≡ get_or bs (at + 19) 0) where
+    module _ (k : u ≤ 1) (f : ℕ) (ef : f ≡ get_or bs (at + 17) 0) where
       pub form_past : 1 < f → false ≡ is_slot (numbers_in widths (drop at bs))
       form_past h = sym (form_at ∙ rw (← eu, le-leb u 1 k, ← ef, lt-leb f 1 h))
 
@@ -96,7 +93,7 @@ module _ (bs : List ℕ) (at : ℕ) where
       form_marked h = sym (form_at ∙ rw (← eu, le-leb u 1 k, ← ef, h))
 
       -- under flag 0 time and value are 0
-      module _ (h : f ≤ 1) (j : f ≡ 1 → ⊥) (t v : ℕ) (et : t ≡ unsigned_at bs (at + 20) 4) (ev : v ≡ unsigned_at bs (at + 24) 8) where
+      module _ (h : f ≤ 1) (j : f ≡ 1 → ⊥) (t v : ℕ) (et : t ≡ unsigned_at bs (at + 18) 4) (ev : v ≡ unsigned_at bs (at + 22) 8) where
         form_none : is_slot (numbers_in widths (drop at bs)) ≡ (eqb t 0 && eqb v 0)
         form_none = form_at ∙ rw (← eu, le-leb u 1 k, ← ef, le-leb f 1 h, ne_eqb f 1 j, ← et, ← ev)
 
@@ -108,41 +105,14 @@ module _ (bs : List ℕ) (at : ℕ) where
 
   -- the entry of a slot
   pub entry_at : entry_of (numbers_in widths (drop at bs)) ≡ record {
-    key = record { cluster = record { 0 = unsigned_at bs at 2 }; code = record { 0 = unsigned_at bs (at + 4) 2 }; attribute = record { 0 = unsigned_at bs (at + 2) 2 } };
-    config = record { min_interval = unsigned_at bs (at + 6) 2; max_interval = unsigned_at bs (at + 8) 2; reportable_change = unsigned_at bs (at + 10) 8; unsigned = eqb (get_or bs (at + 18) 0) 1 };
-    marked = eqb (get_or bs (at + 19) 0) 1;
-    last_time = unsigned_at bs (at + 20) 4;
-    last_value = signed_at bs (at + 24) 8;
+    key = record { cluster = record { 0 = unsigned_at bs at 2 }; attribute = record { 0 = unsigned_at bs (at + 2) 2 } };
+    config = record { min_interval = unsigned_at bs (at + 4) 2; max_interval = unsigned_at bs (at + 6) 2; reportable_change = unsigned_at bs (at + 8) 8; unsigned = eqb (get_or bs (at + 16) 0) 1 };
+    marked = eqb (get_or bs (at + 17) 0) 1;
+    last_time = unsigned_at bs (at + 18) 4;
+    last_value = signed_at bs (at + 22) 8;
   }
   unfolding entry_of signed_at
-  entry_at = ap entry_of slot_numbers ∙ rw (one_byte bs (at + 18), one_byte bs (at + 19))
-
-  -- and of the numbers that were read
-  pub entry_read : (c a n m x d t : ℕ) (v : ℤ)
-      → c ≡ unsigned_at bs at 2
-      → a ≡ unsigned_at bs (at + 2) 2
-      → n ≡ unsigned_at bs (at + 4) 2
-      → m ≡ unsigned_at bs (at + 6) 2
-      → x ≡ unsigned_at bs (at + 8) 2
-      → d ≡ unsigned_at bs (at + 10) 8
-      → t ≡ unsigned_at bs (at + 20) 4
-      → v ≡ signed_at bs (at + 24) 8
-      → ◌≡◌ {A = Entry} (record {
-        key = record { cluster = record { 0 = c }; code = record { 0 = n }; attribute = record { 0 = a } };
-        config = record { min_interval = m; max_interval = x; reportable_change = d; unsigned = eqb (get_or bs (at + 18) 0) 1 };
-        marked = eqb (get_or bs (at + 19) 0) 1;
-        last_time = t;
-        last_value = v;
-      }) (entry_of (numbers_in widths (drop at bs)))
-  entry_read c a n m x d t v ec ea en em ex ed et ev =
-      (λ i. record {
-        key = record { cluster = record { 0 = ec i }; code = record { 0 = en i }; attribute = record { 0 = ea i } };
-        config = record { min_interval = em i; max_interval = ex i; reportable_change = ed i; unsigned = eqb (get_or bs (at + 18) 0) 1 };
-        marked = eqb (get_or bs (at + 19) 0) 1;
-        last_time = et i;
-        last_value = ev i;
-      })
-      ∙ sym entry_at
+  entry_at = ap entry_of slot_numbers ∙ rw (one_byte bs (at + 16), one_byte bs (at + 17))
 
 -- numbers written one behind the other
 abbrev pub puts : List ℕ → List ℕ → List ℕ → ℕ → List ℕ
@@ -157,48 +127,44 @@ puts_laid (w ∷ ws) ns l at =
     ∙ ap (λ (k : ℕ). sets (sets l at (bytes_of w (get_or ns 0 0))) (at + k) (laid ws (drop 1 ns))) (sym (length_bytes w (get_or ns 0 0)))
     ∙ sets_append (bytes_of w (get_or ns 0 0)) (laid ws (drop 1 ns)) l at
 
--- what the ten writes of a slot leave
-pub slot_put : (l : List ℕ) (at c a n m x d u f t v : ℕ)
-    → sets (sets (sets (sets (sets (sets (sets (sets (sets (sets l at (bytes_of 2 c)) (at + 2) (bytes_of 2 a)) (at + 4) (bytes_of 2 n)) (at + 6) (bytes_of 2 m)) (at + 8) (bytes_of 2 x)) (at + 10) (bytes_of 8 d)) (at + 18) (bytes_of 1 u)) (at + 19) (bytes_of 1 f)) (at + 20) (bytes_of 4 t)) (at + 24) (bytes_of 8 v)
-    ≡ sets l at (laid widths (c ∷ a ∷ n ∷ m ∷ x ∷ d ∷ u ∷ f ∷ t ∷ v ∷ []))
-slot_put l at c a n m x d u f t v =
-    let o : at + 4 ≡ at + 2 + 2 = omega arith in
-    let p : at + 6 ≡ at + 2 + 2 + 2 = omega arith in
-    let q : at + 8 ≡ at + 2 + 2 + 2 + 2 = omega arith in
-    let r : at + 10 ≡ at + 2 + 2 + 2 + 2 + 2 = omega arith in
-    let s : at + 18 ≡ at + 2 + 2 + 2 + 2 + 2 + 8 = omega arith in
-    let w : at + 19 ≡ at + 2 + 2 + 2 + 2 + 2 + 8 + 1 = omega arith in
-    let y : at + 20 ≡ at + 2 + 2 + 2 + 2 + 2 + 8 + 1 + 1 = omega arith in
-    let z : at + 24 ≡ at + 2 + 2 + 2 + 2 + 2 + 8 + 1 + 1 + 4 = omega arith in
-    rw (o, p, q, r, s, w, y, z) (puts_laid widths (c ∷ a ∷ n ∷ m ∷ x ∷ d ∷ u ∷ f ∷ t ∷ v ∷ []) l at)
+-- what the nine writes of a slot leave
+pub slot_put : (l : List ℕ) (at c a m x d u f t v : ℕ)
+    → sets (sets (sets (sets (sets (sets (sets (sets (sets l at (bytes_of 2 c)) (at + 2) (bytes_of 2 a)) (at + 4) (bytes_of 2 m)) (at + 6) (bytes_of 2 x)) (at + 8) (bytes_of 8 d)) (at + 16) (bytes_of 1 u)) (at + 17) (bytes_of 1 f)) (at + 18) (bytes_of 4 t)) (at + 22) (bytes_of 8 v)
+    ≡ sets l at (laid widths (c ∷ a ∷ m ∷ x ∷ d ∷ u ∷ f ∷ t ∷ v ∷ []))
+slot_put l at c a m x d u f t v =
+    let p : at + 4 ≡ at + 2 + 2 = omega arith in
+    let q : at + 6 ≡ at + 2 + 2 + 2 = omega arith in
+    let r : at + 8 ≡ at + 2 + 2 + 2 + 2 = omega arith in
+    let s : at + 16 ≡ at + 2 + 2 + 2 + 2 + 8 = omega arith in
+    let w : at + 17 ≡ at + 2 + 2 + 2 + 2 + 8 + 1 = omega arith in
+    let y : at + 18 ≡ at + 2 + 2 + 2 + 2 + 8 + 1 + 1 = omega arith in
+    let z : at + 22 ≡ at + 2 + 2 + 2 + 2 + 8 + 1 + 1 + 4 = omega arith in
+    rw (p, q, r, s, w, y, z) (puts_laid widths (c ∷ a ∷ m ∷ x ∷ d ∷ u ∷ f ∷ t ∷ v ∷ []) l at)
 
 -- the same, write by write
-pub slot_puts : (at c a n m x d u f t v : ℕ) (l₀ l₁ l₂ l₃ l₄ l₅ l₆ l₇ l₈ l₉ l : List ℕ)
+pub slot_puts : (at c a m x d u f t v : ℕ) (l₀ l₁ l₂ l₃ l₄ l₅ l₆ l₇ l₈ l₉ : List ℕ)
     → l₁ ≡ sets l₀ at (bytes_of 2 c)
     → l₂ ≡ sets l₁ (at + 2) (bytes_of 2 a)
-    → l₃ ≡ sets l₂ (at + 4) (bytes_of 2 n)
-    → l₄ ≡ sets l₃ (at + 6) (bytes_of 2 m)
-    → l₅ ≡ sets l₄ (at + 8) (bytes_of 2 x)
-    → l₆ ≡ sets l₅ (at + 10) (bytes_of 8 d)
-    → l₇ ≡ sets l₆ (at + 18) (bytes_of 1 u)
-    → l₈ ≡ sets l₇ (at + 19) (bytes_of 1 f)
-    → l₉ ≡ sets l₈ (at + 20) (bytes_of 4 t)
-    → l ≡ sets l₉ (at + 24) (bytes_of 8 v)
-    → l ≡ sets l₀ at (laid widths (c ∷ a ∷ n ∷ m ∷ x ∷ d ∷ u ∷ f ∷ t ∷ v ∷ []))
-slot_puts at c a n m x d u f t v l₀ l₁ l₂ l₃ l₄ l₅ l₆ l₇ l₈ l₉ l e₁ e₂ e₃ e₄ e₅ e₆ e₇ e₈ e₉ e =
-    e
-    ∙ ap (λ (k : List ℕ). sets k (at + 24) (bytes_of 8 v))
-    (e₉
-    ∙ ap (λ (k : List ℕ). sets k (at + 20) (bytes_of 4 t))
+    → l₃ ≡ sets l₂ (at + 4) (bytes_of 2 m)
+    → l₄ ≡ sets l₃ (at + 6) (bytes_of 2 x)
+    → l₅ ≡ sets l₄ (at + 8) (bytes_of 8 d)
+    → l₆ ≡ sets l₅ (at + 16) (bytes_of 1 u)
+    → l₇ ≡ sets l₆ (at + 17) (bytes_of 1 f)
+    → l₈ ≡ sets l₇ (at + 18) (bytes_of 4 t)
+    → l₉ ≡ sets l₈ (at + 22) (bytes_of 8 v)
+    → l₉ ≡ sets l₀ at (laid widths (c ∷ a ∷ m ∷ x ∷ d ∷ u ∷ f ∷ t ∷ v ∷ []))
+slot_puts at c a m x d u f t v l₀ l₁ l₂ l₃ l₄ l₅ l₆ l₇ l₈ l₉ e₁ e₂ e₃ e₄ e₅ e₆ e₇ e₈ e₉ =
+    e₉
+    ∙ ap (λ (l : List ℕ). sets l (at + 22) (bytes_of 8 v))
     (e₈
-    ∙ ap (λ (k : List ℕ). sets k (at + 19) (bytes_of 1 f))
+    ∙ ap (λ (l : List ℕ). sets l (at + 18) (bytes_of 4 t))
     (e₇
-    ∙ ap (λ (k : List ℕ). sets k (at + 18) (bytes_of 1 u))
+    ∙ ap (λ (l : List ℕ). sets l (at + 17) (bytes_of 1 f))
     (e₆
-    ∙ ap (λ (k : List ℕ). sets k (at + 10) (bytes_of 8 d))
+    ∙ ap (λ (l : List ℕ). sets l (at + 16) (bytes_of 1 u))
     (e₅
-    ∙ ap (λ (k : List ℕ). sets k (at + 8) (bytes_of 2 x))
+    ∙ ap (λ (l : List ℕ). sets l (at + 8) (bytes_of 8 d))
     (e₄
-    ∙ ap (λ (k : List ℕ). sets k (at + 6) (bytes_of 2 m))
-    (e₃ ∙ ap (λ (k : List ℕ). sets k (at + 4) (bytes_of 2 n)) (e₂ ∙ ap (λ (k : List ℕ). sets k (at + 2) (bytes_of 2 a)) e₁))))))))
-    ∙ slot_put l₀ at c a n m x d u f t v
+    ∙ ap (λ (l : List ℕ). sets l (at + 6) (bytes_of 2 x))
+    (e₃ ∙ ap (λ (l : List ℕ). sets l (at + 4) (bytes_of 2 m)) (e₂ ∙ ap (λ (l : List ℕ). sets l (at + 2) (bytes_of 2 a)) e₁)))))))
+    ∙ slot_put l₀ at c a m x d u f t v

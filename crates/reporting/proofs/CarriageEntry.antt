@@ -37,7 +37,7 @@ entry_within e h =
     let f = told_below e.marked 1 (2 ^ 8) (omega arith) in
     let t = told_below e.marked e.last_time (2 ^ 32) h.time in
     let v = told_below e.marked (residue (2 ^ 64) e.last_value) (2 ^ 64) (residue_below e.last_value) in
-    (h.cluster, (h.attribute, (h.code, (h.minimum, (h.maximum, (h.change, (u, (f, (t, (v, refl))))))))))
+    (h.cluster, (h.attribute, (h.minimum, (h.maximum, (h.change, (u, (f, (t, (v, refl)))))))))
 
 pub entry_in_form : (e : Entry) → is_slot (numbers_of e) ≡ true
 unfolding numbers_of is_slot
@@ -121,11 +121,11 @@ pub slot_back : (bs : List ℕ) → AllBytes bs → is_slot (numbers_in widths b
 unfolding numbers_of entry_of is_slot numbers_in
 slot_back bs h p =
     let ns : List ℕ = numbers_in widths bs in
-    let u : ℕ = get_or ns 6 0 in
-    let f : ℕ = get_or ns 7 0 in
-    let t : ℕ = get_or ns 8 0 in
-    let v : ℕ = get_or ns 9 0 in
-    let b : v < 2 ^ 64 = (within_numbers widths bs h).1.1.1.1.1.1.1.1.1.0 in
+    let u : ℕ = get_or ns 5 0 in
+    let f : ℕ = get_or ns 6 0 in
+    let t : ℕ = get_or ns 7 0 in
+    let v : ℕ = get_or ns 8 0 in
+    let b : v < 2 ^ 64 = (within_numbers widths bs h).1.1.1.1.1.1.1.1.0 in
     let q = both (leb u 1) (leb f 1 && (eqb f 1 || (eqb t 0 && eqb v 0))) p in
     λ i.
     get_or ns 0 0
@@ -133,7 +133,6 @@ slot_back bs h p =
     ∷ get_or ns 2 0
     ∷ get_or ns 3 0
     ∷ get_or ns 4 0
-    ∷ get_or ns 5 0
     ∷ mark_told u q.0 i
     ∷ flag_told f t v (eqb f 1) refl q.1 i
     ∷ time_told f t v (eqb f 1) refl q.1 i
@@ -141,9 +140,9 @@ slot_back bs h p =
     ∷ []
 
 -- what a slot's form says beside its mark
-flag_form : (ns : List ℕ) → is_slot ns ≡ true → FormOf (get_or ns 7 0) (get_or ns 8 0) (get_or ns 9 0) (eqb (get_or ns 7 0) 1)
+flag_form : (ns : List ℕ) → is_slot ns ≡ true → FormOf (get_or ns 6 0) (get_or ns 7 0) (get_or ns 8 0) (eqb (get_or ns 6 0) 1)
 unfolding is_slot
-flag_form ns p = (both (leb (get_or ns 6 0) 1) (leb (get_or ns 7 0) 1 && (eqb (get_or ns 7 0) 1 || (eqb (get_or ns 8 0) 0 && eqb (get_or ns 9 0) 0))) p).1
+flag_form ns p = (both (leb (get_or ns 5 0) 1) (leb (get_or ns 6 0) 1 && (eqb (get_or ns 6 0) 1 || (eqb (get_or ns 7 0) 0 && eqb (get_or ns 8 0) 0))) p).1
 
 -- such an entry has one form
 pub slot_clean : (bs : List ℕ) → AllBytes bs → is_slot (numbers_in widths bs) ≡ true → Clean (entry_of (numbers_in widths bs))
@@ -154,13 +153,12 @@ slot_clean bs h p =
     record {
       cluster = w.0;
       attribute = w.1.0;
-      code = w.1.1.0;
-      minimum = w.1.1.1.0;
-      maximum = w.1.1.1.1.0;
-      change = w.1.1.1.1.1.0;
-      time = w.1.1.1.1.1.1.1.1.0;
-      value = signed_in 8 (get_or ns 9 0) w.1.1.1.1.1.1.1.1.1.0;
-      quiet = still (get_or ns 7 0) (get_or ns 8 0) (get_or ns 9 0) (flag_form ns p);
+      minimum = w.1.1.0;
+      maximum = w.1.1.1.0;
+      change = w.1.1.1.1.0;
+      time = w.1.1.1.1.1.1.1.0;
+      value = signed_in 8 (get_or ns 8 0) w.1.1.1.1.1.1.1.1.0;
+      quiet = still (get_or ns 6 0) (get_or ns 7 0) (get_or ns 8 0) (flag_form ns p);
     }
 
 -- ---- an entry as its bytes tell it
@@ -175,13 +173,13 @@ quieted_numbers e = go e.marked refl
     go false h = sym (rw h)
 
 -- within the widths, in one form
-pub quieted_clean : (e : Entry) → e.key.cluster.0 < 2 ^ 16 → e.key.code.0 < 2 ^ 16 → e.key.attribute.0 < 2 ^ 16 → e.config.min_interval < 2 ^ 16 → e.config.max_interval < 2 ^ 16
+pub quieted_clean : (e : Entry) → e.key.cluster.0 < 2 ^ 16 → e.key.attribute.0 < 2 ^ 16 → e.config.min_interval < 2 ^ 16 → e.config.max_interval < 2 ^ 16
     → e.config.reportable_change < 2 ^ 64 → e.last_time < 2 ^ 32 → mag e.last_value < 2 ^ 63 → Clean (quieted e)
-quieted_clean e c n a m x d t v = go e.marked refl
+quieted_clean e c a m x d t v = go e.marked refl
   where
     go : (b : Bool) → e.marked ≡ b → Clean (cond b e (fresh e.key e.config))
-    go true h = record { cluster = c; code = n; attribute = a; minimum = m; maximum = x; change = d; time = t; value = v; quiet = λ q. absurd (true≢false (sym h ∙ q)) }
-    go false h = record { cluster = c; code = n; attribute = a; minimum = m; maximum = x; change = d; time = omega arith; value = omega arith; quiet = λ q. (refl, refl) }
+    go true h = record { cluster = c; attribute = a; minimum = m; maximum = x; change = d; time = t; value = v; quiet = λ q. absurd (true≢false (sym h ∙ q)) }
+    go false h = record { cluster = c; attribute = a; minimum = m; maximum = x; change = d; time = omega arith; value = omega arith; quiet = λ q. (refl, refl) }
 
 -- and nothing changes where it was so
 quieted_same : (e : Entry) → (e.marked ≡ false → (e.last_time ≡ 0) × (e.last_value ≡ pos 0)) → quieted e ≡ e
@@ -194,4 +192,4 @@ quieted_same e h = go e.marked refl
 -- as in a slot in form
 pub slot_quiet : (ns : List ℕ) → is_slot ns ≡ true → quieted (entry_of ns) ≡ entry_of ns
 unfolding entry_of
-slot_quiet ns p = quieted_same (entry_of ns) (still (get_or ns 7 0) (get_or ns 8 0) (get_or ns 9 0) (flag_form ns p))
+slot_quiet ns p = quieted_same (entry_of ns) (still (get_or ns 6 0) (get_or ns 7 0) (get_or ns 8 0) (flag_form ns p))

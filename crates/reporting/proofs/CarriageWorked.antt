@@ -11,10 +11,10 @@ use Rattle.reporting.specs.declared.entry.Entry.{Entry}
 use Rattle.reporting.specs.Table.{capacity}
 use Rattle.reporting.specs.Carried.{laid, numbers_in, rows_laid, rows_in, numbers_of, entry_of, is_slot, are_slots, slots_in, table_in, table_bytes, is_table, table_size, table_length}
 
--- cluster 0402, attribute 0000 of code 115f, from 10 to 300 seconds, change 50; last reported at 100000 with the value -5
+-- cluster 0402, attribute 0000, from 10 to 300 seconds, change 50; last reported at 100000 with the value -5
 entry : Entry
 entry = record {
-  key = record { cluster = record { 0 = 1026 }; code = record { 0 = 4447 }; attribute = record { 0 = 0 } };
+  key = record { cluster = record { 0 = 1026 }; attribute = record { 0 = 0 } };
   config = record { min_interval = 10; max_interval = 300; reportable_change = 50; unsigned = false };
   marked = true;
   last_time = 100000;
@@ -22,7 +22,7 @@ entry = record {
 }
 
 head : List ℕ
-head = 1 ∷ 2 ∷ 4 ∷ 0 ∷ 0 ∷ 95 ∷ 17 ∷ 10 ∷ 0 ∷ 44 ∷ 1 ∷ 50 ∷ 0 ∷ 0 ∷ 0 ∷ 0 ∷ 0 ∷ 0 ∷ 0 ∷ 0 ∷ 1 ∷ 160 ∷ 134 ∷ 1 ∷ 0 ∷ 251 ∷ 255 ∷ 255 ∷ 255 ∷ 255 ∷ 255 ∷ 255 ∷ 255 ∷ []
+head = 1 ∷ 2 ∷ 4 ∷ 0 ∷ 0 ∷ 10 ∷ 0 ∷ 44 ∷ 1 ∷ 50 ∷ 0 ∷ 0 ∷ 0 ∷ 0 ∷ 0 ∷ 0 ∷ 0 ∷ 0 ∷ 1 ∷ 160 ∷ 134 ∷ 1 ∷ 0 ∷ 251 ∷ 255 ∷ 255 ∷ 255 ∷ 255 ∷ 255 ∷ 255 ∷ 255 ∷ []
 
 bytes : List ℕ
 bytes = padded table_length head
@@ -57,19 +57,19 @@ count_2 : with 0 2 ≡ true
 unfolding with is_table slots_in are_slots is_slot all_zero rows_in numbers_in le bytes head padded
 count_2 = refl
 
-mark_1 : with 19 1 ≡ true
+mark_1 : with 17 1 ≡ true
 unfolding with is_table slots_in are_slots is_slot all_zero rows_in numbers_in le bytes head padded
 mark_1 = refl
 
-mark_2 : with 19 2 ≡ false
+mark_2 : with 17 2 ≡ false
 unfolding with is_table slots_in are_slots is_slot all_zero rows_in numbers_in le bytes head padded
 mark_2 = refl
 
-flag_2 : with 20 2 ≡ false
+flag_2 : with 18 2 ≡ false
 unfolding with is_table slots_in are_slots is_slot all_zero rows_in numbers_in le bytes head padded
 flag_2 = refl
 
-flag_0 : with 20 0 ≡ false
+flag_0 : with 18 0 ≡ false
 unfolding with is_table slots_in are_slots is_slot all_zero rows_in numbers_in le bytes head padded
 flag_0 = refl
 

@@ -16,14 +16,14 @@ use Rattle.reporting.specs.Demand3.{asks_of, Supposed, Promised}
 use Rattle.reporting.proofs.Promise.{demand_3_of_calls}
 
 abbrev k : Key
-k = record { cluster = record { 0 = 0x402 }; code = record { 0 = 0 }; attribute = record { 0 = 0 } }
+k = record { cluster = record { 0 = 0x402 }; attribute = record { 0 = 0 } }
 
--- other keys: the same attribute number of a maker, and of another cluster
+-- other keys: of another attribute, and of another cluster
 abbrev j : Key
-j = record { cluster = record { 0 = 0x402 }; code = record { 0 = 0x115f }; attribute = record { 0 = 0 } }
+j = record { cluster = record { 0 = 0x402 }; attribute = record { 0 = 3 } }
 
 abbrev i : Key
-i = record { cluster = record { 0 = 0x405 }; code = record { 0 = 0 }; attribute = record { 0 = 0 } }
+i = record { cluster = record { 0 = 0x405 }; attribute = record { 0 = 0 } }
 
 abbrev g : ReportingConfig
 g = record { min_interval = 5; max_interval = 30; reportable_change = 25; unsigned = false }

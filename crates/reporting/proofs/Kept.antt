@@ -84,7 +84,6 @@ update_length k f (e ∷ l) = go (matches k e) (update_length k f l)
 mark_clean : (now : ℕ) (v : ℤ) → now < 2 ^ 32 → mag v < 2 ^ 63 → (e : Entry) → Clean e → Clean (mark_e now v e)
 mark_clean now v t m e h = record {
   cluster = h.cluster;
-  code = h.code;
   attribute = h.attribute;
   minimum = h.minimum;
   maximum = h.maximum;

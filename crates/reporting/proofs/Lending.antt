@@ -10,9 +10,8 @@ use lib.Seq.{sets, drop-drop, take_all, take-suc, length-take-le}
 use lib.Dec.{ltb, eqb}
 use lib.IntN.{ℤ}
 use lib.Signed.{mag}
-use borrow.Author.Tests.{eqb-true, eqb-false, eq-eqb, ne_eqb, lt-ltb, le-ltb}
+use borrow.Author.Tests.{eq-eqb, ne_eqb, lt-ltb, le-ltb}
 use Rattle.types.specs.Number.{AllBytes, zeros, unsigned_at}
-use Rattle.types.proofs.Numbers.{unsigned_below}
 use Rattle.frame.specs.declared.answer.Refusal.TheVariants.{NotATable}
 use Rattle.reporting.specs.declared.entry.Key.{Key}
 use Rattle.reporting.specs.declared.entry.ReportingConfig.{ReportingConfig}
@@ -30,7 +29,6 @@ use Rattle.reporting.specs.Claims.RoundTrip.{Clean}
 use Rattle.reporting.specs.Lent.{on_lent, ask_lent, configuration_lent, mark_lent, clear_lent, ChangeLeft, left_as, configure_lent}
 use Rattle.reporting.specs.Inside.{ChangeKept, kept_as, configure_in}
 use Rattle.reporting.proofs.Places.{find_le, lookup_at, lookup_none, update_at, update_none, clear_none, clear_place}
-use Rattle.types.proofs.Halves.{unsigned_join}
 use Rattle.reporting.proofs.CarriageCode.{entry_at}
 use Rattle.reporting.proofs.CarriageTable.{the_conditions, table_count, table_clean, bytes_back, read_written, read_is}
 use Rattle.reporting.proofs.CarriageLoops.{known_count, slots_from, slots_start, slots_more, slots_end}
@@ -43,32 +41,16 @@ use Rattle.reporting.proofs.Patches.{slot_over, slot_added, slot_gone}
 abbrev pub slot_entry : List ℕ → ℕ → Entry
 slot_entry bs i = entry_of (numbers_in widths (drop (1 + slot_bytes * i) bs))
 
--- two pairs of numbers, each pair as one: the low one is below 65536
-pair_same : (a m b n : ℕ) → a < 65536 → b < 65536 → (eqb m n && eqb a b) ≡ eqb (a + 65536 * m) (b + 65536 * n)
-pair_same a m b n ha hb = go (eqb m n) (eqb a b) refl refl
-  where
-    go : (p q : Bool) → eqb m n ≡ p → eqb a b ≡ q → (p && q) ≡ eqb (a + 65536 * m) (b + 65536 * n)
-    go true true e f = sym (eq-eqb (a + 65536 * m) (b + 65536 * n) (omega (arith, eqb-true m n e, eqb-true a b f)))
-    go true false e f = sym (ne_eqb (a + 65536 * m) (b + 65536 * n) (λ h. eqb-false a b f (omega (arith, eqb-true m n e))))
-    go false q e f = sym (ne_eqb (a + 65536 * m) (b + 65536 * n) (λ h. eqb-false m n e (omega arith)))
+-- a slot is the key's by its first two numbers, c and a
+module _ (bs : List ℕ) (at : ℕ) (k : Key) (c a : ℕ) (ec : c ≡ unsigned_at bs at 2) (ea : a ≡ unsigned_at bs (at + 2) 2) where
+  key-at : matches k (entry_of (numbers_in widths (drop at bs))) ≡ (eqb c k.cluster.0 && eqb a k.attribute.0)
+  key-at = ap (matches k) (entry_at bs at) ∙ (λ i. eqb (sym ec i) k.cluster.0 && eqb (sym ea i) k.attribute.0)
 
--- a slot is the key's by its cluster c, and by its attribute and code, read as one number a; w is the key's
-module _ (bs : List ℕ) (h : AllBytes bs) (at : ℕ) (k : Key) (small : k.attribute.0 < 65536) (c a w : ℕ) (ec : c ≡ unsigned_at bs at 2) (ea : a ≡ unsigned_at bs (at + 2) 4) (ew : w ≡ k.attribute.0 + 65536 * k.code.0) where
-  name_at : (eqb (unsigned_at bs (at + 4) 2) k.code.0 && eqb (unsigned_at bs (at + 2) 2) k.attribute.0) ≡ eqb a w
-  name_at =
-      let p : at + 4 ≡ at + 2 + 2 = omega arith in
-      let j : unsigned_at bs (at + 2) 2 + 65536 * unsigned_at bs (at + 4) 2 ≡ a = ap (λ (q : ℕ). unsigned_at bs (at + 2) 2 + 65536 * unsigned_at bs q 2) p ∙ unsigned_join bs (at + 2) 2 2 ∙ sym ea in
-      pair_same (unsigned_at bs (at + 2) 2) (unsigned_at bs (at + 4) 2) k.attribute.0 k.code.0 (unsigned_below bs (at + 2) 2 h) small
-      ∙ (λ i. eqb (j i) (sym ew i))
+  pub key_first : a ≡ k.attribute.0 → eqb c k.cluster.0 ≡ matches k (entry_of (numbers_in widths (drop at bs)))
+  key_first h = sym (key-at ∙ ap (λ (b : Bool). eqb c k.cluster.0 && b) (eq-eqb a k.attribute.0 h) ∙ and-true (eqb c k.cluster.0))
 
-  key-at : matches k (entry_of (numbers_in widths (drop at bs))) ≡ (eqb c k.cluster.0 && eqb a w)
-  key-at = ap (matches k) (entry_at bs at) ∙ (λ i. eqb (sym ec i) k.cluster.0 && name_at i)
-
-  pub key_first : a ≡ w → eqb c k.cluster.0 ≡ matches k (entry_of (numbers_in widths (drop at bs)))
-  key_first e = sym (key-at ∙ ap (λ (b : Bool). eqb c k.cluster.0 && b) (eq-eqb a w e) ∙ and-true (eqb c k.cluster.0))
-
-  pub key_not : (a ≡ w → ⊥) → eqb a w ≡ matches k (entry_of (numbers_in widths (drop at bs)))
-  key_not e = ne_eqb a w e ∙ sym (key-at ∙ ap (λ (b : Bool). eqb c k.cluster.0 && b) (ne_eqb a w e) ∙ and-false (eqb c k.cluster.0))
+  pub key_not : (a ≡ k.attribute.0 → ⊥) → eqb a k.attribute.0 ≡ matches k (entry_of (numbers_in widths (drop at bs)))
+  key_not h = ne_eqb a k.attribute.0 h ∙ sym (key-at ∙ ap (λ (b : Bool). eqb c k.cluster.0 && b) (ne_eqb a k.attribute.0 h) ∙ and-false (eqb c k.cluster.0))
 
 nth_row : (n : ℕ) (bs : List ℕ) (i : ℕ) (d : Entry) → i < n → get_or (map entry_of (rows_in widths n bs)) i d ≡ entry_of (numbers_in widths (drop (slot_bytes * i) bs))
 unfolding rows_in
@@ -264,11 +246,10 @@ module _ {bs : List ℕ} {k : Key} {at : ℕ} (found : FoundSlot bs k at) where
 -- ---- the table that is left
 
 -- a fresh entry has one form where the key and the configuration are within their types
-pub fresh_clean : (k : Key) (g : ReportingConfig) → k.cluster.0 < 2 ^ 16 → k.code.0 < 2 ^ 16 → k.attribute.0 < 2 ^ 16 → g.min_interval < 2 ^ 16 → g.max_interval < 2 ^ 16 → g.reportable_change < 2 ^ 64
+pub fresh_clean : (k : Key) (g : ReportingConfig) → k.cluster.0 < 2 ^ 16 → k.attribute.0 < 2 ^ 16 → g.min_interval < 2 ^ 16 → g.max_interval < 2 ^ 16 → g.reportable_change < 2 ^ 64
     → Clean (fresh k g)
-fresh_clean k g c n a m x d = record {
+fresh_clean k g c a m x d = record {
   cluster = c;
-  code = n;
   attribute = a;
   minimum = m;
   maximum = x;

@@ -6,14 +6,13 @@ use mathlib.Core.List.{List, [], ◌∷◌, ◌++◌, map, map-append, append_as
 use native.Mathlib.Omega.{arith}
 use lib.ListN.{length, get_or, length-append, length-map}
 use lib.Dec.{leb, eqb, ltb}
-use borrow.Author.Tests.{leb-true, eqb-true, le-ltb, lt-ltb}
+use borrow.Author.Tests.{leb-true, eqb-true, eq-eqb, le-ltb, lt-ltb}
 use Rattle.reporting.specs.declared.entry.Key.{Key}
 use Rattle.reporting.specs.declared.entry.Entry.{Entry}
 use Rattle.reporting.specs.Entries.{same, matches, find_l, Distinct, distinct, unreported, accepts_l, configure_l, last_first, clear_l}
 use Rattle.reporting.specs.Claims.Events.{cleared, run, Honest, Leads, read_in, clearings, settings}
 use Rattle.reporting.proofs.Places.{lookup_none, get_d_any}
 use Rattle.reporting.proofs.Carriage.{both}
-use Rattle.reporting.proofs.Others.{same_is, same_own}
 use Rattle.reporting.proofs.Runs.{run_append, honest_append}
 
 -- ---- what is said of entries by their keys
@@ -40,6 +39,16 @@ distinct_so (e ∷ l) d =
 abbrev keys : List Entry → List Key
 keys l = map (λ (e : Entry). e.key) l
 
+pub same_own : (k : Key) → same k k ≡ true
+same_own k = rw (eq-eqb k.cluster.0 k.cluster.0 refl, eq-eqb k.attribute.0 k.attribute.0 refl) refl
+
+same_is : (j k : Key) → same j k ≡ true → j ≡ k
+same_is j k h =
+    let b = both (eqb j.cluster.0 k.cluster.0) (eqb j.attribute.0 k.attribute.0) h in
+    let c = eqb-true _ _ b.0 in
+    let a = eqb-true _ _ b.1 in
+    λ i. record { cluster = record { 0 = c i }; attribute = record { 0 = a i } }
+
 -- a list of keys that ends in k: its first, and the others
 head_key : (a b : Key) (l m : List Key) → a ∷ l ≡ b ∷ m → (a ≡ b) × (l ≡ m)
 head_key a b l m e = (cc, cc)
@@ -65,7 +74,7 @@ hole_keys k (j ∷ ks) (y ∷ (z ∷ zs)) e =
 -- clearing the last key leaves the keys before it, whichever entry it finds
 clear_keys : (k : Key) (ks : List Key) (l : List Entry) → keys l ≡ ks ++ (k ∷ []) → keys (clear_l k l) ≡ ks
 clear_keys k ks [] e = never_snoc k ks e
-clear_keys k [] (x ∷ []) e = rw (ap (λ (j : Key). same j k) (head_key _ _ _ _ e).0 ∙ same_own k k refl) refl
+clear_keys k [] (x ∷ []) e = rw (ap (λ (j : Key). same j k) (head_key _ _ _ _ e).0 ∙ same_own k) refl
 clear_keys k [] (x ∷ (y ∷ ys)) e = never_cons y.key (keys ys) (head_key _ _ _ _ e).1
 clear_keys k (j ∷ ks) (x ∷ xs) e = go (matches k x) refl (clear_keys k ks xs (head_key _ _ _ _ e).1)
   where
@@ -117,7 +126,7 @@ same_other j k h = go (same k j) refl
   where
     go : (b : Bool) → same k j ≡ b → b ≡ false
     go false m = refl
-    go true m = false_true (sym h ∙ ap (λ (i : Key). same j i) (same_is k j m) ∙ same_own j j refl)
+    go true m = false_true (sym h ∙ ap (λ (i : Key). same j i) (same_is k j m) ∙ same_own j)
 
 -- the key of an entry stands nowhere before it
 pub absent : (p : List Entry) (e : Entry) (es : List Entry) → distinct (p ++ (e ∷ es)) ≡ true → find_l e.key p ≡ length p

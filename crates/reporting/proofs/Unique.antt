@@ -26,7 +26,7 @@ use Rattle.reporting.specs.Entries.{configure_l, clear_l, mark_l}
 use Rattle.reporting.specs.Carried.{table_in, table_bytes, is_table, table_read, Reading, read_t, Written, written, write_t}
 use Rattle.reporting.specs.Lent.{ask_lent, configuration_lent, mark_lent, clear_lent, ChangeLeft}
 use Rattle.reporting.specs.Inside.{ChangeKept, configure_in}
-use Rattle.reporting.specs.Claims.Unique.{ToldIfOnce, IsTableOnce, ReadTableOnce, WriteTableOnce, ReadSlotOnce, WriteSlotOnce, DistanceOnce, DistanceByOnce, IsOnce, WishOnce, MovedByOnce, RipeOnce, FreshOnce, IsOfOnce, EntryMarkOnce, ConfigurationInOnce, ConfigureInOnce, DueInOnce, MarkInOnce, ClearInOnce, DueOnce, FindSlotOnce, AskLentOnce, ConfigurationLentOnce, MarkLentOnce, ClearLentOnce, ConfigureLentOnce, NewOnce, ConfigureOnce, ClearOnce, ReportingTableMarkOnce, ConfigurationOnce, AskOnce, LenOnce}
+use Rattle.reporting.specs.Claims.Unique.{IsTableOnce, ReadTableOnce, WriteTableOnce, ReadSlotOnce, WriteSlotOnce, DistanceOnce, DistanceByOnce, IsOnce, WishOnce, MovedByOnce, RipeOnce, FreshOnce, IsOfOnce, EntryMarkOnce, ConfigurationInOnce, ConfigureInOnce, DueInOnce, MarkInOnce, ClearInOnce, DueOnce, FindSlotOnce, AskLentOnce, ConfigurationLentOnce, MarkLentOnce, ClearLentOnce, ConfigureLentOnce, U16InOnce, U64InOnce, PutU16InOnce, PutU64InOnce, NewOnce, ConfigureOnce, ClearOnce, ReportingTableMarkOnce, ConfigurationOnce, AskOnce, LenOnce}
 use Rattle.reporting.proofs.CarriageTable.{bytes_back}
 use Rattle.reporting.proofs.Lending.{seen_bytes}
 
@@ -135,9 +135,6 @@ one_written o r q x y e f = let p = e ∙ sym f in (ap (λ (z : Written). z.done
 
 -- src/carried.rt
 
-pub told_if_once : ToldIfOnce
-told_if_once told n r q e f = e ∙ sym f
-
 pub is_table_once : IsTableOnce
 is_table_once bytes r q e f = e ∙ sym f
 
@@ -239,6 +236,18 @@ pub clear_in_once : ClearInOnce
 clear_in_once bytes key x y a b e f = one_seen (clear_l key (table_in bytes)) x y a b e f
 
 -- src/table.rt
+
+pub u16_in_once : U16InOnce
+u16_in_once bytes at r q e f = e ∙ sym f
+
+pub u64_in_once : U64InOnce
+u64_in_once bytes at r q e f = e ∙ sym f
+
+pub put_u16_in_once : PutU16InOnce
+put_u16_in_once bytes at n x y e f = e ∙ sym f
+
+pub put_u64_in_once : PutU64InOnce
+put_u64_in_once bytes at n x y e f = e ∙ sym f
 
 pub new_once : NewOnce
 new_once r q e f = alike r q (e ∙ sym f)

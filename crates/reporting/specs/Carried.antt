@@ -38,9 +38,9 @@ rows_in ws (suc n) bs = numbers_in ws bs ∷ rows_in ws n (drop (total ws) bs)
 
 -- ---- an entry as numbers
 
--- a slot: cluster, attribute, code, minimum, maximum, change, mark, reported flag, time, value
+-- a slot: cluster, attribute, minimum, maximum, change, mark, reported flag, time, value
 abbrev pub widths : List ℕ
-widths = 2 ∷ 2 ∷ 2 ∷ 2 ∷ 2 ∷ 8 ∷ 1 ∷ 1 ∷ 4 ∷ 8 ∷ []
+widths = 2 ∷ 2 ∷ 2 ∷ 2 ∷ 8 ∷ 1 ∷ 1 ∷ 4 ∷ 8 ∷ []
 
 -- what is told where there is something to tell, and else 0
 abbrev pub if_marked : Bool → ℕ → ℕ
@@ -50,7 +50,6 @@ unfoldable pub numbers_of : Entry → List ℕ
 numbers_of e =
     e.key.cluster.0
     ∷ e.key.attribute.0
-    ∷ e.key.code.0
     ∷ e.config.min_interval
     ∷ e.config.max_interval
     ∷ e.config.reportable_change
@@ -62,16 +61,16 @@ numbers_of e =
 
 unfoldable pub entry_of : List ℕ → Entry
 entry_of ns = record {
-  key = record { cluster = record { 0 = get_or ns 0 0 }; code = record { 0 = get_or ns 2 0 }; attribute = record { 0 = get_or ns 1 0 } };
-  config = record { min_interval = get_or ns 3 0; max_interval = get_or ns 4 0; reportable_change = get_or ns 5 0; unsigned = eqb (get_or ns 6 0) 1 };
-  marked = eqb (get_or ns 7 0) 1;
-  last_time = get_or ns 8 0;
-  last_value = signed_of 8 (get_or ns 9 0);
+  key = record { cluster = record { 0 = get_or ns 0 0 }; attribute = record { 0 = get_or ns 1 0 } };
+  config = record { min_interval = get_or ns 2 0; max_interval = get_or ns 3 0; reportable_change = get_or ns 4 0; unsigned = eqb (get_or ns 5 0) 1 };
+  marked = eqb (get_or ns 6 0) 1;
+  last_time = get_or ns 7 0;
+  last_value = signed_of 8 (get_or ns 8 0);
 }
 
 -- a slot's numbers are in their one form: mark and flag are 0 or 1, and under flag 0 there is no time and no value
 unfoldable pub is_slot : List ℕ → Bool
-is_slot ns = leb (get_or ns 6 0) 1 && (leb (get_or ns 7 0) 1 && (eqb (get_or ns 7 0) 1 || (eqb (get_or ns 8 0) 0 && eqb (get_or ns 9 0) 0)))
+is_slot ns = leb (get_or ns 5 0) 1 && (leb (get_or ns 6 0) 1 && (eqb (get_or ns 6 0) 1 || (eqb (get_or ns 7 0) 0 && eqb (get_or ns 8 0) 0)))
 
 -- ---- the table
 

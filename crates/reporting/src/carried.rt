@@ -8,15 +8,14 @@ ghost use Rattle.reporting.specs.Claims.RoundTrip.{Clean};
 
 use super::distance::bits_u64;
 use super::entry::{Entry, Key, ReportingConfig};
+use super::numbers::{put_u16_in, put_u32_in, put_u64_in, u16_in, u32_in, u64_in};
 use super::table::{LIMIT, ReportingTable};
-use frame::header::ManufacturerCode;
 use frame::reply::clear;
 use types::ids::{AttributeId, ClusterId};
 use types::number::{all_zero, bits_i64};
-use types::within::{put_u16_in, put_u32_in, put_u64_in, u16_in, u32_in, u64_in};
 
 // The bytes of one entry.
-pub const SLOT: usize = 32;
+pub const SLOT: usize = 30;
 
 // The count's byte, and the slots.
 pub const TABLE_BYTES: usize = 1 + LIMIT * SLOT;
@@ -28,8 +27,8 @@ pub struct ReadTable {
     pub known: bool,
 }
 
-// What is written of an entry's last report, or of its mark: 0 where there is none. Public for crate `saved` alone.
-pub fn told_if(told: bool, n: u64) -> u64
+// What is written of an entry's last report, or of its mark: 0 where there is none.
+fn told_if(told: bool, n: u64) -> u64
     ensures { result ≡ if_marked told n }
 {
     if told {
@@ -53,18 +52,18 @@ fn slot_in_form(bytes: &[u8], at: usize) -> bool
     requires { at + slot_bytes ≤ length bytes.now }
     ensures { result ≡ is_slot (numbers_in widths (drop at bytes.now)) }
 {
-    if 1 < bytes[at + 18] {
+    if 1 < bytes[at + 16] {
         return false;
     }
-    let flag = bytes[at + 19];
+    let flag = bytes[at + 17];
     if 1 < flag {
         return false;
     }
     if flag == 1 {
         return true;
     }
-    let time = u32_in(bytes, at + 20);
-    let value = u64_in(bytes, at + 24);
+    let time = u32_in(bytes, at + 18);
+    let value = u64_in(bytes, at + 22);
     time == 0 && value == 0
 }
 
@@ -107,18 +106,16 @@ pub fn read_slot(bytes: &[u8], at: usize) -> Entry
 {
     let cluster = u16_in(bytes, at);
     let attribute = u16_in(bytes, at + 2);
-    let code = u16_in(bytes, at + 4);
-    let min_interval = u16_in(bytes, at + 6);
-    let max_interval = u16_in(bytes, at + 8);
-    let reportable_change = u64_in(bytes, at + 10);
-    let mark = bytes[at + 18];
-    let flag = bytes[at + 19];
-    let last_time = u32_in(bytes, at + 20);
-    let last_value = bits_i64(u64_in(bytes, at + 24));
+    let min_interval = u16_in(bytes, at + 4);
+    let max_interval = u16_in(bytes, at + 6);
+    let reportable_change = u64_in(bytes, at + 8);
+    let mark = bytes[at + 16];
+    let flag = bytes[at + 17];
+    let last_time = u32_in(bytes, at + 18);
+    let last_value = bits_i64(u64_in(bytes, at + 22));
     Entry {
         key: Key {
             cluster: ClusterId(cluster),
-            code: ManufacturerCode(code),
             attribute: AttributeId(attribute),
         },
         config: ReportingConfig {
@@ -143,19 +140,17 @@ pub fn write_slot(bytes: &mut [u8], at: usize, e: Entry)
     let key = e.key;
     let cluster = key.cluster;
     let attribute = key.attribute;
-    let code = key.code;
     let config = e.config;
     let last_value = e.last_value;
     put_u16_in(bytes, at, cluster.0);
     put_u16_in(bytes, at + 2, attribute.0);
-    put_u16_in(bytes, at + 4, code.0);
-    put_u16_in(bytes, at + 6, config.min_interval);
-    put_u16_in(bytes, at + 8, config.max_interval);
-    put_u64_in(bytes, at + 10, config.reportable_change);
-    bytes[at + 18] = told_if(config.unsigned, 1) as u8;
-    bytes[at + 19] = told_if(e.marked, 1) as u8;
-    put_u32_in(bytes, at + 20, told_if(e.marked, e.last_time as u64) as u32);
-    put_u64_in(bytes, at + 24, told_if(e.marked, bits_u64(last_value)));
+    put_u16_in(bytes, at + 4, config.min_interval);
+    put_u16_in(bytes, at + 6, config.max_interval);
+    put_u64_in(bytes, at + 8, config.reportable_change);
+    bytes[at + 16] = told_if(config.unsigned, 1) as u8;
+    bytes[at + 17] = told_if(e.marked, 1) as u8;
+    put_u32_in(bytes, at + 18, told_if(e.marked, e.last_time as u64) as u32);
+    put_u64_in(bytes, at + 22, told_if(e.marked, bits_u64(last_value)));
 }
 
 // What is handed back for bytes that are no table.

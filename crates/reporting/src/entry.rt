@@ -5,7 +5,6 @@ ghost use Rattle.reporting.specs.Due.{moved_by, ripe, due_e};
 ghost use Rattle.reporting.specs.Wish.{wish};
 
 use super::distance::distance_by;
-use frame::header::ManufacturerCode;
 use types::ids::{AttributeId, ClusterId};
 
 // As a maximum interval it ends the reporting of an attribute (2.5.7.1.6).
@@ -14,11 +13,10 @@ pub const MAX_INTERVAL_DISABLED: u16 = 0xffff;
 // As a minimum interval, with a maximum of 0, it asks for the default configuration (2.5.7.1.6). This device has none, and keeps no entry.
 pub const MIN_INTERVAL_DEFAULT: u16 = 0xffff;
 
-// What an entry is found by: an attribute of a cluster, named by code and id together, code 0 for none. The three cannot be exchanged.
+// What an entry is found by. A cluster and an attribute cannot be exchanged.
 #[derive(Drop)]
 pub struct Key {
     pub cluster: ClusterId,
-    pub code: ManufacturerCode,
     pub attribute: AttributeId,
 }
 
@@ -54,10 +52,7 @@ impl Key {
     pub fn is(self, other: Key) -> bool
         ensures { result ≡ same self other }
     {
-        if self.cluster.0 != other.cluster.0 {
-            return false;
-        }
-        self.code.0 == other.code.0 && self.attribute.0 == other.attribute.0
+        self.cluster.0 == other.cluster.0 && self.attribute.0 == other.attribute.0
     }
 }
 

@@ -14,21 +14,19 @@ ghost use Rattle.reporting.specs.Inside.{kept_as, configure_in};
 
 use super::carried::{SLOT, is_table, read_slot, write_slot};
 use super::entry::{Entry, Key, ReportingConfig};
+use super::numbers::u16_in;
 use super::table::{Change, LIMIT, Report, Setting};
 use frame::answer::Refusal;
 use frame::reply::clear;
-use types::within::{u16_in, u32_in};
 
-// Whether the slot at `at` is the key's. Attribute and code stand side by side, and are compared as one number. They come first: the slots of
-// one store have one cluster.
+// Whether the slot at `at` is the key's. The attribute first: the slots of one store have one cluster.
 fn slot_is_of(bytes: &[u8], at: usize, key: Key) -> bool
     requires { at + slot_bytes ≤ length bytes.now }
     ensures { result ≡ matches key (entry_of (numbers_in widths (drop at bytes.now))) }
 {
     let cluster = u16_in(bytes, at);
-    let name = u32_in(bytes, at + 2);
-    let wanted = key.attribute.0 as u32 + 65536 * key.code.0 as u32;
-    name == wanted && cluster == key.cluster.0
+    let attribute = u16_in(bytes, at + 2);
+    attribute == key.attribute.0 && cluster == key.cluster.0
 }
 
 // The place of the key's first slot, or the count where there is none. Public for crate `saved` alone, no entry point: the bytes must be

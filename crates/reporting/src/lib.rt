@@ -4,4 +4,5 @@ pub mod carried;
 pub mod distance;
 pub mod entry;
 pub mod lent;
+pub mod numbers;
 pub mod table;

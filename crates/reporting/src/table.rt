@@ -5,7 +5,6 @@ ghost use Rattle.reporting.specs.Table.{capacity, live, table_of, holding, hande
 
 use super::entry::{Entry, Key, ReportingConfig};
 use frame::answer::Refusal;
-use frame::header::ManufacturerCode;
 use types::ids::{AttributeId, ClusterId};
 
 // How many entries a table has room for.
@@ -64,7 +63,6 @@ impl ReportingTable {
         let blank = Entry::fresh(
             Key {
                 cluster: ClusterId(0),
-                code: ManufacturerCode(0),
                 attribute: AttributeId(0),
             },
             ReportingConfig {

@@ -6,7 +6,7 @@ use mathlib.Core.Option.{some, some-injective, some-ne-none}
 use mathlib.Core.List.{List, [], ◌∷◌, map}
 use native.Mathlib.Omega.{arith}
 use lib.ListN.{length}
-use lib.Dec.{leb}
+use lib.Dec.{leb, eqb}
 use borrow.Author.Tests.{le-leb}
 use Rattle.reporting.specs.declared.entry.Key.{Key}
 use Rattle.reporting.specs.declared.entry.Entry.{Entry}
@@ -14,27 +14,28 @@ use Rattle.reporting.specs.declared.entry.Wish.{Wish}
 use Rattle.reporting.specs.declared.entry.Wish.TheVariants.{ToClear, ToRefuse, ToSet}
 use Rattle.reporting.specs.Entries.{matches, lookup_l, distinct, unreported}
 use Rattle.reporting.specs.Wish.{wish}
+use Rattle.reporting.specs.Carried.{count_in}
 use Rattle.reporting.specs.Claims.Events.{read_in, history}
 use Rattle.reporting.proofs.Carriage.{both}
 use Rattle.reporting.proofs.Histories.{history_is}
 use Rattle.reporting.proofs.Promise.{demand_3_standing}
 use Rattle.reporting.proofs.Restored.{distinct_so}
-use Rattle.saved.specs.Saved.{Form, is_set, all_set, is_savable, entry_from, entries_from, saved_in, is_laid, is_saved, form_in}
+use Rattle.saved.specs.Saved.{marked, saved_size, is_set, all_set, is_savable, entry_from, entries_from, saved_in, is_laid, is_saved, form_in}
 use Rattle.saved.specs.Claims.Demand3.{ReadIsCall, Demand3Restored, Demand3OfCallsRestored}
 use Rattle.saved.proofs.Forms.{laid_so, saved_count}
 
 -- ---- the entries of a saved form
 
 -- they are not yet reported
-entries_fresh : (f : Form) (rs bs : List (List ℕ)) → map unreported (entries_from f rs bs) ≡ entries_from f rs bs
+entries_fresh : (ks bs : List (List ℕ)) → map unreported (entries_from ks bs) ≡ entries_from ks bs
 unfolding entries_from
-entries_fresh f [] bs = refl
-entries_fresh f (r ∷ rs) [] = refl
-entries_fresh f (r ∷ rs) (b ∷ bs) = ap (λ (m : List Entry). entry_from f r b ∷ m) (entries_fresh f rs bs)
+entries_fresh [] bs = refl
+entries_fresh (k ∷ ks) [] = refl
+entries_fresh (k ∷ ks) (b ∷ bs) = ap (λ (m : List Entry). entry_from k b ∷ m) (entries_fresh ks bs)
 
 saved_fresh : (bs : List ℕ) → map unreported (saved_in (form_in bs) bs) ≡ saved_in (form_in bs) bs
 unfolding saved_in
-saved_fresh bs = entries_fresh (form_in bs) _ _
+saved_fresh bs = entries_fresh _ _
 
 module _ (limit : ℕ) (bs : List ℕ) (is : is_saved (form_in bs) limit bs ≡ true) where
   -- distinct keys, and each configuration one that a record sets
@@ -46,8 +47,9 @@ module _ (limit : ℕ) (bs : List ℕ) (is : is_saved (form_in bs) limit bs ≡ 
   pub saved_small : length (saved_in (form_in bs) bs) ≤ limit
   unfolding is_saved
   saved_small =
+      let m : Bool = eqb (length bs) (saved_size marked (count_in bs)) in
       let laid = (both (is_laid (form_in bs) limit bs) (is_savable (saved_in (form_in bs) bs)) is).0 in
-      omega (arith, saved_count (form_in bs) bs, (laid_so (form_in bs) limit bs laid).count)
+      omega (arith, saved_count m bs, (laid_so m bs limit laid).count)
 
 -- ---- a read is a call
 

@@ -14,8 +14,7 @@ use Rattle.reporting.specs.declared.entry.Entry.{Entry}
 use Rattle.reporting.specs.Entries.{matches, find_l, distinct}
 use Rattle.reporting.specs.Wish.{wish}
 use Rattle.reporting.proofs.Carriage.{both}
-use Rattle.reporting.proofs.Others.{same_own}
-use Rattle.reporting.proofs.Restored.{same_other, absent}
+use Rattle.reporting.proofs.Restored.{same_own, same_other, absent}
 use Rattle.saved.specs.Saved.{is_set, all_set, is_savable}
 
 -- ---- finding a key among the first entries
@@ -32,7 +31,7 @@ find_take k (e ∷ l) (suc i) h f = go (matches k e) f (find_take k l i (omega a
 
 -- an entry's key that is not before it is found at its place
 find_own : (p : List Entry) (e : Entry) (es : List Entry) → find_l e.key p ≡ length p → find_l e.key (p ++ (e ∷ es)) ≡ length p
-find_own [] e es f = ap (λ (b : Bool). cond b 0 (suc (find_l e.key es))) (same_own e.key e.key refl)
+find_own [] e es f = ap (λ (b : Bool). cond b 0 (suc (find_l e.key es))) (same_own e.key)
 find_own (q ∷ p) e es f = go (matches e.key q) f (find_own p e es)
   where
     go : (b : Bool) → cond b 0 (suc (find_l e.key p)) ≡ suc (length p) → (find_l e.key p ≡ length p → find_l e.key (p ++ (e ∷ es)) ≡ length p) → cond b 0 (suc (find_l e.key (p ++ (e ∷ es)))) ≡ suc (length p)

@@ -6,7 +6,7 @@ use mathlib.Core.List.{List, [], ◌∷◌, map}
 use native.Mathlib.Omega.{arith}
 use lib.ListN.{length, set, length-append, length-map}
 use lib.Seq.{sets}
-use lib.Dec.{leb}
+use lib.Dec.{leb, eqb}
 use borrow.Author.Tests.{le-leb, lt-leb, eq-eqb, ne_eqb}
 use Rattle.types.specs.Number.{zeros}
 use Rattle.frame.specs.declared.answer.Answer.TheVariants.{Reply}
@@ -23,7 +23,7 @@ use Rattle.reporting.specs.Claims.RoundTrip.{AllClean}
 use Rattle.reporting.proofs.Carriage.{length_rows}
 use Rattle.reporting.proofs.CarriageTable.{table_is, table_back, table_count}
 use Rattle.reporting.proofs.CarriageLoops.{empty_bytes, count_first}
-use Rattle.saved.specs.Saved.{coded, key_of, body_of, row_of, row_bytes, body_bytes, offset_at, saved_size, contents_from, saved_bytes, is_savable, saved_in, is_laid, is_saved, form_in}
+use Rattle.saved.specs.Saved.{marked, key_of, body_of, row_of, body_bytes, offset_at, saved_size, contents_from, saved_bytes, is_savable, saved_in, is_laid, is_saved, form_in}
 use Rattle.saved.specs.Lent.{save_l, save_lent, restore_lent}
 use Rattle.saved.proofs.Rows.{length_contents}
 use Rattle.saved.proofs.Forms.{laid_so, saved_count}
@@ -32,28 +32,28 @@ use Rattle.saved.proofs.Forms.{laid_so, saved_count}
 
 module _ (l : List Entry) where
   abbrev one : List ℕ
-  one = rows_laid (row_of coded) (contents_from coded (length l) 0 (map (key_of coded) l))
+  one = rows_laid (row_of marked) (contents_from marked (length l) 0 (map key_of l))
 
   abbrev two : List ℕ
-  two = rows_laid coded.bodies (map body_of l)
+  two = rows_laid marked.bodies (map body_of l)
 
-  pub length_one : length one ≡ length l * row_bytes coded
-  length_one = length_rows (row_of coded) (contents_from coded (length l) 0 (map (key_of coded) l)) ∙ ap (λ (k : ℕ). k * row_bytes coded) (length_contents (length l) 0 (map (key_of coded) l) ∙ length-map l (key_of coded))
+  pub length_one : length one ≡ length l * 6
+  length_one = length_rows (row_of marked) (contents_from marked (length l) 0 (map key_of l)) ∙ ap (λ (k : ℕ). k * 6) (length_contents (length l) 0 (map key_of l) ∙ length-map l key_of)
 
-  pub length_two : length two ≡ length l * body_bytes coded
-  length_two = length_rows coded.bodies (map body_of l) ∙ ap (λ (k : ℕ). k * body_bytes coded) (length-map l body_of)
+  pub length_two : length two ≡ length l * body_bytes marked
+  length_two = length_rows marked.bodies (map body_of l) ∙ ap (λ (k : ℕ). k * body_bytes marked) (length-map l body_of)
 
-  pub saved_length : length (saved_bytes coded l) ≡ saved_size coded (length l)
+  pub saved_length : length (saved_bytes marked l) ≡ saved_size marked (length l)
   unfolding saved_bytes
   saved_length = omega (arith, length-append one two, length_one, length_two)
 
   -- the count, then the contents, then the bodies, in a buffer that was cleared
-  pub saved_written : (room : ℕ) (d₀ d₁ d₂ : List ℕ) → saved_size coded (length l) ≤ room → d₀ ≡ zeros room → d₁ ≡ sets (set d₀ 0 (length l)) 1 one → d₂ ≡ sets d₁ (offset_at coded (length l) 0) two → d₂ ≡ padded room (saved_bytes coded l)
+  pub saved_written : (room : ℕ) (d₀ d₁ d₂ : List ℕ) → saved_size marked (length l) ≤ room → d₀ ≡ zeros room → d₁ ≡ sets (set d₀ 0 (length l)) 1 one → d₂ ≡ sets d₁ (offset_at marked (length l) 0) two → d₂ ≡ padded room (saved_bytes marked l)
   unfolding saved_bytes
   saved_written room d₀ d₁ d₂ h z p q =
       let start : set d₀ 0 (length l) ≡ padded room (length l ∷ []) = ap (λ (d : List ℕ). set d 0 (length l)) z ∙ count_first room (length l) (omega arith) in
       let rows : d₁ ≡ padded room (length l ∷ one) = p ∙ ap (λ (d : List ℕ). sets d 1 one) start ∙ sets_padded room (length l ∷ []) one (omega (arith, length_one)) in
-      let at : offset_at coded (length l) 0 ≡ length (length l ∷ one) = omega (arith, length_one) in
+      let at : offset_at marked (length l) 0 ≡ length (length l ∷ one) = omega (arith, length_one) in
       q
       ∙ (λ i. sets (rows i) (at i) two)
       ∙ sets_padded room (length l ∷ one) two (omega (arith, length_one, length_two))
@@ -72,37 +72,37 @@ module _ (bs : List ℕ) (room : ℕ) where
 
     -- by whether it is written, and whether it fits
     by : Bool → Bool → Outcome (Unit {0})
-    by savable fits = cond savable (cond fits (replied room (saved_bytes coded (table_in bs)) no_state) (refused room ReplyTooLong no_state)) (refused room NotASavedForm no_state)
+    by savable fits = cond savable (cond fits (replied room (saved_bytes marked (table_in bs)) no_state) (refused room ReplyTooLong no_state)) (refused room NotASavedForm no_state)
 
-    said : (a b : Bool) → is_savable (table_in bs) ≡ a → leb (length (saved_bytes coded (table_in bs))) room ≡ b → by a b ≡ save_lent bs room
+    said : (a b : Bool) → is_savable (table_in bs) ≡ a → leb (length (saved_bytes marked (table_in bs))) room ≡ b → by a b ≡ save_lent bs room
     unfolding by
     said a b p q = (λ i. by (sym p i) (sym q i)) ∙ known
 
     pub save_not_written : is_savable (table_in bs) ≡ false → refused room NotASavedForm no_state ≡ save_lent bs room
     unfolding by
-    save_not_written p = said false (leb (length (saved_bytes coded (table_in bs))) room) p refl
+    save_not_written p = said false (leb (length (saved_bytes marked (table_in bs))) room) p refl
 
-    size : length (saved_bytes coded (table_in bs)) ≡ saved_size coded (count_in bs)
-    size = saved_length (table_in bs) ∙ ap (saved_size coded) (table_count bs)
+    size : length (saved_bytes marked (table_in bs)) ≡ saved_size marked (count_in bs)
+    size = saved_length (table_in bs) ∙ ap (saved_size marked) (table_count bs)
 
     module _ (p : is_savable (table_in bs) ≡ true) where
-      pub save_too_long : room < saved_size coded (count_in bs) → refused room ReplyTooLong no_state ≡ save_lent bs room
+      pub save_too_long : room < saved_size marked (count_in bs) → refused room ReplyTooLong no_state ≡ save_lent bs room
       unfolding by
-      save_too_long h = said true false p (lt-leb (length (saved_bytes coded (table_in bs))) room (omega (arith, size)))
+      save_too_long h = said true false p (lt-leb (length (saved_bytes marked (table_in bs))) room (omega (arith, size)))
 
-      pub save_done : (d₀ d₁ d₂ : List ℕ) → saved_size coded (count_in bs) ≤ room → d₀ ≡ zeros room
-          → d₁ ≡ sets (set d₀ 0 (count_in bs)) 1 (rows_laid (row_of coded) (contents_from coded (count_in bs) 0 (map (key_of coded) (table_in bs))))
-          → d₂ ≡ sets d₁ (offset_at coded (count_in bs) 0) (rows_laid coded.bodies (map body_of (table_in bs)))
-          → seen (Reply (saved_size coded (count_in bs))) d₂ no_state ≡ save_lent bs room
+      pub save_done : (d₀ d₁ d₂ : List ℕ) → saved_size marked (count_in bs) ≤ room → d₀ ≡ zeros room
+          → d₁ ≡ sets (set d₀ 0 (count_in bs)) 1 (rows_laid (row_of marked) (contents_from marked (count_in bs) 0 (map key_of (table_in bs))))
+          → d₂ ≡ sets d₁ (offset_at marked (count_in bs) 0) (rows_laid marked.bodies (map body_of (table_in bs)))
+          → seen (Reply (saved_size marked (count_in bs))) d₂ no_state ≡ save_lent bs room
       unfolding by
       save_done d₀ d₁ d₂ h z q r =
           let n = sym (table_count bs) in
-          let w : d₂ ≡ padded room (saved_bytes coded (table_in bs)) =
+          let w : d₂ ≡ padded room (saved_bytes marked (table_in bs)) =
           saved_written (table_in bs) room d₀ d₁ d₂ (omega (arith, table_count bs)) z
-          (q ∙ (λ i. sets (set d₀ 0 (n i)) 1 (rows_laid (row_of coded) (contents_from coded (n i) 0 (map (key_of coded) (table_in bs))))))
-          (r ∙ (λ i. sets d₁ (offset_at coded (n i) 0) (rows_laid coded.bodies (map body_of (table_in bs))))) in
+          (q ∙ (λ i. sets (set d₀ 0 (n i)) 1 (rows_laid (row_of marked) (contents_from marked (n i) 0 (map key_of (table_in bs))))))
+          (r ∙ (λ i. sets d₁ (offset_at marked (n i) 0) (rows_laid marked.bodies (map body_of (table_in bs))))) in
           (λ i. record { number = 0; size = sym size i; reply = w i; state = no_state })
-          ∙ said true true p (le-leb (length (saved_bytes coded (table_in bs))) room (omega (arith, size)))
+          ∙ said true true p (le-leb (length (saved_bytes marked (table_in bs))) room (omega (arith, size)))
 
 -- ---- reading
 
@@ -133,7 +133,9 @@ module _ (form bs : List ℕ) where
 
       module _ (clean : AllClean (saved_in (form_in form) form)) where
         few : length (saved_in (form_in form) form) ≤ capacity
-        few = omega (arith, saved_count (form_in form) form, (laid_so (form_in form) capacity form h).count)
+        few =
+            let m : Bool = eqb (length form) (saved_size marked (count_in form)) in
+            omega (arith, saved_count m form, (laid_so m form capacity h).count)
 
         pub filled_table : (t : List ℕ) → t ≡ table_bytes capacity (saved_in (form_in form) form) → is_table capacity t ≡ true
         filled_table t e = ap (is_table capacity) e ∙ table_is capacity (saved_in (form_in form) form) few clean

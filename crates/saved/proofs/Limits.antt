@@ -11,9 +11,9 @@ use Rattle.types.specs.Number.{le, bytes_of}
 use Rattle.reporting.specs.Entries.{distinct}
 use Rattle.reporting.specs.Table.{capacity}
 use Rattle.reporting.specs.Carried.{laid, numbers_in, rows_laid, rows_in, count_in, table_bytes}
-use Rattle.saved.specs.Saved.{Form, form_of, saved_size, contents_from, saved_bytes, all_set, is_savable, rows_of, bodies_of, entries_from, saved_in, follow_on, marks_ok, is_laid, is_saved, form_in}
+use Rattle.saved.specs.Saved.{Form, marked, saved_size, contents_from, saved_bytes, all_set, is_savable, rows_of, bodies_of, entries_from, saved_in, follow_on, marks_ok, is_laid, is_saved, form_in}
 use Rattle.saved.specs.Claims.Limits.{FormUnderLimits, FormAboveLimit, SixteenKeepBytes, OldBox}
-use Rattle.saved.proofs.RoundTrip.{layout_back}
+use Rattle.saved.proofs.RoundTrip.{form_back}
 
 -- bytes are a form under a limit as the test of their count says, and whatever is asked of them besides
 by_count : (f : Form) (limit : ℕ) (bs : List ℕ) (b : Bool) → leb (count_in bs) limit ≡ b
@@ -41,7 +41,7 @@ count_within f limit bs h = go (leb (count_in bs) limit) refl
     go false e = let z : false ≡ true = sym (by_count f limit bs false e) ∙ h in let y : ◌≡◌ {A = ℕ} 0 1 = cc in absurd (omega arith)
 
 pub sixteen_keep_bytes : SixteenKeepBytes
-sixteen_keep_bytes m bs h e = (sym (form_under_limits (form_of m) 16 capacity bs (count_within (form_of m) 16 bs e) (omega arith)) ∙ e, (layout_back m 16 bs h e).0)
+sixteen_keep_bytes bs h e = (sym (form_under_limits marked 16 capacity bs (count_within marked 16 bs e) (omega arith)) ∙ e, form_back 16 bs h e)
 
 pub old_box : OldBox
 unfolding le bytes_of laid numbers_in rows_laid rows_in contents_from saved_bytes distinct all_set entries_from saved_in follow_on marks_ok is_laid is_saved table_bytes

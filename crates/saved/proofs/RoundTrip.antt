@@ -4,53 +4,50 @@ use mathlib.Core.Path.{◌≡◌, refl, sym, ap, ◌∙◌}
 use mathlib.Core.Bool.{Bool, true, false, ◌&&◌}
 use mathlib.Core.List.{List, [], ◌∷◌, ◌++◌, map, append-nil}
 use native.Mathlib.Omega.{arith}
-use native.Mathlib.Nat.{zero-mul}
 use lib.ListN.{length, get_or, take, drop, length-drop, length-map, take-append-drop}
 use lib.Seq.{drop_at, drop-drop, take_all}
-use lib.Dec.{leb, eqb, leb-zero}
+use lib.Dec.{leb, eqb}
 use lib.IntN.{pos}
 use borrow.Author.Tests.{le-leb, eqb-true, eq-eqb}
-use Rattle.types.specs.Number.{AllBytes, bytes_of}
+use Rattle.types.specs.Number.{AllBytes}
 use Rattle.types.proofs.Numbers.{bytes_drop}
 use Rattle.frame.specs.Walk.{All}
 use Rattle.reporting.specs.declared.entry.Entry.{Entry}
-use Rattle.reporting.specs.Entries.{distinct, unreported}
+use Rattle.reporting.specs.Entries.{unreported}
 use Rattle.reporting.specs.Wish.{wish}
 use Rattle.reporting.specs.Carried.{if_marked, laid, numbers_in, rows_laid, rows_in, count_in}
 use Rattle.reporting.specs.Claims.RoundTrip.{AllClean}
 use Rattle.reporting.proofs.Restored.{distinct_same}
 use Rattle.reporting.proofs.Carriage.{AllWithin, rows-laid, laid_rows, both}
 use Rattle.reporting.proofs.CarriageEntry.{told_below, mark_told, flag_back}
-use Rattle.saved.specs.declared.form.Layout.{Layout}
-use Rattle.saved.specs.declared.form.Layout.TheVariants.{Coded, Marked, Plain}
-use Rattle.saved.specs.Saved.{Form, form_of, codes, marks, coded, key_of, body_of, row_of, row_bytes, body_bytes, offset_at, saved_size, contents_from, saved_bytes, is_set, all_set, is_savable, rows_of, bodies_of, entry_from, entries_from, saved_in, follow_on, marks_ok, is_laid, is_saved, form_in}
+use Rattle.saved.specs.Saved.{form_of, marked, plain, key_of, body_of, row_of, body_bytes, offset_at, saved_size, contents_from, saved_bytes, is_set, all_set, is_savable, rows_of, bodies_of, entries_from, saved_in, follow_on, marks_ok, is_laid, is_saved, form_in}
 use Rattle.saved.proofs.Rows.{length_contents}
-use Rattle.saved.proofs.Forms.{told_coded, layout-by, Laid, laid_so, saved_count}
+use Rattle.saved.proofs.Forms.{laid_so, saved_count}
 use Rattle.saved.proofs.Lending.{length_one, saved_length}
-use Rattle.saved.specs.Claims.RoundTrip.{ReadAs, SavedIs, SavedBack, LayoutTold, FormBack, LayoutBack}
+use Rattle.saved.specs.Claims.RoundTrip.{SavedIs, SavedBack, FormBack, OldFormBack}
 
 abbrev rows : List ℕ
-rows = row_of coded
+rows = row_of marked
 
 abbrev bodies : List ℕ
-bodies = coded.bodies
+bodies = marked.bodies
 
 -- ---- the contents
 
 -- keys and offsets fit their widths
-contents_within : (n i : ℕ) (l : List Entry) → AllClean l → i + length l ≤ n → saved_size coded n < 2 ^ 16 → AllWithin rows (contents_from coded n i (map (key_of coded) l))
+contents_within : (n i : ℕ) (l : List Entry) → AllClean l → i + length l ≤ n → saved_size marked n < 2 ^ 16 → AllWithin rows (contents_from marked n i (map key_of l))
 unfolding contents_from
 contents_within n i [] h k b = tt
-contents_within n i (e ∷ l) h k b = ((h.0.cluster, (h.0.attribute, (h.0.code, (omega arith, refl)))), contents_within n (suc i) l h.1 (omega arith) b)
+contents_within n i (e ∷ l) h k b = ((h.0.cluster, (h.0.attribute, (omega arith, refl))), contents_within n (suc i) l h.1 (omega arith) b)
 
 bodies_within : (l : List Entry) → AllClean l → AllWithin bodies (map body_of l)
 bodies_within [] h = tt
 bodies_within (e ∷ l) h = ((h.0.minimum, (h.0.maximum, (h.0.change, (told_below e.config.unsigned 1 (2 ^ 8) (omega arith), refl)))), bodies_within l h.1)
 
-follows : (n i : ℕ) (l : List Entry) → follow_on coded n i (contents_from coded n i (map (key_of coded) l)) ≡ true
+follows : (n i : ℕ) (l : List Entry) → follow_on marked n i (contents_from marked n i (map key_of l)) ≡ true
 unfolding follow_on contents_from
 follows n i [] = refl
-follows n i (e ∷ l) = rw (eq-eqb (offset_at coded n i) (offset_at coded n i) refl) (follows n (suc i) l)
+follows n i (e ∷ l) = rw (eq-eqb (offset_at marked n i) (offset_at marked n i) refl) (follows n (suc i) l)
 
 mark_small : (b : Bool) → leb (if_marked b 1) 1 ≡ true
 mark_small true = refl
@@ -61,7 +58,7 @@ unfolding marks_ok
 marks_small [] = refl
 marks_small (e ∷ l) = λ i. mark_small e.config.unsigned i && marks_small l i
 
-entries_back : (n i : ℕ) (l : List Entry) → entries_from coded (contents_from coded n i (map (key_of coded) l)) (map body_of l) ≡ map unreported l
+entries_back : (n i : ℕ) (l : List Entry) → entries_from (contents_from marked n i (map key_of l)) (map body_of l) ≡ map unreported l
 unfolding entries_from contents_from
 entries_back n i [] = refl
 entries_back n i (e ∷ l) =
@@ -89,32 +86,32 @@ set_same (e ∷ l) = ap (λ (b : Bool). is_set (wish e.config) && b) (set_same l
 
 -- ---- written, then read
 
-module _ (limit : ℕ) (l : List Entry) (small : saved_size coded limit < 2 ^ 16) (few : length l ≤ limit) (clean : AllClean l) where
+module _ (limit : ℕ) (l : List Entry) (small : saved_size marked limit < 2 ^ 16) (few : length l ≤ limit) (clean : AllClean l) where
   abbrev n : ℕ
   n = length l
 
   abbrev one : List (List ℕ)
-  one = contents_from coded n 0 (map (key_of coded) l)
+  one = contents_from marked n 0 (map key_of l)
 
   abbrev two : List (List ℕ)
   two = map body_of l
 
-  fits : saved_size coded n < 2 ^ 16
+  fits : saved_size marked n < 2 ^ 16
   fits = omega arith
 
-  rows_back : rows_of coded (saved_bytes coded l) ≡ one
+  rows_back : rows_of marked (saved_bytes marked l) ≡ one
   unfolding saved_bytes
   rows_back =
-      ap (λ (k : ℕ). rows_in rows k (rows_laid rows one ++ rows_laid bodies two)) (sym (length_contents n 0 (map (key_of coded) l) ∙ length-map l (key_of coded)))
+      ap (λ (k : ℕ). rows_in rows k (rows_laid rows one ++ rows_laid bodies two)) (sym (length_contents n 0 (map key_of l) ∙ length-map l key_of))
       ∙ rows-laid rows one (rows_laid bodies two) (contents_within n 0 l clean (omega arith) fits)
 
-  behind : drop (offset_at coded n 0) (saved_bytes coded l) ≡ rows_laid bodies two
+  behind : drop (offset_at marked n 0) (saved_bytes marked l) ≡ rows_laid bodies two
   unfolding saved_bytes
   behind =
-      let e : offset_at coded n 0 ≡ suc (n * row_bytes coded) = omega arith in
-      ap (λ (k : ℕ). drop k (n ∷ (rows_laid rows one ++ rows_laid bodies two))) e ∙ drop_at (rows_laid rows one) (rows_laid bodies two) (n * row_bytes coded) (length_one l)
+      let e : offset_at marked n 0 ≡ suc (n * 6) = omega arith in
+      ap (λ (k : ℕ). drop k (n ∷ (rows_laid rows one ++ rows_laid bodies two))) e ∙ drop_at (rows_laid rows one) (rows_laid bodies two) (n * 6) (length_one l)
 
-  bodies_back : bodies_of coded (saved_bytes coded l) ≡ two
+  bodies_back : bodies_of marked (saved_bytes marked l) ≡ two
   unfolding saved_bytes
   bodies_back =
       ap (rows_in bodies n) behind
@@ -122,156 +119,92 @@ module _ (limit : ℕ) (l : List Entry) (small : saved_size coded limit < 2 ^ 16
       ∙ ap (λ (k : ℕ). rows_in bodies k (rows_laid bodies two ++ [])) (sym (length-map l body_of))
       ∙ rows-laid bodies two [] (bodies_within l clean)
 
-  count_so : count_in (saved_bytes coded l) ≡ n
+  count_so : count_in (saved_bytes marked l) ≡ n
   unfolding saved_bytes
   count_so = refl
 
-  -- it is read as the form that it is
-  own_form : form_in (saved_bytes coded l) ≡ coded
-  own_form = ap form_of (sym (told_coded (length (saved_bytes coded l)) (count_in (saved_bytes coded l)) (saved_length l ∙ ap (saved_size coded) (sym count_so))))
+  -- it is read as a form with marks
+  own_form : form_in (saved_bytes marked l) ≡ marked
+  own_form = ap form_of (eq-eqb _ _ (saved_length l ∙ ap (saved_size marked) (sym count_so)))
 
-  written_back : saved_in coded (saved_bytes coded l) ≡ map unreported l
+  written_back : saved_in marked (saved_bytes marked l) ≡ map unreported l
   unfolding saved_in
-  written_back = (λ i. entries_from coded (rows_back i) (bodies_back i)) ∙ entries_back n 0 l
+  written_back = (λ i. entries_from (rows_back i) (bodies_back i)) ∙ entries_back n 0 l
 
-  is_form : is_savable l ≡ true → is_saved coded limit (saved_bytes coded l) ≡ true
+  is_form : is_savable l ≡ true → is_saved marked limit (saved_bytes marked l) ≡ true
   unfolding is_saved is_laid
   is_form s =
-      let good : is_savable (saved_in coded (saved_bytes coded l)) ≡ true = ap is_savable written_back ∙ (λ i. distinct_same l i && set_same l i) ∙ s in
-      let follow : follow_on coded (count_in (saved_bytes coded l)) 0 (rows_of coded (saved_bytes coded l)) ≡ true = (λ i. follow_on coded (count_so i) 0 (rows_back i)) ∙ follows n 0 l in
-      let marks : marks_ok (bodies_of coded (saved_bytes coded l)) ≡ true = ap marks_ok bodies_back ∙ marks_small l in
-      let size : eqb (length (saved_bytes coded l)) (saved_size coded (count_in (saved_bytes coded l))) ≡ true = eq-eqb _ _ (saved_length l ∙ ap (saved_size coded) (sym count_so)) in
-      let count : leb (count_in (saved_bytes coded l)) limit ≡ true = le-leb (count_in (saved_bytes coded l)) limit (omega (arith, count_so, few)) in
+      let good : is_savable (saved_in marked (saved_bytes marked l)) ≡ true = ap is_savable written_back ∙ (λ i. distinct_same l i && set_same l i) ∙ s in
+      let follow : follow_on marked (count_in (saved_bytes marked l)) 0 (rows_of marked (saved_bytes marked l)) ≡ true = (λ i. follow_on marked (count_so i) 0 (rows_back i)) ∙ follows n 0 l in
+      let marks : marks_ok (bodies_of marked (saved_bytes marked l)) ≡ true = ap marks_ok bodies_back ∙ marks_small l in
+      let size : eqb (length (saved_bytes marked l)) (saved_size marked (count_in (saved_bytes marked l))) ≡ true = eq-eqb _ _ (saved_length l ∙ ap (saved_size marked) (sym count_so)) in
+      let count : leb (count_in (saved_bytes marked l)) limit ≡ true = le-leb (count_in (saved_bytes marked l)) limit (omega (arith, count_so, few)) in
       λ i. (count i && (size i && (follow i && marks i))) && good i
 
 pub saved_is : SavedIs
-saved_is limit l small few clean s = ap (λ f. is_saved f limit (saved_bytes coded l)) (own_form limit l small few clean) ∙ is_form limit l small few clean s
+saved_is limit l small few clean s = ap (λ f. is_saved f limit (saved_bytes marked l)) (own_form limit l small few clean) ∙ is_form limit l small few clean s
 
 pub saved_back : SavedBack
-saved_back limit l small few clean = ap (λ f. saved_in f (saved_bytes coded l)) (own_form limit l small few clean) ∙ written_back limit l small few clean
-
--- ---- which layout is read
-
--- a form without entries is its count, in every form
-none_is : (f : Form) (limit : ℕ) (bs : List ℕ) → count_in bs ≡ 0 → length bs ≡ 1 → is_saved f limit bs ≡ true
-unfolding is_saved is_laid saved_in entries_from follow_on marks_ok rows_in distinct all_set
-none_is f limit bs e h =
-    let s : length bs ≡ saved_size f 0 = omega (arith, zero-mul (row_bytes f), zero-mul (body_bytes f)) in
-    (λ i.
-    (leb (e i) limit && (eqb (length bs) (saved_size f (e i)) && (follow_on f (e i) 0 (rows_in (row_of f) (e i) (drop 1 bs)) && marks_ok (rows_in f.bodies (e i) (drop (offset_at f (e i) 0) bs)))))
-    && is_savable (entries_from f (rows_in (row_of f) (e i) (drop 1 bs)) (rows_in f.bodies (e i) (drop (offset_at f (e i) 0) bs))))
-    ∙ (λ i. (leb-zero limit i && (eq-eqb (length bs) (saved_size f 0) s i && true)) && true)
-
-none_in : (f : Form) (bs : List ℕ) → count_in bs ≡ 0 → saved_in f bs ≡ []
-unfolding saved_in entries_from rows_in
-none_in f bs e = ap (λ (k : ℕ). entries_from f (rows_in (row_of f) k (drop 1 bs)) (rows_in f.bodies k (drop (offset_at f k 0) bs))) e
-
-pub layout_told : LayoutTold
-unfolding is_saved
-layout_told m limit bs is = go (count_in bs) refl
-  where
-    laid : Laid (form_of m) limit bs
-    laid = laid_so (form_of m) limit bs (both (is_laid (form_of m) limit bs) (is_savable (saved_in (form_of m) bs)) is).0
-
-    go : (n : ℕ) → count_in bs ≡ n → (is_saved (form_in bs) limit bs ≡ true) × (saved_in (form_in bs) bs ≡ saved_in (form_of m) bs)
-    go zero e =
-        let h : length bs ≡ 1 = laid.size ∙ ap (saved_size (form_of m)) e ∙ omega (arith, zero-mul (row_bytes (form_of m)), zero-mul (body_bytes (form_of m))) in
-        (none_is (form_in bs) limit bs e h, none_in (form_in bs) bs e ∙ sym (none_in (form_of m) bs e))
-    go (suc n) e =
-        let own = sym (layout-by m (length bs) (count_in bs) (omega arith) laid.size) in
-        (ap (λ (l : Layout). is_saved (form_of l) limit bs) own ∙ is, ap (λ (l : Layout). saved_in (form_of l) bs) own)
+saved_back limit l small few clean = ap (λ f. saved_in f (saved_bytes marked l)) (own_form limit l small few clean) ∙ written_back limit l small few clean
 
 -- ---- read, then written
 
--- the rest of a row: the code where there is one, and the offset o
-rest_read : (m : Layout) (x : List ℕ) (o : ℕ) → get_or (numbers_in (codes m ++ (2 ∷ [])) x) (length (codes m)) 0 ≡ o
-    → take (length (codes m)) (get_or (take (length (codes m)) (numbers_in (codes m ++ (2 ∷ [])) x)) 0 0 ∷ []) ++ (o ∷ []) ≡ numbers_in (codes m ++ (2 ∷ [])) x
-unfolding numbers_in
-rest_read Coded x o e = λ j. get_or (numbers_in (2 ∷ 2 ∷ []) x) 0 0 ∷ sym e j ∷ []
-rest_read Marked x o e = λ j. sym e j ∷ []
-rest_read Plain x o e = λ j. sym e j ∷ []
+contents_read : (m : Bool) (n i k : ℕ) (x y : List ℕ) → follow_on (form_of m) n i (rows_in rows k x) ≡ true → contents_from (form_of m) n i (map key_of (entries_from (rows_in rows k x) (rows_in (form_of m).bodies k y))) ≡ rows_in rows k x
+unfolding entries_from rows_in follow_on contents_from numbers_in
+contents_read m n i zero x y h = refl
+contents_read m n i (suc k) x y h =
+    let r : List ℕ = numbers_in rows x in
+    let more : List (List ℕ) = rows_in rows k (drop 6 x) in
+    let q = both (eqb (get_or r 2 0) (offset_at (form_of m) n i)) (follow_on (form_of m) n (suc i) more) h in
+    let o = eqb-true (get_or r 2 0) (offset_at (form_of m) n i) q.0 in
+    λ j. (get_or r 0 0 ∷ get_or r 1 0 ∷ sym o j ∷ []) ∷ contents_read m n (suc i) k (drop 6 x) (drop (body_bytes (form_of m)) y) q.1 j
 
-module _ (m : Layout) where
-  abbrev f : Form
-  f = form_of m
-
-  abbrev entries : ℕ → List ℕ → List ℕ → List Entry
-  entries k x y = entries_from f (rows_in (row_of f) k x) (rows_in f.bodies k y)
-
-  contents_read : (n i k : ℕ) (x y : List ℕ) → follow_on f n i (rows_in (row_of f) k x) ≡ true → contents_from f n i (map (key_of f) (entries k x y)) ≡ rows_in (row_of f) k x
-  unfolding entries_from rows_in follow_on contents_from numbers_in
-  contents_read n i zero x y h = refl
-  contents_read n i (suc k) x y h =
-      let r : List ℕ = numbers_in (row_of f) x in
-      let q = both (eqb (get_or r (length f.keys) 0) (offset_at f n i)) (follow_on f n (suc i) (rows_in (row_of f) k (drop (row_bytes f) x))) h in
-      let o = eqb-true (get_or r (length f.keys) 0) (offset_at f n i) q.0 in
-      λ j. (get_or r 0 0 ∷ get_or r 1 0 ∷ rest_read m (drop 2 (drop 2 x)) (offset_at f n i) o j) ∷ contents_read n (suc i) k (drop (row_bytes f) x) (drop (body_bytes f) y) q.1 j
-
--- a mark of 0 or 1 where there is one
-mark_read : (m : Layout) (y : List ℕ) → leb (get_or (numbers_in (marks m) y) 0 0) 1 ≡ true → laid (marks m) (if_marked (eqb (get_or (numbers_in (marks m) y) 0 0) 1) 1 ∷ []) ≡ laid (marks m) (numbers_in (marks m) y)
-unfolding numbers_in laid
-mark_read Coded y h = ap (λ (u : ℕ). laid (1 ∷ []) (u ∷ [])) (mark_told (get_or (numbers_in (1 ∷ []) y) 0 0) h)
-mark_read Marked y h = ap (λ (u : ℕ). laid (1 ∷ []) (u ∷ [])) (mark_told (get_or (numbers_in (1 ∷ []) y) 0 0) h)
-mark_read Plain y h = refl
-
--- the bytes of the bodies
-bodies_read : (m : Layout) (k : ℕ) (x y : List ℕ) → marks_ok (rows_in (form_of m).bodies k y) ≡ true
-    → rows_laid (form_of m).bodies (map body_of (entries m k x y)) ≡ rows_laid (form_of m).bodies (rows_in (form_of m).bodies k y)
+-- the bytes of the bodies, with marks of 0 or 1, or without
+bodies_read : (m : Bool) (k : ℕ) (x y : List ℕ) → marks_ok (rows_in (form_of m).bodies k y) ≡ true
+    → rows_laid (form_of m).bodies (map body_of (entries_from (rows_in rows k x) (rows_in (form_of m).bodies k y))) ≡ rows_laid (form_of m).bodies (rows_in (form_of m).bodies k y)
 unfolding entries_from rows_in numbers_in rows_laid marks_ok laid
 bodies_read m zero x y h = refl
-bodies_read m (suc k) x y h =
-    let b : List ℕ = numbers_in (form_of m).bodies y in
-    let q = both (leb (get_or b 3 0) 1) (marks_ok (rows_in (form_of m).bodies k (drop (body_bytes (form_of m)) y))) h in
-    let z : List ℕ = drop 8 (drop 2 (drop 2 y)) in
-    λ j. (bytes_of 2 (get_or b 0 0) ++ (bytes_of 2 (get_or b 1 0) ++ (bytes_of 8 (get_or b 2 0) ++ mark_read m z q.0 j))) ++ bodies_read m k (drop (row_bytes (form_of m)) x) (drop (body_bytes (form_of m)) y) q.1 j
+bodies_read true (suc k) x y h =
+    let b : List ℕ = numbers_in bodies y in
+    let q = both (leb (get_or b 3 0) 1) (marks_ok (rows_in bodies k (drop (body_bytes marked) y))) h in
+    λ j. laid bodies (get_or b 0 0 ∷ get_or b 1 0 ∷ get_or b 2 0 ∷ mark_told (get_or b 3 0) q.0 j ∷ []) ++ bodies_read true k (drop 6 x) (drop (body_bytes marked) y) q.1 j
+bodies_read false (suc k) x y h =
+    ap (λ (r : List ℕ). laid plain.bodies (numbers_in plain.bodies y) ++ r) (bodies_read false k (drop 6 x) (drop (body_bytes plain) y) h)
 
--- what the entries are read as
-read_as : (m : Layout) (x y : List ℕ) → ReadAs m (entry_from (form_of m) (numbers_in (row_of (form_of m)) x) (numbers_in (form_of m).bodies y))
-unfolding numbers_in
-read_as Coded x y = tt
-read_as Marked x y = refl
-read_as Plain x y = (refl, refl)
+-- where the bodies start
+start : (m : Bool) (n : ℕ) → offset_at (form_of m) n 0 ≡ 1 + n * 6
+start true n = omega arith
+start false n = omega arith
 
-all_read : (m : Layout) (k : ℕ) (x y : List ℕ) → All (ReadAs m) (entries m k x y)
-unfolding entries_from rows_in
-all_read m zero x y = tt
-all_read m (suc k) x y = (read_as m x y, all_read m k (drop (row_bytes (form_of m)) x) (drop (body_bytes (form_of m)) y))
-
-module _ (m : Layout) (limit : ℕ) (bs : List ℕ) (bytes : AllBytes bs) (is : is_saved (form_of m) limit bs ≡ true) where
-  laid_it : Laid (form_of m) limit bs
+module _ (m : Bool) (limit : ℕ) (bs : List ℕ) (bytes : AllBytes bs) (is : is_saved (form_of m) limit bs ≡ true) where
+  laid_it : is_laid (form_of m) limit bs ≡ true
   unfolding is_saved
-  laid_it = laid_so (form_of m) limit bs (both (is_laid (form_of m) limit bs) (is_savable (saved_in (form_of m) bs)) is).0
+  laid_it = (both (is_laid (form_of m) limit bs) (is_savable (saved_in (form_of m) bs)) is).0
 
   size : length bs ≡ saved_size (form_of m) (count_in bs)
-  size = laid_it.size
+  size = (laid_so m bs limit laid_it).size
 
   abbrev k : ℕ
   k = count_in bs
 
-  -- the bytes of the contents
-  abbrev p : ℕ
-  p = k * row_bytes (form_of m)
-
   abbrev rest : List ℕ
   rest = drop 1 bs
 
-  rest_length : length rest ≡ p + k * body_bytes (form_of m)
+  rest_length : length rest ≡ k * 6 + k * body_bytes (form_of m)
   rest_length = omega (arith, length-drop 1 bs, size)
 
-  behind_contents : drop (offset_at (form_of m) k 0) bs ≡ drop p rest
-  behind_contents =
-      let e : offset_at (form_of m) k 0 ≡ 1 + p = omega (arith, zero-mul (body_bytes (form_of m))) in
-      ap (λ (q : ℕ). drop q bs) e ∙ sym (drop-drop p 1 bs)
+  behind_contents : drop (offset_at (form_of m) k 0) bs ≡ drop (k * 6) rest
+  behind_contents = ap (λ (p : ℕ). drop p bs) (start m k) ∙ sym (drop-drop (k * 6) 1 bs)
 
-  first_read : rows_laid (row_of (form_of m)) (rows_of (form_of m) bs) ≡ take p rest
-  first_read = laid_rows (row_of (form_of m)) k rest (bytes_drop bs 1 bytes) (omega (arith, rest_length))
+  first_read : rows_laid rows (rows_of (form_of m) bs) ≡ take (k * 6) rest
+  first_read = laid_rows rows k rest (bytes_drop bs 1 bytes) (omega (arith, rest_length))
 
-  second_read : rows_laid (form_of m).bodies (bodies_of (form_of m) bs) ≡ drop p rest
+  second_read : rows_laid (form_of m).bodies (bodies_of (form_of m) bs) ≡ drop (k * 6) rest
   second_read =
-      let l : length (drop p rest) ≡ k * body_bytes (form_of m) = omega (arith, length-drop p rest, rest_length) in
+      let l : length (drop (k * 6) rest) ≡ k * body_bytes (form_of m) = omega (arith, length-drop (k * 6) rest, rest_length) in
       ap (λ (x : List ℕ). rows_laid (form_of m).bodies (rows_in (form_of m).bodies k x)) behind_contents
-      ∙ laid_rows (form_of m).bodies k (drop p rest) (bytes_drop rest p (bytes_drop bs 1 bytes)) (omega (arith, l))
-      ∙ take_all (k * body_bytes (form_of m)) (drop p rest) (omega (arith, l))
+      ∙ laid_rows (form_of m).bodies k (drop (k * 6) rest) (bytes_drop rest (k * 6) (bytes_drop bs 1 bytes)) (omega (arith, l))
+      ∙ take_all (k * body_bytes (form_of m)) (drop (k * 6) rest) (omega (arith, l))
 
   -- bytes with a first one
   whole : (x : List ℕ) → 1 ≤ length x → count_in x ∷ drop 1 x ≡ x
@@ -281,17 +214,23 @@ module _ (m : Layout) (limit : ℕ) (bs : List ℕ) (bytes : AllBytes bs) (is : 
   form_back_in : saved_bytes (form_of m) (saved_in (form_of m) bs) ≡ bs
   unfolding saved_bytes saved_in
   form_back_in =
-      let l = saved_count (form_of m) bs in
+      let l = saved_count m bs in
       let y : List ℕ = drop (offset_at (form_of m) k 0) bs in
-      (λ i. l i ∷ (rows_laid (row_of (form_of m)) (contents_from (form_of m) (l i) 0 (map (key_of (form_of m)) (saved_in (form_of m) bs))) ++ rows_laid (form_of m).bodies (map body_of (saved_in (form_of m) bs))))
-      ∙ (λ i. k ∷ (rows_laid (row_of (form_of m)) (contents_read m k 0 k rest y laid_it.offsets i) ++ bodies_read m k rest y laid_it.marks i))
+      (λ i. l i ∷ (rows_laid rows (contents_from (form_of m) (l i) 0 (map key_of (saved_in (form_of m) bs))) ++ rows_laid (form_of m).bodies (map body_of (saved_in (form_of m) bs))))
+      ∙ (λ i. k ∷ (rows_laid rows (contents_read m k 0 k rest y (laid_so m bs limit laid_it).offsets i) ++ bodies_read m k rest y (laid_so m bs limit laid_it).marks i))
       ∙ (λ i. k ∷ (first_read i ++ second_read i))
-      ∙ ap (λ (r : List ℕ). k ∷ r) (take-append-drop p rest)
+      ∙ ap (λ (r : List ℕ). k ∷ r) (take-append-drop (k * 6) rest)
       ∙ whole bs (omega (arith, size))
 
-pub layout_back : LayoutBack
-unfolding saved_in
-layout_back m limit bs bytes is = (form_back_in m limit bs bytes is, all_read m (count_in bs) (drop 1 bs) (drop (offset_at (form_of m) (count_in bs) 0) bs))
-
 pub form_back : FormBack
-form_back limit bs bytes is = (layout_back Coded limit bs bytes is).0
+form_back limit bs bytes is = form_back_in true limit bs bytes is
+
+-- a form without marks has entries that are signed
+all_signed : (k : ℕ) (x y : List ℕ) → All (λ (e : Entry). e.config.unsigned ≡ false) (entries_from (rows_in rows k x) (rows_in plain.bodies k y))
+unfolding entries_from rows_in numbers_in
+all_signed zero x y = tt
+all_signed (suc k) x y = (refl, all_signed k (drop 6 x) (drop (body_bytes plain) y))
+
+pub old_form_back : OldFormBack
+unfolding saved_in
+old_form_back limit bs bytes is = (form_back_in false limit bs bytes is, all_signed (count_in bs) (drop 1 bs) (drop (offset_at plain (count_in bs) 0) bs))

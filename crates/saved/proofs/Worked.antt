@@ -10,73 +10,59 @@ use Rattle.reporting.specs.declared.entry.Entry.{Entry}
 use Rattle.reporting.specs.Entries.{distinct, fresh}
 use Rattle.reporting.specs.Table.{capacity}
 use Rattle.reporting.specs.Carried.{laid, numbers_in, rows_laid, rows_in}
-use Rattle.saved.specs.Saved.{coded, contents_from, saved_bytes, all_set, entries_from, saved_in, follow_on, marks_ok, is_laid, is_saved, form_in}
+use Rattle.saved.specs.Saved.{marked, contents_from, saved_bytes, all_set, entries_from, saved_in, follow_on, marks_ok, is_laid, is_saved, form_in}
 
--- cluster 0402, attribute 0000 of this code, 10 to 300 seconds, change 50
-abbrev key : ℕ → Key
-key code = record { cluster = record { 0 = 0x0402 }; code = record { 0 = code }; attribute = record { 0 = 0x0000 } }
+-- cluster 0402, attribute 0000, 10 to 300 seconds, change 50
+abbrev key : Key
+key = record { cluster = record { 0 = 0x0402 }; attribute = record { 0 = 0x0000 } }
 
-abbrev entry : ℕ → Entry
-entry code = fresh (key code) (record { min_interval = 10; max_interval = 300; reportable_change = 50; unsigned = false })
+abbrev entry : Entry
+entry = fresh key (record { min_interval = 10; max_interval = 300; reportable_change = 50; unsigned = false })
 
 -- the same with a last report
-abbrev reported : ℕ → Entry
-reported code = record { key = key code; config = (entry code).config; marked = true; last_time = 100000; last_value = negsuc 4 }
+abbrev reported : Entry
+reported = record { key = key; config = entry.config; marked = true; last_time = 100000; last_value = negsuc 4 }
 
--- its form, with any code, offset, maximum and mark
-abbrev laid_out : List ℕ → ℕ → List ℕ → List ℕ → List ℕ
-laid_out code offset maximum mark =
-    0x01 ∷ 0x02 ∷ 0x04 ∷ 0x00 ∷ 0x00 ∷ (code ++ (offset ∷ 0x00 ∷ 0x0a ∷ 0x00 ∷ (maximum ++ (0x32 ∷ 0x00 ∷ 0x00 ∷ 0x00 ∷ 0x00 ∷ 0x00 ∷ 0x00 ∷ 0x00 ∷ mark))))
-
--- with code 115f
+-- its form, with any offset, maximum and mark
 abbrev form : ℕ → List ℕ → List ℕ → List ℕ
-form offset maximum mark = laid_out (0x5f ∷ 0x11 ∷ []) offset maximum mark
+form offset maximum mark =
+    0x01 ∷ 0x02 ∷ 0x04 ∷ 0x00 ∷ 0x00 ∷ offset ∷ 0x00 ∷ 0x0a ∷ 0x00 ∷ (maximum ++ (0x32 ∷ 0x00 ∷ 0x00 ∷ 0x00 ∷ 0x00 ∷ 0x00 ∷ 0x00 ∷ 0x00 ∷ mark))
 
 -- 300 seconds, and signed
 abbrev good : List ℕ
-good = form 0x09 (0x2c ∷ 0x01 ∷ []) (0x00 ∷ [])
+good = form 0x07 (0x2c ∷ 0x01 ∷ []) (0x00 ∷ [])
 
--- the same with code 0000; without a code; and without a mark either
-abbrev uncoded : List ℕ
-uncoded = laid_out (0x00 ∷ 0x00 ∷ []) 0x09 (0x2c ∷ 0x01 ∷ []) (0x00 ∷ [])
-
-abbrev shorter : List ℕ
-shorter = laid_out [] 0x07 (0x2c ∷ 0x01 ∷ []) (0x00 ∷ [])
-
-abbrev shortest : List ℕ
-shortest = laid_out [] 0x07 (0x2c ∷ 0x01 ∷ []) []
+-- the same without a mark
+abbrev old : List ℕ
+old = form 0x07 (0x2c ∷ 0x01 ∷ []) []
 
 abbrev is : List ℕ → Bool
 is bs = is_saved (form_in bs) capacity bs
 
 pub record Computed : Type 0 where
-  pub written : saved_bytes coded (reported 0x115f ∷ []) ≡ good
-  pub read : saved_in (form_in good) good ≡ entry 0x115f ∷ []
+  pub written : saved_bytes marked (reported ∷ []) ≡ good
+  pub read : saved_in (form_in good) good ≡ entry ∷ []
   pub accepted : is good ≡ true
-  -- a form without codes is read with code 0000, one without marks as signed, and both are written with codes and marks
-  pub shorter_accepted : is shorter ≡ true
-  pub shorter_read : saved_in (form_in shorter) shorter ≡ entry 0 ∷ []
-  pub shorter_written : saved_bytes coded (saved_in (form_in shorter) shorter) ≡ uncoded
-  pub shortest_accepted : is shortest ≡ true
-  pub shortest_read : saved_in (form_in shortest) shortest ≡ entry 0 ∷ []
-  pub shortest_written : saved_bytes coded (saved_in (form_in shortest) shortest) ≡ uncoded
+  -- a form without marks is read as signed, and written with marks
+  pub old_accepted : is old ≡ true
+  pub old_read : saved_in (form_in old) old ≡ entry ∷ []
+  pub old_written : saved_bytes marked (saved_in (form_in old) old) ≡ good
   -- mark 1 is unsigned; mark 2 is none
-  pub mark_1 : is (form 0x09 (0x2c ∷ 0x01 ∷ []) (0x01 ∷ [])) ≡ true
-  pub mark_2 : is (form 0x09 (0x2c ∷ 0x01 ∷ []) (0x02 ∷ [])) ≡ false
+  pub mark_1 : is (form 0x07 (0x2c ∷ 0x01 ∷ []) (0x01 ∷ [])) ≡ true
+  pub mark_2 : is (form 0x07 (0x2c ∷ 0x01 ∷ []) (0x02 ∷ [])) ≡ false
   -- an empty table is one byte; no byte is none, and neither is a byte behind it
   pub empty : is (0x00 ∷ []) ≡ true
   pub none : is [] ≡ false
   pub behind : is (0x00 ∷ 0x00 ∷ []) ≡ false
   -- an offset that does not follow on; a maximum of ffff, or below the minimum; a count without its entries
-  pub gap : is (form 0x0a (0x2c ∷ 0x01 ∷ []) (0x00 ∷ [])) ≡ false
-  pub off : is (form 0x09 (0xff ∷ 0xff ∷ []) (0x00 ∷ [])) ≡ false
-  pub below : is (form 0x09 (0x09 ∷ 0x00 ∷ []) (0x00 ∷ [])) ≡ false
+  pub gap : is (form 0x08 (0x2c ∷ 0x01 ∷ []) (0x00 ∷ [])) ≡ false
+  pub off : is (form 0x07 (0xff ∷ 0xff ∷ []) (0x00 ∷ [])) ≡ false
+  pub below : is (form 0x07 (0x09 ∷ 0x00 ∷ []) (0x00 ∷ [])) ≡ false
   pub short : is (0x02 ∷ []) ≡ false
   -- maximum 0 is a saved form
-  pub change_alone : is (form 0x09 (0x00 ∷ 0x00 ∷ []) (0x00 ∷ [])) ≡ true
-  -- a key twice is not written; with another code it is another key
-  pub twice : distinct (entry 0x115f ∷ reported 0x115f ∷ []) ≡ false
-  pub two_codes : distinct (entry 0x115f ∷ reported 0 ∷ []) ≡ true
+  pub change_alone : is (form 0x07 (0x00 ∷ 0x00 ∷ []) (0x00 ∷ [])) ≡ true
+  -- a key twice is not written
+  pub twice : distinct (entry ∷ reported ∷ []) ≡ false
 
 pub computed : Computed
 unfolding le bytes_of laid numbers_in rows_laid rows_in contents_from saved_bytes distinct all_set entries_from saved_in follow_on marks_ok is_laid is_saved
@@ -85,12 +71,9 @@ computed =
       written = refl;
       read = refl;
       accepted = refl;
-      shorter_accepted = refl;
-      shorter_read = refl;
-      shorter_written = refl;
-      shortest_accepted = refl;
-      shortest_read = refl;
-      shortest_written = refl;
+      old_accepted = refl;
+      old_read = refl;
+      old_written = refl;
       mark_1 = refl;
       mark_2 = refl;
       empty = refl;
@@ -102,5 +85,4 @@ computed =
       short = refl;
       change_alone = refl;
       twice = refl;
-      two_codes = refl;
     }

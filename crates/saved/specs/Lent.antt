@@ -8,13 +8,13 @@ use Rattle.reporting.specs.declared.table.Change.TheVariants.{Done, Refused}
 use Rattle.reporting.specs.Table.{capacity}
 use Rattle.reporting.specs.Carried.{size_ok, table_bytes}
 use Rattle.reporting.specs.Lent.{on_lent, ChangeLeft, left_as}
-use Rattle.saved.specs.Saved.{coded, saved_bytes, is_savable, saved_in, is_saved, form_in}
+use Rattle.saved.specs.Saved.{marked, saved_bytes, is_savable, saved_in, is_saved, form_in}
 
 -- a form into a buffer of so much room: 13 of a table that is not written, then 5
 abbrev pub save_l : ℕ → List Entry → Outcome (Unit {0})
 save_l room l =
     cond (is_savable l)
-    (cond (leb (length (saved_bytes coded l)) room) (replied room (saved_bytes coded l) no_state) (refused room ReplyTooLong no_state))
+    (cond (leb (length (saved_bytes marked l)) room) (replied room (saved_bytes marked l) no_state) (refused room ReplyTooLong no_state))
     (refused room NotASavedForm no_state)
 
 -- WRITING: 8 of bytes that are no table; the table stays as it is

@@ -1,14 +1,12 @@
 -- Definitions. The saved form of a reporting table (document 02, request 5), for flash: count (1 byte), then a contents list of key and offset from the start in
--- table order, then the bodies in that order, nothing after. Over the limit, and the widths of a key and of a body, which the layouts name.
-use Rattle.std.specs.Prelude.{ℕ, suc, ◌+◌, ◌*◌, Bool, true, false, cond, ◌&&◌, List, [], ◌∷◌, ◌++◌, map, length, get_or, take, drop, leb, eqb}
+-- table order, then the bodies in that order, nothing after. Over the limit, and the widths of a key and of a body.
+use Rattle.std.specs.Prelude.{ℕ, suc, ◌+◌, ◌*◌, Bool, true, false, cond, ◌&&◌, List, [], ◌∷◌, ◌++◌, map, length, get_or, drop, leb, eqb}
 use Rattle.reporting.specs.declared.entry.Entry.{Entry}
 use Rattle.reporting.specs.Entries.{distinct, fresh}
 use Rattle.reporting.specs.declared.entry.Wish.{Wish}
 use Rattle.reporting.specs.declared.entry.Wish.TheVariants.{ToClear, ToRefuse, ToSet}
 use Rattle.reporting.specs.Wish.{wish}
 use Rattle.reporting.specs.Carried.{total, if_marked, rows_laid, rows_in, count_in}
-use Rattle.saved.specs.declared.form.Layout.{Layout}
-use Rattle.saved.specs.declared.form.Layout.TheVariants.{Coded, Marked, Plain}
 
 -- ---- the form
 
@@ -17,37 +15,18 @@ pub record Form : Type 0 where
   pub keys : List ℕ
   pub bodies : List ℕ
 
--- the code's width, and the mark's, in the layouts that have them (document 02, requests 8 and 6)
-abbrev pub codes : Layout → List ℕ
-codes Coded = 2 ∷ []
-codes Marked = []
-codes Plain = []
-
-abbrev pub marks : Layout → List ℕ
-marks Coded = 1 ∷ []
-marks Marked = 1 ∷ []
-marks Plain = []
-
--- cluster, attribute (2 each) and the code; minimum, maximum (2 each), change (8) and the mark
-abbrev pub form_of : Layout → Form
-form_of layout = record { keys = 2 ∷ 2 ∷ codes layout; bodies = 2 ∷ 2 ∷ 8 ∷ marks layout }
-
--- what is written; and the shorter forms, which are only read
-abbrev pub coded : Form
-coded = form_of Coded
+-- cluster, attribute (2 each); minimum, maximum (2 each), change (8) and, in a form with marks, the mark (1)
+abbrev pub form_of : Bool → Form
+form_of marks = record { keys = 2 ∷ 2 ∷ []; bodies = cond marks (2 ∷ 2 ∷ 8 ∷ 1 ∷ []) (2 ∷ 2 ∷ 8 ∷ []) }
 
 abbrev pub marked : Form
-marked = form_of Marked
+marked = form_of true
 
 abbrev pub plain : Form
-plain = form_of Plain
+plain = form_of false
 
--- of these numbers as many as a key has in the form
-abbrev pub key_part : Form → List ℕ → List ℕ
-key_part f ns = take (length f.keys) ns
-
-abbrev pub key_of : Form → Entry → List ℕ
-key_of f e = key_part f (e.key.cluster.0 ∷ e.key.attribute.0 ∷ e.key.code.0 ∷ [])
+abbrev pub key_of : Entry → List ℕ
+key_of e = e.key.cluster.0 ∷ e.key.attribute.0 ∷ []
 
 abbrev pub body_of : Entry → List ℕ
 body_of e = e.config.min_interval ∷ e.config.max_interval ∷ e.config.reportable_change ∷ if_marked e.config.unsigned 1 ∷ []
@@ -63,13 +42,9 @@ row_bytes f = total (row_of f)
 abbrev pub body_bytes : Form → ℕ
 body_bytes f = total f.bodies
 
--- where row i starts: behind the count and the rows before it
-abbrev pub row_at : Form → ℕ → ℕ
-row_at f i = 1 + i * row_bytes f
-
 -- where body i of n starts: behind the contents and the bodies before it
 abbrev pub offset_at : Form → ℕ → ℕ → ℕ
-offset_at f n i = row_at f n + i * body_bytes f
+offset_at f n i = 1 + n * row_bytes f + i * body_bytes f
 
 abbrev pub saved_size : Form → ℕ → ℕ
 saved_size f n = offset_at f n n
@@ -83,7 +58,7 @@ contents_from f n i (k ∷ ks) = (k ++ (offset_at f n i ∷ [])) ∷ contents_fr
 
 -- THE SAVED FORM of a table's entries
 unfoldable pub saved_bytes : Form → List Entry → List ℕ
-saved_bytes f l = length l ∷ (rows_laid (row_of f) (contents_from f (length l) 0 (map (key_of f) l)) ++ rows_laid f.bodies (map body_of l))
+saved_bytes f l = length l ∷ (rows_laid (row_of f) (contents_from f (length l) 0 (map key_of l)) ++ rows_laid f.bodies (map body_of l))
 
 -- "a maximum of ffff, 0 with minimum ffff, or nonzero below its minimum": what no record sets (reporting, Wish.antt)
 abbrev pub is_set : Wish → Bool
@@ -107,21 +82,20 @@ rows_of f bs = rows_in (row_of f) (count_in bs) (drop 1 bs)
 abbrev pub bodies_of : Form → List ℕ → List (List ℕ)
 bodies_of f bs = rows_in f.bodies (count_in bs) (drop (offset_at f (count_in bs) 0) bs)
 
--- an entry from a row and a body: not yet reported. A code that is not there reads as 0000, and a mark that is not there as signed.
-abbrev pub entry_from : Form → List ℕ → List ℕ → Entry
-entry_from f r b =
-    let k = key_part f r in
-    fresh (record { cluster = record { 0 = get_or k 0 0 }; code = record { 0 = get_or k 2 0 }; attribute = record { 0 = get_or k 1 0 } })
+-- an entry from a row and a body: not yet reported
+abbrev pub entry_from : List ℕ → List ℕ → Entry
+entry_from k b =
+    fresh (record { cluster = record { 0 = get_or k 0 0 }; attribute = record { 0 = get_or k 1 0 } })
     (record { min_interval = get_or b 0 0; max_interval = get_or b 1 0; reportable_change = get_or b 2 0; unsigned = eqb (get_or b 3 0) 1 })
 
-unfoldable pub entries_from : Form → List (List ℕ) → List (List ℕ) → List Entry
-entries_from f [] bs = []
-entries_from f (r ∷ rs) [] = []
-entries_from f (r ∷ rs) (b ∷ bs) = entry_from f r b ∷ entries_from f rs bs
+unfoldable pub entries_from : List (List ℕ) → List (List ℕ) → List Entry
+entries_from [] bs = []
+entries_from (k ∷ ks) [] = []
+entries_from (k ∷ ks) (b ∷ bs) = entry_from k b ∷ entries_from ks bs
 
 -- THE ENTRIES of a saved form
 unfoldable pub saved_in : Form → List ℕ → List Entry
-saved_in f bs = entries_from f (rows_of f bs) (bodies_of f bs)
+saved_in f bs = entries_from (rows_of f bs) (bodies_of f bs)
 
 -- "offsets that do not follow on": the first body stands right behind the contents, each next one behind the one before it
 unfoldable pub follow_on : Form → ℕ → ℕ → List (List ℕ) → Bool
@@ -143,11 +117,5 @@ unfoldable pub is_saved : Form → ℕ → List ℕ → Bool
 is_saved f limit bs = is_laid f limit bs && is_savable (saved_in f bs)
 
 -- "told by its length", with its count
-abbrev pub layout_by : ℕ → ℕ → Layout
-layout_by size n = cond (eqb size (saved_size coded n)) Coded (cond (eqb size (saved_size marked n)) Marked Plain)
-
-abbrev pub layout_in : List ℕ → Layout
-layout_in bs = layout_by (length bs) (count_in bs)
-
 abbrev pub form_in : List ℕ → Form
-form_in bs = form_of (layout_in bs)
+form_in bs = form_of (eqb (length bs) (saved_size marked (count_in bs)))

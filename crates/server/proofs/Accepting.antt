@@ -24,9 +24,9 @@ use Rattle.frame.specs.Walk.{Ending, done, cut, Way, through, broken, stopped, w
 use Rattle.frame.specs.Encoded.{encode_all, fits}
 use Rattle.frame.specs.Failures.{Did, did, Doing, Sofar, sofar, also, done_with, pass_from, pass, encode_failures, answered, concluded, performed, headed}
 use Rattle.frame.proofs.Buffer.{take_padded}
-use Rattle.frame.proofs.Codes.{code-of}
+use Rattle.frame.proofs.Codes.{code_of}
 use Rattle.frame.proofs.Walks.{any, walk_keeps}
-use Rattle.store.specs.Contents.{name_of, find_of, cluster_of, entry_size}
+use Rattle.store.specs.Contents.{name_of, find_of, cluster_of}
 use Rattle.store.specs.Layout.{is_store}
 use Rattle.reporting.specs.declared.entry.Key.{Key}
 use Rattle.reporting.specs.declared.entry.ReportingConfig.{ReportingConfig}
@@ -83,12 +83,12 @@ of_reached Q (stopped x y) h = tt
 
 -- ---- the records of a frame, one after the other
 
-module _ (form limit : ℕ) (s : List ℕ) (h : ZclHeader) where
+module _ (limit : ℕ) (s : List ℕ) (h : ZclHeader) where
   abbrev doing : Doing (List Entry) ConfigureRecord Failure
-  doing = configuring form limit s h
+  doing = configuring 8 limit s h
 
   abbrev events_from : List Entry → List ConfigureRecord → List Event
-  events_from l rs = all_events form limit s h l rs
+  events_from l rs = all_events 8 limit s h l rs
 
   -- that a failure of some kind is listed
   module _ (N : Failure → Type 0) where
@@ -103,13 +103,13 @@ module _ (form limit : ℕ) (s : List ℕ) (h : ZclHeader) where
     turn_grows : (x : Sofar (List Entry) Failure) (r : ConfigureRecord) → Listed x → Listed (done_with doing x r)
     unfolding done_with
     turn_grows x r m =
-        let w : Did (List Entry) = tried form limit s h x.state r in
+        let w : Did (List Entry) = tried 8 limit s h x.state r in
         also_grows x.failures (eqb (status_code w.status) 0) (failing w.status r) m
 
     -- what holds of no record, and with one record more in front, whose failure stays listed, holds of the records and their events
     module _ (P : List ConfigureRecord → List Event → Sofar (List Entry) Failure → Type 0) (none : (y : Sofar (List Entry) Failure) → P [] [] y)
         (one_more : (x : Sofar (List Entry) Failure) (r : ConfigureRecord) (rs : List ConfigureRecord) (es : List Event) (y : Sofar (List Entry) Failure)
-        → (Listed (done_with doing x r) → Listed y) → P rs es y → P (r ∷ rs) (record_events form limit s h x.state r ++ es) y)
+        → (Listed (done_with doing x r) → Listed y) → P rs es y → P (r ∷ rs) (record_events 8 limit s h x.state r ++ es) y)
         (fine : Sofar (List Entry) Failure → Bool) where
       walk_tells : (e : Ending) (rs : List ConfigureRecord) (x : Sofar (List Entry) Failure)
           → OfThrough (P rs (events_from x.state (taken (done_with doing) fine x rs))) (walk (done_with doing) fine x e rs)
@@ -127,13 +127,13 @@ module _ (form limit : ℕ) (s : List ℕ) (h : ZclHeader) where
               (walk_keeps (done_with doing) fine Listed (λ z. Unit {0}) (λ y z k u. turn_grows y z k) e rs next m (any rs))
 
           onward : (es : List Event) (way : Way (Sofar (List Entry) Failure)) → OfThrough (P rs es) way → (Listed next → OfThrough Listed way)
-              → OfThrough (P (r ∷ rs) (record_events form limit s h x.state r ++ es)) way
+              → OfThrough (P (r ∷ rs) (record_events 8 limit s h x.state r ++ es)) way
           onward es (through y) p k = one_more x r rs es y k p
           onward es (broken y) p k = tt
           onward es (stopped y z) p k = tt
 
           go : (b : Bool) → OfThrough (P rs (events_from next.state (taken (done_with doing) fine next rs))) (walk (done_with doing) fine next e rs)
-              → OfThrough (P (r ∷ rs) (record_events form limit s h x.state r ++ events_from next.state (cond b (taken (done_with doing) fine next rs) [])))
+              → OfThrough (P (r ∷ rs) (record_events 8 limit s h x.state r ++ events_from next.state (cond b (taken (done_with doing) fine next rs) [])))
               (cond b (walk (done_with doing) fine next e rs) (stopped x next))
           go true w = onward (events_from next.state (taken (done_with doing) fine next rs)) (walk (done_with doing) fine next e rs) w lists
           go false w = tt
@@ -199,26 +199,26 @@ module _ (form limit : ℕ) (s : List ℕ) (h : ZclHeader) where
           go ToSet n true stays = inl (inl refl)
           go ToSet n false stays = inr (stays (named _ (refl, refl)))
 
-      tried_either : (l : List Entry) → Either (tried form limit s h l (reported id t g))
+      tried_either : (l : List Entry) → Either (tried 8 limit s h l (reported id t g))
       unfolding tried
-      tried_either l = checked_case Either (find_of form s (name_of h.manufacturer_code.0 id)) t l (setting limit k g l) (failed_either l) (setting_either l)
+      tried_either l = checked_case Either (find_of 8 s (name_of h.manufacturer_code.0 id)) t l (setting limit k g l) (failed_either l) (setting_either l)
 
     -- so among the events of records that contain it is its own, or a failure names it
     abbrev Brings : List ConfigureRecord → List Event → Sofar (List Entry) Failure → Type 0
     Brings rs es y = Some (λ r. reported id t g ≡ r) rs → Some Told es ⊎ Some Named y.failures
 
     brings_more : (x : Sofar (List Entry) Failure) (r : ConfigureRecord) (rs : List ConfigureRecord) (es : List Event) (y : Sofar (List Entry) Failure)
-        → (Some Named (done_with doing x r).failures → Some Named y.failures) → Brings rs es y → Brings (r ∷ rs) (record_events form limit s h x.state r ++ es) y
+        → (Some Named (done_with doing x r).failures → Some Named y.failures) → Brings rs es y → Brings (r ∷ rs) (record_events 8 limit s h x.state r ++ es) y
     unfolding done_with record_events
     brings_more x r rs es y stays p (inl q) =
         subst
         (λ (z : ConfigureRecord). (Some Named (done_with doing x z).failures → Some Named y.failures)
-        → Some Told (record_events form limit s h x.state z ++ es) ⊎ Some Named y.failures)
+        → Some Told (record_events 8 limit s h x.state z ++ es) ⊎ Some Named y.failures)
         q (tried_either x.failures es y x.state) stays
     brings_more x r rs es y stays p (inr m) = go (p m)
       where
-        go : Some Told es ⊎ Some Named y.failures → Some Told (record_events form limit s h x.state r ++ es) ⊎ Some Named y.failures
-        go (inl e) = inl (some_behind Told (record_events form limit s h x.state r) es e)
+        go : Some Told es ⊎ Some Named y.failures → Some Told (record_events 8 limit s h x.state r ++ es) ⊎ Some Named y.failures
+        go (inl e) = inl (some_behind Told (record_events 8 limit s h x.state r) es e)
         go (inr f) = inr f
 
     brings_none : (y : Sofar (List Entry) Failure) → Brings [] [] y
@@ -244,9 +244,9 @@ module _ (form limit : ℕ) (s : List ℕ) (h : ZclHeader) where
   Whole rs es y = Some AnyFailure y.failures ⊎ (es ≡ succeeding s h rs)
 
   whole_more : (x : Sofar (List Entry) Failure) (r : ConfigureRecord) (rs : List ConfigureRecord) (es : List Event) (y : Sofar (List Entry) Failure)
-      → (Some AnyFailure (done_with doing x r).failures → Some AnyFailure y.failures) → Whole rs es y → Whole (r ∷ rs) (record_events form limit s h x.state r ++ es) y
+      → (Some AnyFailure (done_with doing x r).failures → Some AnyFailure y.failures) → Whole rs es y → Whole (r ∷ rs) (record_events 8 limit s h x.state r ++ es) y
   unfolding done_with record_events
-  whole_more x r rs es y = go (eqb (status_code (tried form limit s h x.state r).status) 0) (failing (tried form limit s h x.state r).status r)
+  whole_more x r rs es y = go (eqb (status_code (tried 8 limit s h x.state r).status) 0) (failing (tried 8 limit s h x.state r).status r)
     where
       go : (b : Bool) (f : Failure) → (Some AnyFailure (cond b x.failures (x.failures ++ (f ∷ []))) → Some AnyFailure y.failures) → Whole rs es y
           → Whole (r ∷ rs) (cond b (done_events s h r) [] ++ es) y
@@ -281,32 +281,32 @@ module _ (room : ℕ) (head body : List ℕ) (Q : Sofar (List Entry) Failure →
   concluded_seen (stopped x y) q = λ n e. absurd (omega (arith, n))
 
 -- what the records of a frame and their events have, whatever stops them
-abbrev Tells : ℕ → ℕ → List ℕ → ZclHeader → List Entry → List ℕ → (List Event → Sofar (List Entry) Failure → Type 0) → Type 0
-Tells form limit s h l frame-body Q =
+abbrev Tells : ℕ → List ℕ → ZclHeader → List Entry → List ℕ → (List Event → Sofar (List Entry) Failure → Type 0) → Type 0
+Tells limit s h l frame-body Q =
     (fine : Sofar (List Entry) Failure → Bool)
-    → OfThrough (Q (all_events form limit s h l (taken (done_with (configuring form limit s h)) fine (sofar l []) (configures frame-body).list)))
-    (walk (done_with (configuring form limit s h)) fine (sofar l []) (configures frame-body).ending (configures frame-body).list)
+    → OfThrough (Q (all_events 8 limit s h l (taken (done_with (configuring 8 limit s h)) fine (sofar l []) (configures frame-body).list)))
+    (walk (done_with (configuring 8 limit s h)) fine (sofar l []) (configures frame-body).ending (configures frame-body).list)
 
-module _ (form limit : ℕ) (s : List ℕ) (l : List Entry) (h : ZclHeader) (frame-body body : List ℕ) (room : ℕ) (Q : List Event → Sofar (List Entry) Failure → Type 0) (P : List Event → Type 0)
-    (so : (es : List Event) (x : Sofar (List Entry) Failure) → Q es x → encode_failures encode x.failures ≡ body → P es) (tells : Tells form limit s h l frame-body Q) where
+module _ (limit : ℕ) (s : List ℕ) (l : List Entry) (h : ZclHeader) (frame-body body : List ℕ) (room : ℕ) (Q : List Event → Sofar (List Entry) Failure → Type 0) (P : List Event → Type 0)
+    (so : (es : List Event) (x : Sofar (List Entry) Failure) → Q es x → encode_failures encode x.failures ≡ body → P es) (tells : Tells limit s h l frame-body Q) where
   abbrev head : List ℕ
   head = reply_head h ConfigureReportingResponse
 
-  configure_seen : (configure_entries form limit s l h frame-body room).number ≡ 0
-      → take (configure_entries form limit s l h frame-body room).size (configure_entries form limit s l h frame-body room).reply ≡ head ++ body
-      → P (configure_events form limit s l h frame-body room)
+  configure_seen : (configure_entries 8 limit s l h frame-body room).number ≡ 0
+      → take (configure_entries 8 limit s l h frame-body room).size (configure_entries 8 limit s l h frame-body room).reply ≡ head ++ body
+      → P (configure_events 8 limit s l h frame-body room)
   unfolding configure_entries configure_events records_done headed performed pass_from
   configure_seen = go (leb (length head) room)
     where
       es : List Event
-      es = all_events form limit s h l (records_done form limit s h l frame-body room (length head))
+      es = all_events 8 limit s h l (records_done 8 limit s h l frame-body room (length head))
 
       came : Bool → Outcome (List Entry)
-      came b = cond b (performed (configuring form limit s h) (configures frame-body) l room head) (refused room ReplyTooLong l)
+      came b = cond b (performed (configuring 8 limit s h) (configures frame-body) l room head) (refused room ReplyTooLong l)
 
       go : (b : Bool) → (came b).number ≡ 0 → take (came b).size (came b).reply ≡ head ++ body → P (cond b es [])
       go true =
-          concluded_seen room head body (Q es) (P es) (so es) (pass (configuring form limit s h) (fits encode room (length head)) (configures frame-body) l)
+          concluded_seen room head body (Q es) (P es) (so es) (pass (configuring 8 limit s h) (fits encode room (length head)) (configures frame-body) l)
           (tells (λ x. fits encode room (length head) x.failures))
       go false = λ n e. absurd (omega (arith, n))
 
@@ -314,33 +314,33 @@ module _ (form limit : ℕ) (s : List ℕ) (l : List Entry) (h : ZclHeader) (fra
 
 module _ (limit : ℕ) (r : Request) (l : List Entry) (h : ZclHeader) (c : Asks ConfigureReporting r.frame h) where
   abbrev came : Outcome (List Entry)
-  came = configure_entries (entry_size r.form) limit r.store l h (drop h.body r.frame) r.room
+  came = configure_entries 8 limit r.store l h (drop h.body r.frame) r.room
 
   abbrev events : List Event
-  events = configure_events (entry_size r.form) limit r.store l h (drop h.body r.frame) r.room
+  events = configure_events 8 limit r.store l h (drop h.body r.frame) r.room
 
   record Was (o : Outcome State) (es : List Event) : Type 0 where
     answer : o ≡ tabling r.store (within holding came)
     told : es ≡ events
 
   abbrev body_served : HeaderRead → Outcome State
-  body_served x = by_header (entry_size r.form) limit r.store (holding l) r.unicast r.frame r.room x
+  body_served x = by_header 8 limit r.store (holding l) r.unicast r.frame r.room x
 
   by-header : Was (body_served (Header h)) (headed_events limit r l (Header h))
   unfolding by_header typed commanded configure_of command_of
   by-header =
       subst
-      (λ (k : FrameType). Was (typed (entry_size r.form) limit r.store (holding l) r.unicast h (drop h.body r.frame) r.room k)
+      (λ (k : FrameType). Was (typed 8 limit r.store (holding l) r.unicast h (drop h.body r.frame) r.room k)
       (cond (is_global k && eqb h.command_identifier.0 (command_code ConfigureReporting)) events []))
       (sym c.global)
       (subst
-      (λ (n : ℕ). Was (commanded (entry_size r.form) limit r.store (holding l) r.unicast h (drop h.body r.frame) r.room (command_of n))
+      (λ (n : ℕ). Was (commanded 8 limit r.store (holding l) r.unicast h (drop h.body r.frame) r.room (command_of n))
       (cond (eqb n (command_code ConfigureReporting)) events []))
-      (ap command_code (sym c.command) ∙ code-of h.command_identifier.0) (record { answer = refl; told = refl }))
+      (ap command_code (sym c.command) ∙ code_of h.command_identifier.0) (record { answer = refl; told = refl }))
 
   was : (answer_to limit r l).number ≡ 0 → Was (answer_to limit r l) (request_events limit r l)
   unfolding serve tabled request_events
-  was = go (is_store (entry_size r.form) r.store) (eqb r.cluster (cluster_of r.store))
+  was = go (is_store 8 r.store) (eqb r.cluster (cluster_of r.store))
     where
       go : (a b : Bool)
           → (cond a (cond b (body_served (header_of r.frame)) (refused r.room OtherCluster (state r.store (holding l)))) (refused r.room NotAStore (state r.store (holding l)))).number ≡ 0
@@ -353,12 +353,12 @@ module _ (limit : ℕ) (r : Request) (l : List Entry) (h : ZclHeader) (c : Asks 
   -- so what follows from the reply of the command follows from that of the request
   module _ (body : List ℕ) (says : Says limit r l h body) (Q : List Event → Sofar (List Entry) Failure → Type 0) (P : List Event → Type 0)
       (so : (es : List Event) (x : Sofar (List Entry) Failure) → Q es x → encode_failures encode x.failures ≡ body → P es)
-      (tells : Tells (entry_size r.form) limit r.store h l (drop h.body r.frame) Q) where
+      (tells : Tells limit r.store h l (drop h.body r.frame) Q) where
     request_seen : P (request_events limit r l)
     request_seen =
         let w = was says.number in
         subst P (sym w.told)
-        (configure_seen (entry_size r.form) limit r.store l h (drop h.body r.frame) body r.room Q P so tells
+        (configure_seen limit r.store l h (drop h.body r.frame) body r.room Q P so tells
         (sym (ap (λ (o : Outcome State). o.number) w.answer) ∙ says.number)
         (sym (ap (λ (o : Outcome State). take o.size o.reply) w.answer) ∙ says.reply))
 
@@ -366,10 +366,10 @@ module _ (limit : ℕ) (r : Request) (l : List Entry) (h : ZclHeader) (c : Asks 
 
 pub success_is_events : SuccessIsEvents
 success_is_events limit r l h c says =
-    request_seen limit r l h c (0x00 ∷ []) says (Whole (entry_size r.form) limit r.store h (records_of r.frame h)) (λ es. es ≡ succeeding r.store h (records_of r.frame h)) so
-    (λ fine. walk_tells (entry_size r.form) limit r.store h (AnyFailure (entry_size r.form) limit r.store h) (Whole (entry_size r.form) limit r.store h) (λ y. inr refl) (whole_more (entry_size r.form) limit r.store h) fine _ (records_of r.frame h) (sofar l []))
+    request_seen limit r l h c (0x00 ∷ []) says (Whole limit r.store h (records_of r.frame h)) (λ es. es ≡ succeeding r.store h (records_of r.frame h)) so
+    (λ fine. walk_tells limit r.store h (AnyFailure limit r.store h) (Whole limit r.store h) (λ y. inr refl) (whole_more limit r.store h) fine _ (records_of r.frame h) (sofar l []))
   where
-    so : (es : List Event) (x : Sofar (List Entry) Failure) → Whole (entry_size r.form) limit r.store h (records_of r.frame h) es x → encode_failures encode x.failures ≡ 0x00 ∷ []
+    so : (es : List Event) (x : Sofar (List Entry) Failure) → Whole limit r.store h (records_of r.frame h) es x → encode_failures encode x.failures ≡ 0x00 ∷ []
         → es ≡ succeeding r.store h (records_of r.frame h)
     so es x (inl m) e = absurd (one_lists_none x.failures m e)
     so es x (inr q) e = q
@@ -377,14 +377,14 @@ success_is_events limit r l h c says =
 pub accepted_is_configured : AcceptedIsConfigured
 accepted_is_configured limit r l h body id t g c says among not low high =
     among_some (configured (key_for r.store h id) g) (request_events limit r l)
-    (request_seen limit r l h c body says (Brings (entry_size r.form) limit r.store h id t g low high (records_of r.frame h)) (Some (λ e. configured (key_for r.store h id) g ≡ e)) so
-    (λ fine. walk_tells (entry_size r.form) limit r.store h (Named (entry_size r.form) limit r.store h id t g low high) (Brings (entry_size r.form) limit r.store h id t g low high) (brings_none (entry_size r.form) limit r.store h id t g low high)
-    (brings_more (entry_size r.form) limit r.store h id t g low high) fine _ (records_of r.frame h) (sofar l [])))
+    (request_seen limit r l h c body says (Brings limit r.store h id t g low high (records_of r.frame h)) (Some (λ e. configured (key_for r.store h id) g ≡ e)) so
+    (λ fine. walk_tells limit r.store h (Named limit r.store h id t g low high) (Brings limit r.store h id t g low high) (brings_none limit r.store h id t g low high)
+    (brings_more limit r.store h id t g low high) fine _ (records_of r.frame h) (sofar l [])))
   where
-    so : (es : List Event) (x : Sofar (List Entry) Failure) → Brings (entry_size r.form) limit r.store h id t g low high (records_of r.frame h) es x → encode_failures encode x.failures ≡ body
+    so : (es : List Event) (x : Sofar (List Entry) Failure) → Brings limit r.store h id t g low high (records_of r.frame h) es x → encode_failures encode x.failures ≡ body
         → Some (λ e. configured (key_for r.store h id) g ≡ e) es
     so es x m e = go (m (some_among (reported id t g) (records_of r.frame h) among))
       where
-        go : Some (λ e. configured (key_for r.store h id) g ≡ e) es ⊎ Some (Named (entry_size r.form) limit r.store h id t g low high) x.failures → Some (λ e. configured (key_for r.store h id) g ≡ e) es
+        go : Some (λ e. configured (key_for r.store h id) g ≡ e) es ⊎ Some (Named limit r.store h id t g low high) x.failures → Some (λ e. configured (key_for r.store h id) g ≡ e) es
         go (inl w) = w
-        go (inr f) = absurd (not (subst (Fails id) e (listed_failures (entry_size r.form) limit r.store h id t g low high x.failures f)))
+        go (inr f) = absurd (not (subst (Fails id) e (listed_failures limit r.store h id t g low high x.failures f)))

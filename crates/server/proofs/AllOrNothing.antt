@@ -9,13 +9,13 @@ use borrow.Author.Tests.{le-leb, lt-leb, leb-false}
 use Rattle.frame.specs.declared.header.ZclHeader.{ZclHeader}
 use Rattle.frame.specs.declared.command_identifier.CommandIdentifier.TheVariants.{WriteAttributesUndivided, WriteAttributesResponse}
 use Rattle.frame.specs.declared.answer.Refusal.TheVariants.{RecordCut, ReplyTooLong}
-use Rattle.frame.specs.Header.{reply_head, head_size}
+use Rattle.frame.specs.Header.{reply_head}
 use Rattle.frame.specs.Answer.{Outcome, replied, refused}
 use Rattle.frame.specs.Encoded.{encode_all, fits}
 use Rattle.frame.specs.Failures.{answered}
 use Rattle.frame.proofs.Headers.{reply_head_length}
-use Rattle.frame.proofs.Encoded.{fits_within, fits_none}
-use Rattle.store.specs.Contents.{cluster_of, entry_size}
+use Rattle.frame.proofs.Encoded.{fits_within}
+use Rattle.store.specs.Contents.{cluster_of}
 use Rattle.store.specs.Layout.{is_store}
 use Rattle.reporting.specs.declared.entry.Entry.{Entry}
 use Rattle.reporting.specs.Table.{Table, capacity, holding}
@@ -29,12 +29,11 @@ use Rattle.server.specs.Serve.{State, state, storing, commanded, serve}
 use Rattle.server.specs.Claims.Asks.{Asks}
 use Rattle.server.specs.Claims.AllOrNothing.{Readable, Unreadable, failures_over, AllOrNothing, store_of, AllOrNothingServed, AllOrNothingHandled}
 use Rattle.server.proofs.Heard.{reaches}
-use Rattle.server.proofs.Undivided.{never, some_none, left}
-use Rattle.store.proofs.Contents.{entry-size}
+use Rattle.server.proofs.Undivided.{never, some_none, left, none}
 
 -- ---- the command
 
-module _ (form : ℕ) (s : List ℕ) (h : ZclHeader) (body : List ℕ) (room : ℕ) (wide : 8 ≤ form) (is : is_store form s ≡ true) (byte : head_size h + 1 ≤ room) where
+module _ (form : ℕ) (s : List ℕ) (h : ZclHeader) (body : List ℕ) (room : ℕ) (wide : 8 ≤ form) (is : is_store form s ≡ true) (byte : 4 ≤ room) where
   abbrev head : List ℕ
   head = reply_head h WriteAttributesResponse
 
@@ -48,16 +47,16 @@ module _ (form : ℕ) (s : List ℕ) (h : ZclHeader) (body : List ℕ) (room : �
   all = written_all form h body s
 
   abbrev Way : Type 0
-  Way = Decided room h s all (records body).ending fs o
+  Way = Decided room head s all (records body).ending fs o
 
   -- no failure fits
-  empty_full : {A : Type 0} → fits encode room (head_size h) fs ≡ false → fs ≡ [] → A
+  empty_full : {A : Type 0} → fits encode room 3 fs ≡ false → fs ≡ [] → A
   empty_full f z =
-      let y : true ≡ false = sym (ap (fits encode room (head_size h)) z ∙ fits_none encode _ _ (omega arith)) ∙ f in
+      let y : true ≡ false = sym (ap (fits encode room 3) z ∙ none (omega arith)) ∙ f in
       let k : ◌≡◌ {A = ℕ} 0 1 = cc in
       absurd (omega arith)
 
-  unread_is : Unreadable body → Way → o ≡ refused room (cond (fits encode room (head_size h) fs) RecordCut ReplyTooLong) s
+  unread_is : Unreadable body → Way → o ≡ refused room (cond (fits encode room 3 fs) RecordCut ReplyTooLong) s
   unread_is u (tight k e) = absurd (omega arith)
   unread_is u (full k f e) = e ∙ ap (λ (b : Bool). refused room (cond b RecordCut ReplyTooLong) s) (sym f)
   unread_is u (broke k f c e) = e ∙ ap (λ (b : Bool). refused room (cond b RecordCut ReplyTooLong) s) (sym f)
@@ -87,18 +86,18 @@ module _ (form : ℕ) (s : List ℕ) (h : ZclHeader) (body : List ℕ) (room : �
   abbrev out : List ℕ
   out = head ++ encode_all encode fs
 
-  out_length : length out ≡ head_size h + length (encode_all encode fs)
+  out_length : length out ≡ 3 + length (encode_all encode fs)
   out_length = length-append head (encode_all encode fs) ∙ ap (λ (n : ℕ). n + length (encode_all encode fs)) (reply_head_length h WriteAttributesResponse)
 
   lists_is : Readable body → (fs ≡ [] → ⊥) → Way → o ≡ answered room out s
   unfolding answered fits
   lists_is r n (tight k e) = absurd (omega arith)
   lists_is r n (full k f e) =
-      let past : room < length out = omega (arith, out_length, leb-false (head_size h + length (encode_all encode fs)) room f) in
+      let past : room < length out = omega (arith, out_length, leb-false (3 + length (encode_all encode fs)) room f) in
       e ∙ sym (ap (λ (b : Bool). cond b (replied room out s) (refused room ReplyTooLong s)) (lt-leb (length out) room past))
   lists_is r n (broke k f c e) = never (sym r ∙ c)
   lists_is r n (listed k f c x l z e) =
-      let whole : length out ≤ room = omega (arith, out_length, fits_within encode room (head_size h) fs f) in
+      let whole : length out ≤ room = omega (arith, out_length, fits_within encode room 3 fs f) in
       e
       ∙ ap (λ (l : List Failure). replied room (head ++ encode_all encode l) s) (sym z)
       ∙ sym (ap (λ (b : Bool). cond b (replied room out s) (refused room ReplyTooLong s)) (le-leb (length out) room whole))
@@ -131,7 +130,7 @@ all_or_nothing_served form limit s l cluster unicast frame room h wide is own as
     (subst (λ (x : Outcome State). AllOrNothing form s h (drop h.body frame) room (store_of x)) (sym e) w, ap (λ (x : Outcome State). x.state.table) e)
 
 pub all_or_nothing_handled : AllOrNothingHandled
-all_or_nothing_handled store form table l cluster unicast request reply h r x s is kept own asks byte e =
-    let k = e ∙ ap (λ (t : Table). serve (entry_size form) capacity store t cluster.0 unicast request (length reply)) kept in
-    let w = all_or_nothing_served (entry_size form) capacity store l cluster.0 unicast request (length reply) h (entry-size form).0 is own asks byte in
-    (subst (λ (o : Outcome State). AllOrNothing (entry_size form) store h (drop h.body request) (length reply) (store_of o)) (sym k) w.0, ap (λ (o : Outcome State). o.state.table) k ∙ w.1)
+all_or_nothing_handled store table l cluster unicast request reply h r x s is kept own asks byte e =
+    let k = e ∙ ap (λ (t : Table). serve 8 capacity store t cluster.0 unicast request (length reply)) kept in
+    let w = all_or_nothing_served 8 capacity store l cluster.0 unicast request (length reply) h (omega arith) is own asks byte in
+    (subst (λ (o : Outcome State). AllOrNothing 8 store h (drop h.body request) (length reply) (store_of o)) (sym k) w.0, ap (λ (o : Outcome State). o.state.table) k ∙ w.1)

@@ -3,12 +3,11 @@ use mathlib.Core.Path.{◌≡◌, refl, sym, ap, ◌∙◌, subst}
 use mathlib.Core.Bool.{Bool, true, false, cond, ◌&&◌, true≢false}
 use mathlib.Core.List.{List, [], ◌∷◌, ◌++◌}
 use mathlib.Core.Option.{Option, none, some}
-use Prim.Native.Nat.{ℕ, ◌/◌, ◌%◌, ◌≤◌}
+use Prim.Native.Nat.{ℕ, ◌≤◌}
 use native.Mathlib.Omega.{arith}
 use lib.ListN.{length, take, drop}
 use lib.Dec.{eqb}
-use borrow.Author.Tests.{eqb-true, eqb-false, eq-eqb, ne_eqb}
-use Rattle.types.specs.Number.{unsigned_at}
+use borrow.Author.Tests.{eqb-true, eq-eqb, ne_eqb}
 use Rattle.frame.specs.declared.header.ZclHeader.{ZclHeader}
 use Rattle.frame.specs.declared.header.HeaderRead.{HeaderRead}
 use Rattle.frame.specs.declared.header.HeaderRead.TheVariants.{Header, Short}
@@ -23,8 +22,8 @@ use Rattle.frame.specs.CommandIdentifier.{command_code, command_of}
 use Rattle.frame.specs.Header.{frame_type_of, is_global, header_with, header_of, reply_head}
 use Rattle.frame.specs.Answer.{refusal_number, Outcome, no_state, replied, refused}
 use Rattle.frame.proofs.Buffer.{take_padded}
-use Rattle.frame.proofs.Codes.{refusal_nonzero, code-of}
-use Rattle.frame.proofs.Headers.{header_plain, header_coded, reply_head_plain, reply_head_coded}
+use Rattle.frame.proofs.Codes.{refusal_nonzero, code_of}
+use Rattle.frame.proofs.Headers.{header_plain}
 use Rattle.store.specs.Contents.{cluster_of}
 use Rattle.store.specs.Layout.{is_store}
 use Rattle.reporting.specs.declared.entry.Entry.{Entry}
@@ -87,28 +86,11 @@ abbrev Reply : List ℕ → Type 0
 Reply frame = (c : CommandIdentifier) × Response c × Is c frame
 
 -- what stands behind a reply's head is a frame of that command
-headed_plain : (c : CommandIdentifier) (sequence : ℕ) (rest : List ℕ) → Response c → Is c (0x18 ∷ sequence ∷ command_code c ∷ rest)
-unfolding frame_type_of
-headed_plain c sequence rest r =
-    let frame : List ℕ = 0x18 ∷ sequence ∷ command_code c ∷ rest in
-    record { h = header_with frame 0 0; header = header_plain frame refl (omega arith); global = refl; command_is = r.own }
-
-headed_coded : (c : CommandIdentifier) (a b sequence : ℕ) (rest : List ℕ) → Response c → Is c (0x1c ∷ a ∷ b ∷ sequence ∷ command_code c ∷ rest)
-unfolding frame_type_of
-headed_coded c a b sequence rest r =
-    let frame : List ℕ = 0x1c ∷ a ∷ b ∷ sequence ∷ command_code c ∷ rest in
-    record { h = header_with frame (unsigned_at frame 1 2) 2; header = header_coded frame refl (omega arith); global = refl; command_is = r.own }
-
 headed_is : (request : ZclHeader) (c : CommandIdentifier) (rest : List ℕ) → Response c → Is c (reply_head request c ++ rest)
-headed_is request c rest r = go (eqb code 0) refl
-  where
-    code : ℕ
-    code = request.manufacturer_code.0
-
-    go : (b : Bool) → eqb code 0 ≡ b → Is c (reply_head request c ++ rest)
-    go true e = subst (λ (l : List ℕ). Is c (l ++ rest)) (sym (reply_head_plain request c (eqb-true code 0 e))) (headed_plain c request.sequence_number rest r)
-    go false e =
-        subst (λ (l : List ℕ). Is c (l ++ rest)) (sym (reply_head_coded request c (eqb-false code 0 e))) (headed_coded c (code % 256) (code / 256 % 256) request.sequence_number rest r)
+unfolding reply_head frame_type_of
+headed_is request c rest r =
+    let frame : List ℕ = reply_head request c ++ rest in
+    record { h = header_with frame 0 0; header = header_plain frame refl (omega arith); global = refl; command_is = r.own }
 
 -- ---- what is sent
 
@@ -198,7 +180,7 @@ answer_sends (responding served cluster unicast room) frame r = response_sends s
 is_default : (frame : List ℕ) → Is DefaultResponse frame → IsDefaultResponse frame
 is_default frame i =
     let n : ℕ = i.h.command_identifier.0 in
-    let e : n ≡ command_code DefaultResponse = sym (code-of n) ∙ ap command_code i.command_is in
+    let e : n ≡ command_code DefaultResponse = sym (code_of n) ∙ ap command_code i.command_is in
     (i.h, i.header, ap (λ (k : FrameType). is_global k && eqb n (command_code DefaultResponse)) i.global ∙ eq-eqb n (command_code DefaultResponse) e)
 
 -- ---- to a Default Response: nothing
@@ -281,14 +263,14 @@ answer_to_answer a b frame reply next e g =
 
 -- ---- a report
 
-report_replies : (form : ℕ) (s : List ℕ) (code sequence : ℕ) (ids : List ℕ) (room : ℕ) → Sent Reply (sent (report_of form s code sequence ids room))
-report_replies form s code sequence ids room =
-    says_sent room _ Reply (reply_head (unasked code sequence) ReportAttributes)
-    (λ rest. (ReportAttributes, report_response, headed_is (unasked code sequence) ReportAttributes rest report_response)) (report-says form s room code sequence ids)
+report_replies : (form : ℕ) (s : List ℕ) (sequence : ℕ) (ids : List ℕ) (room : ℕ) → Sent Reply (sent (report_of form s sequence ids room))
+report_replies form s sequence ids room =
+    says_sent room _ Reply (reply_head (unasked sequence) ReportAttributes)
+    (λ rest. (ReportAttributes, report_response, headed_is (unasked sequence) ReportAttributes rest report_response)) (report-says form s room sequence ids)
 
 pub answer_to_report : AnswerToReport
-answer_to_report form s code sequence ids room b frame next e g =
-    is_default next (sent_is (Is DefaultResponse) _ next g (answer_sends b frame (sent_is Reply _ frame e (report_replies form s code sequence ids room))))
+answer_to_report form s sequence ids room b frame next e g =
+    is_default next (sent_is (Is DefaultResponse) _ next g (answer_sends b frame (sent_is Reply _ frame e (report_replies form s sequence ids room))))
 
 pub report_chain_ends : ReportChainEnds
-report_chain_ends form s code sequence ids room boxes frame e = one_sent boxes frame (sent_is Reply _ frame e (report_replies form s code sequence ids room))
+report_chain_ends form s sequence ids room boxes frame e = one_sent boxes frame (sent_is Reply _ frame e (report_replies form s sequence ids room))

@@ -78,39 +78,39 @@ module _ (form : ℕ) (s : List ℕ) (room : ℕ) where
       go false b e = tt
   by_fits head rs id Nothing = tt
 
-  turn_fits : (code head : ℕ) (y : Reported) (id : ℕ) → Fit head y → Unit {0} → Fit head (report_one form s code room head y id)
-  turn_fits code head (all rs) id h u = by_fits head rs id (find_of form s (name_of code id))
-  turn_fits code head (trouble why) id h u = tt
+  turn_fits : (head : ℕ) (y : Reported) (id : ℕ) → Fit head y → Unit {0} → Fit head (report_one form s room head y id)
+  turn_fits head (all rs) id h u = by_fits head rs id (find_of form s (name_of 0 id))
+  turn_fits head (trouble why) id h u = tt
 
-  from_fits : (code head : ℕ) (ids : List ℕ) (rs : List ReportRecord) → head + length (encode_all encode rs) ≤ room → Fit head (report_from form s code room head rs ids)
+  from_fits : (head : ℕ) (ids : List ℕ) (rs : List ReportRecord) → head + length (encode_all encode rs) ≤ room → Fit head (report_from form s room head rs ids)
   unfolding report_from
-  from_fits code head ids rs h = walk_keeps (report_one form s code room head) goes_on (Fit head) (λ id. Unit {0}) (turn_fits code head) done ids (all rs) h (any ids)
+  from_fits head ids rs h = walk_keeps (report_one form s room head) goes_on (Fit head) (λ id. Unit {0}) (turn_fits head) done ids (all rs) h (any ids)
 
   reply_says : (head : List ℕ) (y : Reported) → Fit (length head) y → Says head room (report_reply room head y)
   unfolding report_reply
   reply_says head (all rs) h = sends (encode_all encode rs) (omega (arith, length-append head (encode_all encode rs))) refl
   reply_says head (trouble why) h = declines why refl
 
-  pub report-says : (code sequence : ℕ) (ids : List ℕ) → Says (reply_head (unasked code sequence) ReportAttributes) room (report_of form s code sequence ids room)
+  pub report-says : (sequence : ℕ) (ids : List ℕ) → Says (reply_head (unasked sequence) ReportAttributes) room (report_of form s sequence ids room)
   unfolding report_of
-  report-says code sequence ids =
-      says_either (reply_head (unasked code sequence) ReportAttributes) room (is_store form s) _ _ (go (leb (length head) room) refl) (declines NotAStore refl)
+  report-says sequence ids =
+      says_either (reply_head (unasked sequence) ReportAttributes) room (is_store form s) _ _ (go (leb (length head) room) refl) (declines NotAStore refl)
     where
       head : List ℕ
-      head = reply_head (unasked code sequence) ReportAttributes
+      head = reply_head (unasked sequence) ReportAttributes
 
       go : (b : Bool) → leb (length head) room ≡ b
           → Says head room
-          (cond b (cond (ltb 0 (length ids)) (report_reply room head (report_from form s code room (length head) [] ids)) (refused room EmptyReport no_state)) (refused room ReplyTooLong no_state))
+          (cond b (cond (ltb 0 (length ids)) (report_reply room head (report_from form s room (length head) [] ids)) (refused room EmptyReport no_state)) (refused room ReplyTooLong no_state))
       go true e =
-          says_either head room (ltb 0 (length ids)) _ _ (reply_says head _ (from_fits code (length head) ids [] (none_fit (length head) (leb-true _ _ e)))) (declines EmptyReport refl)
+          says_either head room (ltb 0 (length ids)) _ _ (reply_says head _ (from_fits (length head) ids [] (none_fit (length head) (leb-true _ _ e)))) (declines EmptyReport refl)
       go false e = declines ReplyTooLong refl
 
 pub report_clears : ReportClears
-report_clears form s code sequence ids room = says_clears _ room _ (report-says form s room code sequence ids)
+report_clears form s sequence ids room = says_clears _ room _ (report-says form s room sequence ids)
 
 pub report_then_zeros : ReportThenZeros
-report_then_zeros form s code sequence ids room = says_zeros _ room _ (report-says form s room code sequence ids)
+report_then_zeros form s sequence ids room = says_zeros _ room _ (report-says form s room sequence ids)
 
 pub report_length : ReportLength
-report_length form s code sequence ids room = says_long _ room _ (report-says form s room code sequence ids)
+report_length form s sequence ids room = says_long _ room _ (report-says form s room sequence ids)

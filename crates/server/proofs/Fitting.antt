@@ -1,5 +1,5 @@
 -- What a request made of bytes configures, and what a turn over bytes marks, is within the widths of a table's bytes. Assumes nothing.
-use mathlib.Core.Path.{◌≡◌, refl, subst, ap}
+use mathlib.Core.Path.{◌≡◌, refl, subst}
 use mathlib.Core.Bool.{Bool, true, false, cond, ◌&&◌}
 use mathlib.Core.List.{List, [], ◌∷◌, ◌++◌}
 use Prim.Native.Nat.{ℕ, min, ◌+◌, ◌-◌, ◌*◌, ◌^◌, ◌≤◌, ◌<◌}
@@ -22,13 +22,12 @@ use Rattle.frame.specs.declared.header.ZclHeader.{ZclHeader}
 use Rattle.frame.specs.declared.header.HeaderRead.{HeaderRead}
 use Rattle.frame.specs.declared.header.HeaderRead.TheVariants.{Header, Short}
 use Rattle.frame.specs.declared.command_identifier.CommandIdentifier.TheVariants.{ConfigureReporting}
-use Rattle.frame.specs.Header.{frame_type_of, has_code, header_of, is_global}
-use Rattle.frame.proofs.Headers.{header_is}
+use Rattle.frame.specs.Header.{frame_type_of, header_of, is_global}
 use Rattle.frame.specs.CommandIdentifier.{command_code}
 use Rattle.frame.specs.Walk.{Item, item, unread, records_from, All}
 use Rattle.frame.proofs.Walks.{records_all}
 use Rattle.store.specs.declared.lookup.Attribute.{Attribute}
-use Rattle.store.specs.Contents.{cluster_of, entry_size}
+use Rattle.store.specs.Contents.{cluster_of}
 use Rattle.store.specs.Layout.{is_store}
 use Rattle.store.specs.Value.{numbered_by}
 use Rattle.reporting.specs.declared.entry.Key.{Key}
@@ -91,17 +90,7 @@ change_below s p t h = go (is_analog t)
 
 -- ---- of a record, a frame and a request
 
-code_by : (s : List ℕ) → AllBytes s → (c : Bool) → cond c (unsigned_at s 1 2) 0 < 65536
-code_by s b true = unsigned_below s 1 2 b
-code_by s b false = omega arith
-
--- a header's code is a number of two bytes
-code_fits : (s : List ℕ) (h : ZclHeader) → AllBytes s → header_of s ≡ Header h → h.manufacturer_code.0 < 65536
-code_fits s h b e =
-    let w = header_is s h e in
-    omega (arith, code_by s b (has_code (get_or s 0 0)), ap (λ (x : ZclHeader). x.manufacturer_code.0) w.1)
-
-module _ (s : List ℕ) (store : AllBytes s) (h : ZclHeader) (coded : h.manufacturer_code.0 < 65536) where
+module _ (s : List ℕ) (store : AllBytes s) (h : ZclHeader) where
   abbrev Fitting : ConfigureRecord → Type 0
   Fitting (received direction id) = Unit {0}
   Fitting (reported id t g) = Clean (fresh (key_for s h id) g)
@@ -113,7 +102,6 @@ module _ (s : List ℕ) (store : AllBytes s) (h : ZclHeader) (coded : h.manufact
   reported_fits : (body : List ℕ) (p id-at t : ℕ) → AllBytes body → Fitting (reported (unsigned_at body id-at 2) t (config_at body p t))
   reported_fits body p id-at t b = record {
     cluster = unsigned_below s 0 2 store;
-    code = coded;
     attribute = unsigned_below body id-at 2 b;
     minimum = unsigned_below body p 2 b;
     maximum = unsigned_below body (p + 2) 2 b;
@@ -152,19 +140,19 @@ module _ (s : List ℕ) (store : AllBytes s) (h : ZclHeader) (coded : h.manufact
   record_fits (received direction id) c = tt
   record_fits (reported id t g) c = wish_fits (key_for s h id) g (wish g) c
 
-  configure_fits : (form limit : ℕ) (l : List Entry) (body : List ℕ) (room : ℕ) → AllBytes body → AllFit (configure_events form limit s l h body room)
-  configure_fits form limit l body room b = configure_keeps form limit s h AllFit Fitting tt fit_append record_fits l body room (records_fit body b)
+  configure_fits : (limit : ℕ) (l : List Entry) (body : List ℕ) (room : ℕ) → AllBytes body → AllFit (configure_events 8 limit s l h body room)
+  configure_fits limit l body room b = configure_keeps 8 limit s h AllFit Fitting tt fit_append record_fits l body room (records_fit body b)
 
 module _ (limit : ℕ) (r : Request) (l : List Entry) (store : AllBytes r.store) (frame : AllBytes r.frame) where
-  headed_fits : (x : HeaderRead) → header_of r.frame ≡ x → AllFit (headed_events limit r l x)
-  headed_fits Short e = tt
-  headed_fits (Header h) e =
+  headed_fits : (x : HeaderRead) → AllFit (headed_events limit r l x)
+  headed_fits Short = tt
+  headed_fits (Header h) =
       fit_either (is_global (frame_type_of h.frame_control.0) && eqb h.command_identifier.0 (command_code ConfigureReporting)) _
-      (configure_fits r.store store h (code_fits r.frame h frame e) (entry_size r.form) limit l (drop h.body r.frame) r.room (bytes_drop r.frame h.body frame))
+      (configure_fits r.store store h limit l (drop h.body r.frame) r.room (bytes_drop r.frame h.body frame))
 
   pub request_fits : AllFit (request_events limit r l)
   unfolding request_events
-  request_fits = fit_either (is_store (entry_size r.form) r.store && eqb r.cluster (cluster_of r.store)) _ (headed_fits (header_of r.frame) refl)
+  request_fits = fit_either (is_store 8 r.store && eqb r.cluster (cluster_of r.store)) _ (headed_fits (header_of r.frame))
 
 -- ---- of a turn
 

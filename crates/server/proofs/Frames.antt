@@ -12,7 +12,7 @@ use Rattle.frame.specs.declared.command_identifier.CommandIdentifier.TheVariants
 use Rattle.frame.specs.Header.{frame_type_of, header_of, is_global}
 use Rattle.frame.specs.CommandIdentifier.{command_code}
 use Rattle.frame.proofs.Walks.{any}
-use Rattle.store.specs.Contents.{cluster_of, entry_size}
+use Rattle.store.specs.Contents.{cluster_of}
 use Rattle.store.specs.Layout.{is_store}
 use Rattle.reporting.specs.declared.entry.Key.{Key}
 use Rattle.reporting.specs.declared.entry.ReportingConfig.{ReportingConfig}
@@ -76,13 +76,13 @@ module _ (limit : ℕ) (r : Request) (l : List Entry) where
   headed_ruled Short = tt
   headed_ruled (Header h) =
       ruled_either (is_global (frame_type_of h.frame_control.0) && eqb h.command_identifier.0 (command_code ConfigureReporting)) _
-      (configure_keeps (entry_size r.form) limit r.store h Ruled (λ x. Unit {0}) tt ruled_append (λ x u. record_ruled r.store h x) l (drop h.body r.frame) r.room
+      (configure_keeps 8 limit r.store h Ruled (λ x. Unit {0}) tt ruled_append (λ x u. record_ruled r.store h x) l (drop h.body r.frame) r.room
       (any (configures (drop h.body r.frame)).list))
 
   -- WHAT A REQUEST CONFIGURES, THE RULE ACCEPTS
   pub request_ruled : Ruled (request_events limit r l)
   unfolding request_events
-  request_ruled = ruled_either (is_store (entry_size r.form) r.store && eqb r.cluster (cluster_of r.store)) _ (headed_ruled (header_of r.frame))
+  request_ruled = ruled_either (is_store 8 r.store && eqb r.cluster (cluster_of r.store)) _ (headed_ruled (header_of r.frame))
 
 -- ---- demand 3
 

@@ -21,8 +21,8 @@ use Rattle.frame.specs.Header.{frame_type_of, header_of, is_global}
 use Rattle.frame.specs.CommandIdentifier.{command_code, command_of}
 use Rattle.frame.specs.Answer.{refused}
 use Rattle.frame.specs.contracts.command_identifier.CommandIdentifier as command-identifier
-use Rattle.frame.proofs.Codes.{code-of, of-code}
-use Rattle.store.specs.Contents.{cluster_of, entry_size}
+use Rattle.frame.proofs.Codes.{code_of, of_code}
+use Rattle.store.specs.Contents.{cluster_of}
 use Rattle.store.specs.Layout.{is_store}
 use Rattle.reporting.specs.declared.entry.Entry.{Entry}
 use Rattle.reporting.specs.Table.{Table, holding, entries_of}
@@ -46,12 +46,12 @@ module _ (limit : ℕ) (r : Request) (l : List Entry) where
   module _ (h : ZclHeader) where
     -- what the header's body would be as a Configure Reporting frame
     abbrev own : List Event
-    own = configure_events (entry_size r.form) limit r.store l h (drop h.body r.frame) r.room
+    own = configure_events 8 limit r.store l h (drop h.body r.frame) r.room
 
     -- only Configure Reporting changes the table, and only it has the code 06
     by_command : (c : CommandIdentifier) → command_of (command_code c) ≡ c
         → Leads limit (cond (eqb (command_code c) (command_code ConfigureReporting)) own []) l
-        (entries_of (commanded (entry_size r.form) limit r.store (holding l) r.unicast h (drop h.body r.frame) r.room c).state.table)
+        (entries_of (commanded 8 limit r.store (holding l) r.unicast h (drop h.body r.frame) r.room c).state.table)
     unfolding commanded configure_of command_of
     by_command ReadAttributes e = nothing limit l
     by_command ReadAttributesResponse e = nothing limit l
@@ -59,7 +59,7 @@ module _ (limit : ℕ) (r : Request) (l : List Entry) where
     by_command WriteAttributesUndivided e = nothing limit l
     by_command WriteAttributesResponse e = nothing limit l
     by_command WriteAttributesNoResponse e = nothing limit l
-    by_command ConfigureReporting e = configure_leads (entry_size r.form) limit r.store l h (drop h.body r.frame) r.room
+    by_command ConfigureReporting e = configure_leads 8 limit r.store l h (drop h.body r.frame) r.room
     by_command ConfigureReportingResponse e = nothing limit l
     by_command ReadReportingConfiguration e = nothing limit l
     by_command ReadReportingConfigurationResponse e = nothing limit l
@@ -74,18 +74,18 @@ module _ (limit : ℕ) (r : Request) (l : List Entry) where
 
     by_type : (k : FrameType)
         → Leads limit (cond (is_global k && eqb h.command_identifier.0 (command_code ConfigureReporting)) own []) l
-        (entries_of (typed (entry_size r.form) limit r.store (holding l) r.unicast h (drop h.body r.frame) r.room k).state.table)
+        (entries_of (typed 8 limit r.store (holding l) r.unicast h (drop h.body r.frame) r.room k).state.table)
     unfolding typed
     by_type GlobalCommand =
         let b : ℕ = h.command_identifier.0 in
         subst
         (λ (n : ℕ). Leads limit (cond (eqb n (command_code ConfigureReporting)) own []) l
-        (entries_of (commanded (entry_size r.form) limit r.store (holding l) r.unicast h (drop h.body r.frame) r.room (command_of b)).state.table))
-        (code-of b) (by_command (command_of b) (of-code b))
+        (entries_of (commanded 8 limit r.store (holding l) r.unicast h (drop h.body r.frame) r.room (command_of b)).state.table))
+        (code_of b) (by_command (command_of b) (of_code b))
     by_type ClusterCommand = nothing limit l
     by_type Reserved = nothing limit l
 
-  by-header : (x : HeaderRead) → Leads limit (headed_events limit r l x) l (entries_of (by_header (entry_size r.form) limit r.store (holding l) r.unicast r.frame r.room x).state.table)
+  by-header : (x : HeaderRead) → Leads limit (headed_events limit r l x) l (entries_of (by_header 8 limit r.store (holding l) r.unicast r.frame r.room x).state.table)
   unfolding by_header
   by-header (Header h) = by_type h (frame_type_of h.frame_control.0)
   by-header Short = nothing limit l
@@ -93,13 +93,13 @@ module _ (limit : ℕ) (r : Request) (l : List Entry) where
   -- A REQUEST IS ITS EVENTS
   pub request_is : Leads limit (request_events limit r l) l (requested limit r l)
   unfolding request_events requested serve tabled
-  request_is = go (is_store (entry_size r.form) r.store) (eqb r.cluster (cluster_of r.store))
+  request_is = go (is_store 8 r.store) (eqb r.cluster (cluster_of r.store))
     where
       go : (a b : Bool)
           → Leads limit (cond (a && b) (headed_events limit r l (header_of r.frame)) []) l
           (entries_of
           (cond a
-          (cond b (by_header (entry_size r.form) limit r.store (holding l) r.unicast r.frame r.room (header_of r.frame)) (refused r.room OtherCluster (state r.store (holding l))))
+          (cond b (by_header 8 limit r.store (holding l) r.unicast r.frame r.room (header_of r.frame)) (refused r.room OtherCluster (state r.store (holding l))))
           (refused r.room NotAStore (state r.store (holding l)))).state.table)
       go true true = by-header (header_of r.frame)
       go true false = nothing limit l
@@ -112,23 +112,23 @@ Held t = t ≡ holding (entries_of t)
 
 module _ (limit : ℕ) (r : Request) where
   commanded_held : (l : List Entry) (h : ZclHeader) (body : List ℕ) (c : CommandIdentifier)
-      → Held (commanded (entry_size r.form) limit r.store (holding l) r.unicast h body r.room c).state.table
+      → Held (commanded 8 limit r.store (holding l) r.unicast h body r.room c).state.table
   unfolding configure_of
   commanded_held l h body =
-      commanded_case (entry_size r.form) limit r.store (holding l) r.unicast body r.room (λ f. Held (f h).state.table)
+      commanded_case 8 limit r.store (holding l) r.unicast body r.room (λ f. Held (f h).state.table)
       (record { read = refl; write = refl; undivided = refl; silently = refl; configure = refl; configuration = refl; discover = refl; response = refl; other = refl })
 
-  pub request_holds : (l : List Entry) → (serve (entry_size r.form) limit r.store (holding l) r.cluster r.unicast r.frame r.room).state.table ≡ holding (requested limit r l)
+  pub request_holds : (l : List Entry) → (serve 8 limit r.store (holding l) r.cluster r.unicast r.frame r.room).state.table ≡ holding (requested limit r l)
   unfolding requested
   request_holds l =
-      serve_case (entry_size r.form) limit r.store r.unicast r.room (λ t o. Held t → Held o.state.table) (λ t why e h. h) (λ l h body c e. commanded_held l h body c) r.cluster r.frame (holding l) refl
+      serve_case 8 limit r.store r.unicast r.room (λ t o. Held t → Held o.state.table) (λ t why e h. h) (λ l h body c e. commanded_held l h body c) r.cluster r.frame (holding l) refl
 
 -- ---- uses
 
 pub use_is : (limit : ℕ) (u : Use) (l : List Entry) → Leads limit (use_events limit u l) l (used limit u l)
 use_is limit (request r) l = request_is limit r l
 use_is limit (direct c) l = call_is limit c l
-use_is limit (turn u) l = turn_leads limit u l
+use_is limit (turn u) l = turn_leads 8 limit u l
 
 pub uses_are_events : UsesAreEvents
 uses_are_events limit [] l = nothing limit l

@@ -1,4 +1,4 @@
--- Two laws of every request and of the responder: neither control bits 3 to 7 nor a manufacturer code of 0000 affect the answer. Assumes nothing.
+-- Two laws of every request and of the responder: neither control bits 3 to 7 nor the manufacturer code affect the answer. Assumes nothing.
 use mathlib.Core.Path.{◌≡◌, refl, sym, ap, ◌∙◌}
 use mathlib.Core.Bool.{Bool, true, false, cond, ◌&&◌}
 use mathlib.Core.List.{List, ◌∷◌}
@@ -7,7 +7,6 @@ use native.Mathlib.Omega.{arith}
 use lib.ListN.{length, get_or, drop}
 use lib.Dec.{leb, eqb}
 use borrow.Author.Tests.{leb-true, leb-false, le-leb, lt-leb, eq-eqb, ne_eqb}
-use Rattle.types.specs.Number.{le, unsigned_at}
 use Rattle.frame.specs.declared.header.ZclHeader.{ZclHeader}
 use Rattle.frame.specs.declared.header.HeaderRead.{HeaderRead}
 use Rattle.frame.specs.declared.header.HeaderRead.TheVariants.{Header, Short}
@@ -25,16 +24,16 @@ use Rattle.store.specs.Layout.{is_store}
 use Rattle.reporting.specs.Table.{Table, holding, bad}
 use Rattle.server.specs.DefaultResponse.{default_response}
 use Rattle.server.specs.Serve.{State, state, typed, by_header, tabled, serve}
-use Rattle.server.specs.Claims.Indifferent.{ControlBitsDoNotMatter, CodeZeroIsNone, ResponderControlBitsDoNotMatter, ResponderCodeZeroIsNone}
+use Rattle.server.specs.Claims.Indifferent.{ControlBitsDoNotMatter, ManufacturerCodeDoesNotMatter, ResponderControlBitsDoNotMatter, ResponderManufacturerCodeDoesNotMatter}
 use Rattle.server.specs.UnsupportedCluster.{is_served, is_default_response, respond, unsupported_cluster}
 use Rattle.server.proofs.Sees.{bare, default_sees, typed_sees}
 
--- a request with this code, sequence number and command, and no more of a header
-abbrev numbered : ℕ → ℕ → ℕ → ZclHeader
-numbered code sequence command =
+-- a request with this sequence number and command, and no more of a header
+abbrev numbered : ℕ → ℕ → ZclHeader
+numbered sequence command =
     record {
       frame_control = record { 0 = 0 };
-      manufacturer_code = record { 0 = code };
+      manufacturer_code = record { 0 = 0 };
       sequence_number = sequence;
       command_identifier = record { 0 = command };
       body = 0;
@@ -63,14 +62,13 @@ two_more n = go (leb 2 n) refl
 module _ {X : Type 0} (made : List ℕ → HeaderRead → X) (by : FrameType → ZclHeader → List ℕ → X) (short : X)
     (sees : (frame : List ℕ) (h : ZclHeader) → made frame (Header h) ≡ by (frame_type_of h.frame_control.0) (bare h) (drop h.body frame))
     (cut : (frame : List ℕ) → made frame Short ≡ short) where
-  -- a frame by its code and what lies behind its control byte: past so many bytes of code, sequence, command, body
-  abbrev behind : FrameType → ℕ → ℕ → List ℕ → X
-  behind k code n rest = cond (leb (n + 2) (length rest)) (by k (numbered code (get_or rest n 0) (get_or rest (n + 1) 0)) (drop (n + 2) rest)) short
+  -- a frame by what lies behind its control byte: past a code of so many bytes, sequence, command, body
+  abbrev behind : FrameType → ℕ → List ℕ → X
+  behind k n rest = cond (leb (n + 2) (length rest)) (by k (numbered (get_or rest n 0) (get_or rest (n + 1) 0)) (drop (n + 2) rest)) short
 
   by_length : (control : ℕ) (rest : List ℕ) (coded : Bool) → has_code control ≡ coded → (b : Bool) → leb (cond coded 2 0 + 2) (length rest) ≡ b
       → made (control ∷ rest) (header_of (control ∷ rest))
-      ≡ cond b (by (frame_type_of control) (numbered (cond coded (unsigned_at rest 0 2) 0) (get_or rest (cond coded 2 0) 0) (get_or rest (cond coded 2 0 + 1) 0)) (drop (cond coded 2 0 + 2) rest)) short
-  unfolding unsigned_at
+      ≡ cond b (by (frame_type_of control) (numbered (get_or rest (cond coded 2 0) 0) (get_or rest (cond coded 2 0 + 1) 0)) (drop (cond coded 2 0 + 2) rest)) short
   by_length control rest true e true l =
       let h : 4 ≤ length rest = leb-true 4 (length rest) l in
       ap (made (control ∷ rest)) (header_coded (control ∷ rest) e (omega arith)) ∙ sees (control ∷ rest) _
@@ -85,7 +83,7 @@ module _ {X : Type 0} (made : List ℕ → HeaderRead → X) (by : FrameType →
       ap (made (control ∷ rest)) (header_short (control ∷ rest) (omega arith)) ∙ cut (control ∷ rest)
 
   header_behind : (control : ℕ) (rest : List ℕ) (coded : Bool) → has_code control ≡ coded
-      → made (control ∷ rest) (header_of (control ∷ rest)) ≡ behind (frame_type_of control) (cond coded (unsigned_at rest 0 2) 0) (cond coded 2 0) rest
+      → made (control ∷ rest) (header_of (control ∷ rest)) ≡ behind (frame_type_of control) (cond coded 2 0) rest
   header_behind control rest coded e = by_length control rest coded e (leb (cond coded 2 0 + 2) (length rest)) refl
 
   -- control bits 3 to 7
@@ -93,17 +91,16 @@ module _ {X : Type 0} (made : List ℕ → HeaderRead → X) (by : FrameType →
       → made (control ∷ rest) (header_of (control ∷ rest)) ≡ made (other ∷ rest) (header_of (other ∷ rest))
   bits_alike control other rest e =
       header_behind control rest (has_code control) refl
-      ∙ ap (λ (k : FrameType). behind k (cond (has_code control) (unsigned_at rest 0 2) 0) (cond (has_code control) 2 0) rest) (type_bits control other (omega (arith, e)))
+      ∙ ap (λ (k : FrameType). behind k (cond (has_code control) 2 0) rest) (type_bits control other (omega (arith, e)))
       ∙ sym (header_behind other rest (has_code control) (sym (code_bit control other e)))
 
-  -- a manufacturer code of 0000
-  code_alike : (control : ℕ) (rest : List ℕ) → control / 4 % 2 ≡ 0
-      → made ((control + 4) ∷ 0 ∷ 0 ∷ rest) (header_of ((control + 4) ∷ 0 ∷ 0 ∷ rest)) ≡ made (control ∷ rest) (header_of (control ∷ rest))
-  unfolding unsigned_at le
-  code_alike control rest e =
-      header_behind (control + 4) (0 ∷ 0 ∷ rest) true coded
-      ∙ ap (λ (k : FrameType). behind k 0 2 (0 ∷ 0 ∷ rest)) (type_bits (control + 4) control (omega arith))
-      ∙ ap (λ (x : Bool). cond x (by (frame_type_of control) (numbered 0 (get_or rest 0 0) (get_or rest 1 0)) (drop 2 rest)) short) (two_more (length rest))
+  -- the manufacturer code
+  code_alike : (control a b : ℕ) (rest : List ℕ) → control / 4 % 2 ≡ 0
+      → made ((control + 4) ∷ a ∷ b ∷ rest) (header_of ((control + 4) ∷ a ∷ b ∷ rest)) ≡ made (control ∷ rest) (header_of (control ∷ rest))
+  code_alike control a b rest e =
+      header_behind (control + 4) (a ∷ b ∷ rest) true coded
+      ∙ ap (λ (k : FrameType). behind k 2 (a ∷ b ∷ rest)) (type_bits (control + 4) control (omega arith))
+      ∙ ap (λ (x : Bool). cond x (by (frame_type_of control) (numbered (get_or rest 0 0) (get_or rest 1 0)) (drop 2 rest)) short) (two_more (length rest))
       ∙ sym (header_behind control rest false plain)
     where
       coded : has_code (control + 4) ≡ true
@@ -146,10 +143,10 @@ control_bits form limit s t cluster unicast room control other rest e =
     served_alike form limit s cluster unicast room (control ∷ rest) (other ∷ rest)
     (λ u. bits_alike (λ frame r. by_header form limit s u unicast frame room r) (served_by form limit s u unicast room) _ (request_sees form limit s u unicast room) (request_cut form limit s u unicast room) control other rest e) t
 
-pub code_zero : CodeZeroIsNone
-code_zero form limit s t cluster unicast room control rest e =
-    served_alike form limit s cluster unicast room ((control + 4) ∷ 0 ∷ 0 ∷ rest) (control ∷ rest)
-    (λ u. code_alike (λ frame r. by_header form limit s u unicast frame room r) (served_by form limit s u unicast room) _ (request_sees form limit s u unicast room) (request_cut form limit s u unicast room) control rest e) t
+pub manufacturer_code : ManufacturerCodeDoesNotMatter
+manufacturer_code form limit s t cluster unicast room control a b rest e =
+    served_alike form limit s cluster unicast room ((control + 4) ∷ a ∷ b ∷ rest) (control ∷ rest)
+    (λ u. code_alike (λ frame r. by_header form limit s u unicast frame room r) (served_by form limit s u unicast room) _ (request_sees form limit s u unicast room) (request_cut form limit s u unicast room) control a b rest e) t
 
 -- ---- the responder
 
@@ -176,7 +173,7 @@ responder_control_bits served cluster unicast room control other rest e =
     responded_alike served cluster unicast room (control ∷ rest) (other ∷ rest)
     (bits_alike (λ frame r. respond unicast room r) (responded_by unicast room) _ (response_sees unicast room) (response_cut unicast room) control other rest e)
 
-pub responder_code_zero : ResponderCodeZeroIsNone
-responder_code_zero served cluster unicast room control rest e =
-    responded_alike served cluster unicast room ((control + 4) ∷ 0 ∷ 0 ∷ rest) (control ∷ rest)
-    (code_alike (λ frame r. respond unicast room r) (responded_by unicast room) _ (response_sees unicast room) (response_cut unicast room) control rest e)
+pub responder_manufacturer_code : ResponderManufacturerCodeDoesNotMatter
+responder_manufacturer_code served cluster unicast room control a b rest e =
+    responded_alike served cluster unicast room ((control + 4) ∷ a ∷ b ∷ rest) (control ∷ rest)
+    (code_alike (λ frame r. respond unicast room r) (responded_by unicast room) _ (response_sees unicast room) (response_cut unicast room) control a b rest e)

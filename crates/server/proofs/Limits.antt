@@ -17,7 +17,7 @@ use Rattle.frame.specs.declared.answer.Refusal.TheVariants.{OtherCluster, NotASt
 use Rattle.frame.specs.Header.{frame_type_of, header_of}
 use Rattle.frame.specs.CommandIdentifier.{command_of}
 use Rattle.frame.specs.Answer.{Outcome, within, refused}
-use Rattle.store.specs.Contents.{cluster_of, entry_size}
+use Rattle.store.specs.Contents.{cluster_of}
 use Rattle.store.specs.Layout.{is_store}
 use Rattle.reporting.specs.declared.entry.Entry.{Entry}
 use Rattle.reporting.specs.Table.{capacity, holding, entries_of}
@@ -33,9 +33,9 @@ module _ (small large : ℕ) (order : small ≤ large) (r : Request) (l : List E
   -- ---- by the command
 
   abbrev asked : ℕ → ZclHeader → CommandIdentifier → Outcome State
-  asked limit x c = commanded (entry_size r.form) limit r.store (holding l) r.unicast x (drop x.body r.frame) r.room c
+  asked limit x c = commanded 8 limit r.store (holding l) r.unicast x (drop x.body r.frame) r.room c
 
-  by_command : (x : ZclHeader) (c : CommandIdentifier) → (c ≡ ConfigureReporting → FrameWithin (entry_size r.form) small large r.store l x (drop x.body r.frame) r.room) → asked small x c ≡ asked large x c
+  by_command : (x : ZclHeader) (c : CommandIdentifier) → (c ≡ ConfigureReporting → FrameWithin 8 small large r.store l x (drop x.body r.frame) r.room) → asked small x c ≡ asked large x c
   unfolding commanded configure_of
   by_command x ReadAttributes w = refl
   by_command x ReadAttributesResponse w = refl
@@ -44,7 +44,7 @@ module _ (small large : ℕ) (order : small ≤ large) (r : Request) (l : List E
   by_command x WriteAttributesResponse w = refl
   by_command x WriteAttributesNoResponse w = refl
   by_command x ConfigureReporting w =
-      ap (λ (o : Outcome (List Entry)). tabling r.store (within holding o)) (configure_limits_agree (entry_size r.form) small large r.store l x (drop x.body r.frame) r.room order (w refl))
+      ap (λ (o : Outcome (List Entry)). tabling r.store (within holding o)) (configure_limits_agree 8 small large r.store l x (drop x.body r.frame) r.room order (w refl))
   by_command x ConfigureReportingResponse w = refl
   by_command x ReadReportingConfiguration w = refl
   by_command x ReadReportingConfigurationResponse w = refl
@@ -55,13 +55,13 @@ module _ (small large : ℕ) (order : small ≤ large) (r : Request) (l : List E
   by_command x (Other b) w = refl
 
   by_type : (x : ZclHeader) (k : FrameType) → header_of r.frame ≡ Header x → frame_type_of x.frame_control.0 ≡ k
-      → typed (entry_size r.form) small r.store (holding l) r.unicast x (drop x.body r.frame) r.room k ≡ typed (entry_size r.form) large r.store (holding l) r.unicast x (drop x.body r.frame) r.room k
+      → typed 8 small r.store (holding l) r.unicast x (drop x.body r.frame) r.room k ≡ typed 8 large r.store (holding l) r.unicast x (drop x.body r.frame) r.room k
   unfolding typed
   by_type x GlobalCommand p q = by_command x (command_of x.command_identifier.0) (λ c. h x (record { header = p; global = q; command = c }))
   by_type x ClusterCommand p q = refl
   by_type x Reserved p q = refl
 
-  by-header : (x : HeaderRead) → header_of r.frame ≡ x → by_header (entry_size r.form) small r.store (holding l) r.unicast r.frame r.room x ≡ by_header (entry_size r.form) large r.store (holding l) r.unicast r.frame r.room x
+  by-header : (x : HeaderRead) → header_of r.frame ≡ x → by_header 8 small r.store (holding l) r.unicast r.frame r.room x ≡ by_header 8 large r.store (holding l) r.unicast r.frame r.room x
   unfolding by_header
   by-header (Header x) p = by_type x (frame_type_of x.frame_control.0) p refl
   by-header Short p = refl
@@ -71,7 +71,7 @@ module _ (small large : ℕ) (order : small ≤ large) (r : Request) (l : List E
   served_same =
       ap
       (λ (o : Outcome State).
-      cond (is_store (entry_size r.form) r.store) (cond (eqb r.cluster (cluster_of r.store)) o (refused r.room OtherCluster (state r.store (holding l)))) (refused r.room NotAStore (state r.store (holding l))))
+      cond (is_store 8 r.store) (cond (eqb r.cluster (cluster_of r.store)) o (refused r.room OtherCluster (state r.store (holding l)))) (refused r.room NotAStore (state r.store (holding l))))
       (by-header (header_of r.frame) refl)
 
 pub serve_limits_agree : ServeLimitsAgree

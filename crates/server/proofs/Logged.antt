@@ -26,7 +26,6 @@ use Rattle.server.specs.Claims.History as History
 use Rattle.server.specs.Claims.Log.{Made, request, method, Contract, next, last, Log, events_of, all_events_of, Demand3OfServer}
 use Rattle.server.proofs.Histories.{use_is, request_holds}
 use Rattle.server.proofs.Frames.{demand_3_of_frames}
-use Rattle.store.specs.Contents.{entry_size}
 
 -- ---- a call is a use
 
@@ -64,7 +63,7 @@ call_is : (c : Made) (t : ReportingTable) (l : List Entry) → All Quiet l → t
 unfolding use_of requested
 call_is (request q r reply store) t l k e h =
     let b : quieted_t (table_of t) ≡ holding l = ap quieted_t e ∙ ap holding (quiet_same l k) in
-    let o = h ∙ ap (λ (x : Table). serve (entry_size q.form) capacity q.store x q.cluster q.unicast q.frame q.room) b in
+    let o = h ∙ ap (λ (x : Table). serve 8 capacity q.store x q.cluster q.unicast q.frame q.room) b in
     record {
       events = ap (λ (x : Table). request_events capacity q (entries_of x)) e;
       table = ap (λ (x : Outcome State). x.state.table) o ∙ request_holds capacity q l;

@@ -4,12 +4,11 @@ use mathlib.Core.Bool.{Bool, true, false, cond}
 use mathlib.Core.List.{List, ◌++◌}
 use Prim.Native.Nat.{ℕ, ◌≤◌}
 use native.Mathlib.Omega.{arith}
-use lib.Seq.{take_at}
 use lib.ListN.{length, take, length-replicate}
 use Rattle.frame.specs.declared.header.ZclHeader.{ZclHeader}
 use Rattle.frame.specs.declared.command_identifier.CommandIdentifier.{CommandIdentifier}
 use Rattle.frame.specs.declared.answer.Refusal.{Refusal}
-use Rattle.frame.specs.Header.{reply_head, head_size}
+use Rattle.frame.specs.Header.{reply_head}
 use Rattle.frame.specs.Reply.{padded}
 use Rattle.frame.specs.Answer.{Outcome, replied, refused}
 use Rattle.frame.proofs.Buffer.{length_padded, take_padded}
@@ -17,7 +16,6 @@ use Rattle.frame.proofs.Codes.{refusal_nonzero}
 use Rattle.server.specs.Claims.Left.{Clears, ThenZeros, AsLong}
 use Rattle.server.specs.Claims.Starts.{Starts}
 use Rattle.server.proofs.Shapes.{Shape, replies, refuses}
-use Rattle.frame.proofs.Headers.{reply_head_length}
 
 pub data Says {S : Type 0} (head : List ℕ) (room : ℕ) (o : Outcome S) : Type 0 where
   sends : (rest : List ℕ) → length (head ++ rest) ≤ room → o ≡ replied room (head ++ rest) o.state → Says head room o
@@ -45,14 +43,14 @@ module _ {S : Type 0} (head : List ℕ) (room : ℕ) where
     says_long (sends rest h e) = ap (λ (x : Outcome S). length x.reply) e ∙ length_padded room (head ++ rest) h
     says_long (declines why e) = ap (λ (x : Outcome S). length x.reply) e ∙ length-replicate room 0
 
--- what the head of a reply says of its first bytes
-pub says_starts : {S : Type 0} (h : ZclHeader) (command : CommandIdentifier) (room : ℕ) (o : Outcome S) → Says (reply_head h command) room o → Starts h command o
+-- what the head of a reply says of its first three bytes
+pub says_starts : {S : Type 0} (h : ZclHeader) (command : CommandIdentifier) (room : ℕ) (o : Outcome S) → Says (reply_head h command) room o → Starts h.sequence_number command o
+unfolding reply_head
 says_starts {S} h command room o (sends rest k e) n =
     let out : List ℕ = reply_head h command ++ rest in
     let r : o.reply ≡ padded room out = ap (λ (x : Outcome S). x.reply) e in
     let z : o.size ≡ length out = ap (λ (x : Outcome S). x.size) e in
-    ap (take (head_size h)) (ap (λ (m : ℕ). take m o.reply) z ∙ ap (take (length out)) r ∙ take_padded room out)
-    ∙ take_at (reply_head h command) rest (head_size h) (reply_head_length h command)
+    ap (take 3) (ap (λ (m : ℕ). take m o.reply) z ∙ ap (take (length out)) r ∙ take_padded room out)
 says_starts {S} h command room o (declines why e) n = absurd (omega (arith, refusal_nonzero why, ap (λ (x : Outcome S). x.number) e, n))
 
 -- ---- a command's outcome

@@ -36,7 +36,7 @@ abbrev pub bare : ZclHeader → ZclHeader
 bare h =
     record {
       frame_control = record { 0 = 0 };
-      manufacturer_code = h.manufacturer_code;
+      manufacturer_code = record { 0 = 0 };
       sequence_number = h.sequence_number;
       command_identifier = h.command_identifier;
       body = 0;

@@ -1,15 +1,11 @@
 -- A list cut in two, of served frames (specs/Claims/Split.antt). Assumes nothing.
 use mathlib.Core.Path.{◌≡◌, sym, ap, ◌∙◌, subst}
 use mathlib.Core.Logic.{inl, inr}
-use mathlib.Core.Bool.{true, cond}
+use mathlib.Core.Bool.{true}
 use mathlib.Core.List.{List, ◌++◌}
 use Prim.Native.Nat.{ℕ, ◌+◌, ◌≤◌}
-use native.Mathlib.Nat.{le_of_eq}
-use lib.Dec.{eqb}
-use Rattle.frame.specs.declared.header.ManufacturerCode.{ManufacturerCode}
 use Rattle.frame.specs.declared.header.ZclHeader.{ZclHeader}
 use Rattle.frame.specs.declared.command_identifier.CommandIdentifier.TheVariants.{WriteAttributes, WriteAttributesResponse, ConfigureReporting, ConfigureReportingResponse}
-use Rattle.frame.specs.Header.{head_size}
 use Rattle.frame.specs.Answer.{Outcome, within}
 use Rattle.frame.specs.Walk.{Records, joined}
 use Rattle.frame.specs.Failures.{Doing}
@@ -35,10 +31,6 @@ use Rattle.configure.proofs.Coded.{same_configuring}
 use Rattle.server.specs.Serve.{State, state}
 use Rattle.server.specs.Claims.Split.{Call, body_of, IsCall, Writes, answer_to, after, Fits, Joined, Readable, NoneRefused, WholeFits, WritesJoin, WritesJoinRoomy, ConfiguresJoin, ConfiguresJoinRoomy}
 use Rattle.server.proofs.Called.{by_write, by_configure, leaves, silent_leaves, write_leaves, after_like, after_own, stays_called, stays_write, joins_by}
-
--- heads of replies to requests of one code are as long
-heads : (p q : ZclHeader) → p.manufacturer_code ≡ q.manufacturer_code → head_size p ≤ head_size q
-heads p q e = le_of_eq (ap (λ (c : ManufacturerCode). cond (eqb c.0 0) 3 5) e)
 
 -- ---- writes
 
@@ -97,7 +89,7 @@ module _ (form limit cluster : ℕ) (wide : 8 ≤ form) (s : List ℕ) (l : List
         ap (λ (o : Outcome State). o.state) (by_write form limit cluster wide s l is own a k)
         ∙ ap (λ (t : List ℕ). state t (holding l))
         (ap (λ (d : Doing (List ℕ) WriteRecord Write.Failure). (executed d a.header WriteAttributesResponse s (records (body_of a)) a.room).state) e
-        ∙ first_leaves (writing form whole.header) WriteAttributesResponse whole.header s (records (body_of a)) (records (body_of b)) whole.room readable whole_fits a.header a.room (heads a.header whole.header j.first_code) h
+        ∙ first_leaves (writing form whole.header) WriteAttributesResponse whole.header s (records (body_of a)) (records (body_of b)) whole.room readable whole_fits a.header a.room h
         ∙ ap (λ (d : Doing (List ℕ) WriteRecord Write.Failure). folded d s one) (sym e))
     first_roomy (inr k) h = silent_leaves form limit cluster wide s l is own a k
 
@@ -109,7 +101,7 @@ module _ (form limit cluster : ℕ) (wide : 8 ≤ form) (s : List ℕ) (l : List
         ap (λ (o : Outcome State). o.state) (by_write form limit cluster wide between l there ours b k)
         ∙ ap (λ (t : List ℕ). state t (holding l))
         ((λ i. (executed (e i) b.header WriteAttributesResponse (same i) (records (body_of b)) b.room).state)
-        ∙ second_leaves (writing form whole.header) WriteAttributesResponse whole.header s (records (body_of a)) (records (body_of b)) whole.room readable whole_fits b.header b.room (heads b.header whole.header j.second_code) h
+        ∙ second_leaves (writing form whole.header) WriteAttributesResponse whole.header s (records (body_of a)) (records (body_of b)) whole.room readable whole_fits b.header b.room h
         ∙ sym steps_join)
     second_roomy (inr k) h = silent_leaves form limit cluster wide between l there ours b k
 
@@ -193,10 +185,10 @@ module _ (form limit cluster : ℕ) (wide : 8 ≤ form) (s : List ℕ) (l : List
       = subst (λ (rs : Records ConfigureRecord). Not5 (executed (doing whole.header) whole.header ConfigureReportingResponse l rs whole.room)) both_lists fit in
       let first : entries l a ≡ folded (doing whole.header) l (own_records a).list
       = ap (λ (d : Doing (List Entry) ConfigureRecord Configure.Failure). (executed d a.header ConfigureReportingResponse l (own_records a) a.room).state) same_first
-      ∙ first_leaves (doing whole.header) ConfigureReportingResponse whole.header l (own_records a) (own_records b) whole.room readable alike a.header a.room (heads a.header whole.header j.first_code) n.0.0 in
+      ∙ first_leaves (doing whole.header) ConfigureReportingResponse whole.header l (own_records a) (own_records b) whole.room readable alike a.header a.room n.0.0 in
       entries_join
       ((λ i. (executed (same_second i) b.header ConfigureReportingResponse (first i) (own_records b) b.room).state)
-      ∙ second_leaves (doing whole.header) ConfigureReportingResponse whole.header l (own_records a) (own_records b) whole.room readable alike b.header b.room (heads b.header whole.header j.second_code) n.0.1
+      ∙ second_leaves (doing whole.header) ConfigureReportingResponse whole.header l (own_records a) (own_records b) whole.room readable alike b.header b.room n.0.1
       ∙ sym (whole_ended fit))
 
 pub writes_join : WritesJoin

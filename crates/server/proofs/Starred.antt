@@ -13,7 +13,7 @@ use Rattle.frame.specs.Encoded.{encode_all, fits}
 use Rattle.frame.specs.Shortened.{with_record_for, shortened_from, shortened_reply, shortened}
 use Rattle.frame.specs.Failures.{done_with, pass_from, encode_failures, answered, concluded, performed, headed}
 use Rattle.frame.specs.Inside.Failures.{noting, concluded_at}
-use Rattle.store.specs.Contents.{attribute_at, attributes_from, attributes_of, find_in, find_of, of_code}
+use Rattle.store.specs.Contents.{attribute_at, attributes_from, attributes_of, find_in, find_of}
 use Rattle.store.specs.Layout.{each, ascending, room_ok, is_text, length_ok, follow_on, end_from, unused_ok, is_store}
 use Rattle.store.specs.Value.{used_of, value_of, fitted, stored, number_of}
 use Rattle.store.specs.Write.{too_long, is_writable, check_of, write_of}
@@ -31,5 +31,5 @@ use Rattle.server.specs.Serve.{commanded, typed, by_header, tabled, serve}
 use Rattle.server.specs.Claims.Bench.{StarredFramesHold}
 
 pub starred_frames_hold : StarredFramesHold
-unfolding all_zero le bytes_of unsigned_at signed_of signed_at residue size_of shape_of is_analog is_reportable is_signed is_float number_at change_at upto times count text series member structure by_shape value_at series_at structure_at frame_type_of header_of reply_head command_of padded put records_in records_from walk encode_all fits with_record_for shortened_from shortened_reply shortened done_with pass_from encode_failures answered concluded performed headed noting concluded_at attribute_at attributes_from attributes_of of_code find_in find_of each ascending room_ok is_text length_ok follow_on end_from unused_ok is_store used_of value_of fitted stored number_of too_long is_writable check_of write_of moved_by id_at encode record_by record_for read_of record_at records_at encode-write-reply written checked write_attributes written_all write_undivided write_silently encode-discover-discover at_or_after listed complete_byte discovered_all discover_reply discover_of change_width configure_at asked_at setting tried configure_entries configure_of encode-configure-configuration recordBy-configure-configuration recordFor-configure-configuration configuration_of default_reply default_response commanded typed by_header tabled serve
+unfolding all_zero le bytes_of unsigned_at signed_of signed_at residue size_of shape_of is_analog is_reportable is_signed is_float number_at change_at upto times count text series member structure by_shape value_at series_at structure_at frame_type_of header_of reply_head command_of padded put records_in records_from walk encode_all fits with_record_for shortened_from shortened_reply shortened done_with pass_from encode_failures answered concluded performed headed noting concluded_at attribute_at attributes_from attributes_of find_in find_of each ascending room_ok is_text length_ok follow_on end_from unused_ok is_store used_of value_of fitted stored number_of too_long is_writable check_of write_of moved_by id_at encode record_by record_for read_of record_at records_at encode-write-reply written checked write_attributes written_all write_undivided write_silently encode-discover-discover at_or_after listed complete_byte discovered_all discover_reply discover_of change_width configure_at asked_at setting tried configure_entries configure_of encode-configure-configuration recordBy-configure-configuration recordFor-configure-configuration configuration_of default_reply default_response commanded typed by_header tabled serve
 starred_frames_hold = (refl, (refl, (refl, (refl, (refl, (refl, (refl, (refl, (refl, ((refl, (refl, (refl, (refl, (refl, (refl, (refl, tt))))))), (refl, (refl, (refl, tt)))))))))))))

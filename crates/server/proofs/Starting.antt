@@ -59,4 +59,4 @@ responses_start served cluster unicast frame room h e =
     (subst (λ (r : HeaderRead). Says (head_of r) room (unsupported_cluster served cluster unicast frame room)) e (responder_says served cluster unicast frame room))
 
 pub reports_start : ReportsStart
-reports_start form s code sequence ids room = says_starts (unasked code sequence) ReportAttributes room _ (report-says form s room code sequence ids)
+reports_start form s sequence ids room = says_starts (unasked sequence) ReportAttributes room _ (report-says form s room sequence ids)

@@ -2,7 +2,7 @@
 use mathlib.Core.Path.{◌≡◌, refl, sym, ap, ◌∙◌}
 use mathlib.Core.Bool.{Bool}
 use mathlib.Core.List.{List, ◌++◌}
-use Prim.Native.Nat.{ℕ, ◌≤◌, ◌<◌}
+use Prim.Native.Nat.{ℕ, ◌≤◌}
 use native.Mathlib.Omega.{arith}
 use lib.ListN.{length, drop}
 use Rattle.types.proofs.Numbers.{length_bytes}
@@ -30,7 +30,6 @@ use Rattle.server.specs.Serve.{State, state, commanded, serve}
 use Rattle.server.specs.Claims.Asks.{Asks}
 use Rattle.server.specs.Claims.Troubles.{Unread, ServedCutIsFour, ServedFiveStays, ServedFiveDone, ServedFiveAtHeader, ServedCutIsFourAtHeader, WriteCutIsFour, WriteFiveStays, WriteFiveDone, WriteFiveAtHeader, WriteCutIsFourAtHeader, ConfigureCutIsFour, ConfigureFiveStays, ConfigureFiveDone, ConfigureFiveAtHeader, ConfigureCutIsFourAtHeader}
 use Rattle.server.proofs.Heard.{Holding, Heard, refuses, hears, heard, asks_behind, alone, more_of}
-use Rattle.frame.specs.Header.{head_size}
 
 -- ---- a command that lists its failures
 
@@ -77,7 +76,7 @@ module _ {S R F : Type 0} {c : CommandIdentifier} {reading : List ℕ → Record
     number-of : (room : ℕ) → (at frame room).number ≡ (over own room).number
     number-of room = ap (λ (o : Outcome State). o.number) (by_itself room)
 
-    none_of : (room : ℕ) → NoneFails (head_size h) (at frame room) → NoneFails (head_size h) (over own room)
+    none_of : (room : ℕ) → NoneFails (at frame room) → NoneFails (over own room)
     none_of room none = (sym (number-of room) ∙ none.0, ap (λ (o : Outcome State). o.size) (sym (by_itself room)) ∙ none.1)
 
   abbrev Hears : Type 0
@@ -90,7 +89,7 @@ module _ {S R F : Type 0} {c : CommandIdentifier} {reading : List ℕ → Record
       ∙ ap (within (w k f).puts) (cut_is_four (w k f).doing h (w k f).reply (w k f).before own room readable (λ n. omega (arith, n, z, number-of k f room)))
       ∙ ap (λ (o : Outcome State). refused room RecordCut o.state) (sym (by_itself k f room))
 
-  served_stays : (b : List ℕ) (room : ℕ) → head_size h < room → Is5 (at frame room) → Hears → at (frame ++ b) room ≡ at frame room
+  served_stays : (b : List ℕ) (room : ℕ) → 4 ≤ room → Is5 (at frame room) → Hears → at (frame ++ b) room ≡ at frame room
   served_stays b room l n (refuses why e f) = f (frame ++ b) room (asks_behind c frame b h asks) ∙ sym (f frame room asks)
   served_stays b room l n (hears k f) =
       with_more k f b (reading b) refl room
@@ -109,19 +108,19 @@ module _ {S R F : Type 0} {c : CommandIdentifier} {reading : List ℕ → Record
       (λ q. m (ap (λ (o : Outcome State). o.number) (with_more k f b (single r) u more) ∙ q)))
       ∙ ap (λ (o : Outcome State). o.state) (sym (with_more k f b (single r) u more))
 
-  served_header : (more : ℕ) → NoneFails (head_size h) (at frame more) → Hears → at frame (head_size h) ≡ refused (head_size h) ReplyTooLong (at frame more).state
+  served_header : (more : ℕ) → NoneFails (at frame more) → Hears → at frame 3 ≡ refused 3 ReplyTooLong (at frame more).state
   served_header more none (refuses why e f) = absurd (omega (arith, refusal_nonzero why, ap (λ (o : Outcome State). o.number) (f frame more asks), none.0))
   served_header more none (hears k f) =
-      by_itself k f (head_size h)
+      by_itself k f 3
       ∙ ap (within (w k f).puts) (five_at_header (w k f).doing (w k f).long h (w k f).reply (w k f).before own more readable (none_of k f more none))
-      ∙ ap (λ (o : Outcome State). refused (head_size h) ReplyTooLong o.state) (sym (by_itself k f more))
+      ∙ ap (λ (o : Outcome State). refused 3 ReplyTooLong o.state) (sym (by_itself k f more))
 
-  served_header_cut : (b : List ℕ) (more : ℕ) → Unread reading b → NoneFails (head_size h) (at frame more) → Hears → at (frame ++ b) (head_size h) ≡ refused (head_size h) RecordCut (at frame more).state
+  served_header_cut : (b : List ℕ) (more : ℕ) → Unread reading b → NoneFails (at frame more) → Hears → at (frame ++ b) 3 ≡ refused 3 RecordCut (at frame more).state
   served_header_cut b more u none (refuses why e f) = absurd (omega (arith, refusal_nonzero why, ap (λ (o : Outcome State). o.number) (f frame more asks), none.0))
   served_header_cut b more u none (hears k f) =
-      with_more k f b (ended cut) u (head_size h)
+      with_more k f b (ended cut) u 3
       ∙ ap (within (w k f).puts) (cut_is_four_at_header (w k f).doing (w k f).long h (w k f).reply (w k f).before own more readable (none_of k f more none))
-      ∙ ap (λ (o : Outcome State). refused (head_size h) RecordCut o.state) (sym (by_itself k f more))
+      ∙ ap (λ (o : Outcome State). refused 3 RecordCut o.state) (sym (by_itself k f more))
 
 module _ {S R F : Type 0} {c : CommandIdentifier} {reading : List ℕ → Records R} (listing : Listing S F c reading) where
   served_cut_is_four : ServedCutIsFour c reading

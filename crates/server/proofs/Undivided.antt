@@ -2,15 +2,16 @@
 use mathlib.Core.Path.{◌≡◌, refl, sym, ap, ◌∙◌}
 use mathlib.Core.Bool.{Bool, true, false}
 use mathlib.Core.List.{List, [], ◌∷◌, ◌++◌, append-nil}
-use Prim.Native.Nat.{ℕ, ◌+◌, ◌≤◌, ◌<◌}
+use Prim.Native.Nat.{ℕ, ◌+◌, ◌≤◌}
 use native.Mathlib.Omega.{arith}
 use lib.ListN.{length, drop, length-append}
+use borrow.Author.Tests.{le-leb}
 use Rattle.types.specs.Number.{zeros}
 use Rattle.types.proofs.Numbers.{length_bytes}
 use Rattle.frame.specs.declared.header.ZclHeader.{ZclHeader}
 use Rattle.frame.specs.declared.command_identifier.CommandIdentifier.TheVariants.{WriteAttributesUndivided, WriteAttributesResponse}
 use Rattle.frame.specs.declared.answer.Refusal.TheVariants.{RecordCut, ReplyTooLong}
-use Rattle.frame.specs.Header.{reply_head, head_size}
+use Rattle.frame.specs.Header.{reply_head}
 use Rattle.frame.specs.Answer.{Outcome, refused}
 use Rattle.frame.specs.Walk.{done, cut, Records, joined}
 use Rattle.frame.specs.Encoded.{encode_all, fits}
@@ -29,7 +30,6 @@ use Rattle.server.specs.Serve.{State, state, storing, commanded, serve}
 use Rattle.server.specs.Claims.Asks.{Asks}
 use Rattle.server.specs.Claims.Troubles.{Unread, UndividedCutUntouched, UndividedCutIsFour, UndividedFiveStays, UndividedFiveAtHeader, UndividedCutIsFourAtHeader}
 use Rattle.server.proofs.Heard.{Heard, refuses, hears, heard, asks_behind, alone, more_of}
-use Rattle.frame.proofs.Encoded.{fits_none}
 
 pub never : {A : Type 0} → done ≡ cut → A
 never e = let z : ◌≡◌ {A = ℕ} 0 1 = cc in absurd (omega arith)
@@ -48,6 +48,11 @@ long : (f : Failure) (l : List Failure) → 3 ≤ length (encode_all encode (f �
 unfolding encode_all encode
 long f l = omega (arith, length-append (encode f) (encode_all encode l), length_bytes 2 f.id)
 
+-- no failure fits every room that the header fits
+pub none : {room : ℕ} → 3 ≤ room → fits encode room 3 [] ≡ true
+unfolding fits encode_all
+none {room} h = le-leb 3 room h
+
 -- ---- the command: records that can all be read, and others behind them
 
 module _ (form : ℕ) (s : List ℕ) (h : ZclHeader) (a : List ℕ) (readable : (records a).ending ≡ done) where
@@ -61,7 +66,7 @@ module _ (form : ℕ) (s : List ℕ) (h : ZclHeader) (a : List ℕ) (readable : 
   fs body = failing form h s (records body).list
 
   abbrev Decides : List ℕ → ℕ → Type 0
-  Decides body room = Decided room h s (written_all form h body s) (records body).ending (fs body) (answer body room)
+  Decides body room = Decided room head s (written_all form h body s) (records body).ending (fs body) (answer body room)
 
   decides : (body : List ℕ) (room : ℕ) → Decides body room
   decides body room = undivided_ways form s h body room
@@ -74,18 +79,18 @@ module _ (form : ℕ) (s : List ℕ) (h : ZclHeader) (a : List ℕ) (readable : 
     fails_both = ap (λ (rs : Records WriteRecord). failing form h s rs.list) both ∙ failing_append _ _ (records a).list (records b).list
 
   -- more failures fit no better
-  full_behind : (room : ℕ) (b : List ℕ) → fits encode room (head_size h) (fs a) ≡ false → fits encode room (head_size h) (fs (a ++ b)) ≡ true → {A : Type 0} → A
+  full_behind : (room : ℕ) (b : List ℕ) → fits encode room 3 (fs a) ≡ false → fits encode room 3 (fs (a ++ b)) ≡ true → {A : Type 0} → A
   full_behind room b f g =
-      let k : true ≡ false = sym (fits_closed encode room (head_size h) (fs a) (fs b) (ap (fits encode room (head_size h)) (sym (fails_both b)) ∙ g)) ∙ f in
+      let k : true ≡ false = sym (fits_closed encode room 3 (fs a) (fs b) (ap (fits encode room 3) (sym (fails_both b)) ∙ g)) ∙ f in
       let z : ◌≡◌ {A = ℕ} 0 1 = cc in
       absurd (omega arith)
 
   -- ---- 5, with a byte behind the header
 
-  five_alone : (room : ℕ) → head_size h < room → Is5 (answer a room) → (answer a room ≡ refused room ReplyTooLong s) × (fits encode room (head_size h) (fs a) ≡ false)
+  five_alone : (room : ℕ) → 4 ≤ room → Is5 (answer a room) → (answer a room ≡ refused room ReplyTooLong s) × (fits encode room 3 (fs a) ≡ false)
   five_alone room l n = go (decides a room)
     where
-      go : Decides a room → (answer a room ≡ refused room ReplyTooLong s) × (fits encode room (head_size h) (fs a) ≡ false)
+      go : Decides a room → (answer a room ≡ refused room ReplyTooLong s) × (fits encode room 3 (fs a) ≡ false)
       go (tight k o) = absurd (omega arith)
       go (full k f o) = (o, f)
       go (broke k f e o) = never (sym readable ∙ e)
@@ -93,7 +98,7 @@ module _ (form : ℕ) (s : List ℕ) (h : ZclHeader) (a : List ℕ) (readable : 
       go (wrote k e z o) = absurd (omega (arith, n, number o))
       go (narrow k e z o) = absurd (omega arith)
 
-  five_behind : (room : ℕ) → head_size h < room → (b : List ℕ) → fits encode room (head_size h) (fs a) ≡ false → answer (a ++ b) room ≡ refused room ReplyTooLong s
+  five_behind : (room : ℕ) → 4 ≤ room → (b : List ℕ) → fits encode room 3 (fs a) ≡ false → answer (a ++ b) room ≡ refused room ReplyTooLong s
   five_behind room l b f = go (decides (a ++ b) room)
     where
       go : Decides (a ++ b) room → answer (a ++ b) room ≡ refused room ReplyTooLong s
@@ -101,7 +106,7 @@ module _ (form : ℕ) (s : List ℕ) (h : ZclHeader) (a : List ℕ) (readable : 
       go (full k g o) = o
       go (broke k g e o) = full_behind room b f g
       go (listed k g e x r z o) = full_behind room b f g
-      go (wrote k e z o) = full_behind room b f (ap (fits encode room (head_size h)) z ∙ fits_none encode _ _ (omega arith))
+      go (wrote k e z o) = full_behind room b f (ap (fits encode room 3) z ∙ none (omega arith))
       go (narrow k e z o) = absurd (omega arith)
 
   -- ---- a record behind them that cannot be read
@@ -125,13 +130,13 @@ module _ (form : ℕ) (s : List ℕ) (h : ZclHeader) (a : List ℕ) (readable : 
         go (narrow k e z o) = never (sym e ∙ ends_cut)
 
     -- their failures fit: 4
-    four : (room : ℕ) → head_size h ≤ room → fits encode room (head_size h) (fs a) ≡ true → answer (a ++ b) room ≡ refused room RecordCut s
+    four : (room : ℕ) → 3 ≤ room → fits encode room 3 (fs a) ≡ true → answer (a ++ b) room ≡ refused room RecordCut s
     four room l f = go (decides (a ++ b) room)
       where
         go : Decides (a ++ b) room → answer (a ++ b) room ≡ refused room RecordCut s
         go (tight k o) = absurd (omega arith)
         go (full k g o) =
-            let y : true ≡ false = sym f ∙ ap (fits encode room (head_size h)) (sym fails_same) ∙ g in
+            let y : true ≡ false = sym f ∙ ap (fits encode room 3) (sym fails_same) ∙ g in
             let z : ◌≡◌ {A = ℕ} 0 1 = cc in
             absurd (omega arith)
         go (broke k g e o) = o
@@ -147,12 +152,12 @@ module _ (form : ℕ) (s : List ℕ) (h : ZclHeader) (a : List ℕ) (readable : 
         go (full k f o) = absurd (omega (arith, n, number o))
         go (broke k f e o) = absurd (omega (arith, n, number o))
         go (listed k f e x r z o) = four room k f
-        go (wrote k e z o) = four room (omega arith) (ap (fits encode room (head_size h)) z ∙ fits_none encode _ _ (omega arith))
+        go (wrote k e z o) = four room (omega arith) (ap (fits encode room 3) z ∙ none (omega arith))
         go (narrow k e z o) = absurd (omega (arith, n, number o))
 
   -- ---- room for the header alone, and no failure
 
-  clean : (more : ℕ) → NoneFails (head_size h) (answer a more) → (fs a ≡ []) × ((answer a more).state ≡ written_all form h a s)
+  clean : (more : ℕ) → NoneFails (answer a more) → (fs a ≡ []) × ((answer a more).state ≡ written_all form h a s)
   clean more n = go (decides a more)
     where
       go : Decides a more → (fs a ≡ []) × ((answer a more).state ≡ written_all form h a s)
@@ -164,22 +169,22 @@ module _ (form : ℕ) (s : List ℕ) (h : ZclHeader) (a : List ℕ) (readable : 
       go (wrote k e z o) = (z, left o)
       go (narrow k e z o) = absurd (omega (arith, n.0, number o))
 
-  header_five : (more : ℕ) → NoneFails (head_size h) (answer a more) → answer a (head_size h) ≡ refused (head_size h) ReplyTooLong (answer a more).state
-  header_five more n = go (clean more n) (decides a (head_size h))
+  header_five : (more : ℕ) → NoneFails (answer a more) → answer a 3 ≡ refused 3 ReplyTooLong (answer a more).state
+  header_five more n = go (clean more n) (decides a 3)
     where
-      go : (fs a ≡ []) × ((answer a more).state ≡ written_all form h a s) → Decides a (head_size h) → answer a (head_size h) ≡ refused (head_size h) ReplyTooLong (answer a more).state
+      go : (fs a ≡ []) × ((answer a more).state ≡ written_all form h a s) → Decides a 3 → answer a 3 ≡ refused 3 ReplyTooLong (answer a more).state
       go c (tight k o) = absurd (omega arith)
       go c (full k f o) =
-          let y : true ≡ false = sym (ap (fits encode (head_size h) (head_size h)) c.0 ∙ fits_none encode _ _ (omega arith)) ∙ f in
+          let y : true ≡ false = sym (ap (fits encode 3 3) c.0 ∙ none (omega arith)) ∙ f in
           let z : ◌≡◌ {A = ℕ} 0 1 = cc in
           absurd (omega arith)
       go c (broke k f e o) = never (sym readable ∙ e)
       go c (listed k f e x r z o) = some_none x r (sym c.0 ∙ z)
       go c (wrote k e z o) = absurd (omega arith)
-      go c (narrow k e z o) = o ∙ ap (refused (head_size h) ReplyTooLong) (sym c.1)
+      go c (narrow k e z o) = o ∙ ap (refused 3 ReplyTooLong) (sym c.1)
 
-  header_four : (more : ℕ) → NoneFails (head_size h) (answer a more) → (b : List ℕ) → Unread records b → answer (a ++ b) (head_size h) ≡ refused (head_size h) RecordCut s
-  header_four more n b u = four b u (head_size h) (omega arith) (ap (fits encode (head_size h) (head_size h)) (clean more n).0 ∙ fits_none encode _ _ (omega arith))
+  header_four : (more : ℕ) → NoneFails (answer a more) → (b : List ℕ) → Unread records b → answer (a ++ b) 3 ≡ refused 3 RecordCut s
+  header_four more n b u = four b u 3 (omega arith) (ap (fits encode 3 3) (clean more n).0 ∙ none (omega arith))
 
 -- ---- served
 
@@ -220,7 +225,7 @@ module _ (form limit : ℕ) (s : List ℕ) (t : Table) (cluster : ℕ) (unicast 
   served_cut (hears k f) b room u z =
       undivided_more f room b ∙ ap (storing t) (four_of_reply form s h own readable b u room (number (sym (undivided_alone f room)) ∙ z))
 
-  served_five : HearsUndivided → (b : List ℕ) (room : ℕ) → head_size h < room → Is5 (answers frame room)
+  served_five : HearsUndivided → (b : List ℕ) (room : ℕ) → 4 ≤ room → Is5 (answers frame room)
       → (answers frame room ≡ refused room ReplyTooLong (state s t)) × (answers (frame ++ b) room ≡ refused room ReplyTooLong (state s t))
   served_five (refuses why e f) b room l n =
       -- a refusal by that number is that refusal
@@ -232,21 +237,21 @@ module _ (form limit : ℕ) (s : List ℕ) (t : Table) (cluster : ℕ) (unicast 
       (undivided_alone f room ∙ ap (storing t) x.0, undivided_more f room b ∙ ap (storing t) (five_behind form s h own readable room l b x.1))
 
   abbrev Clean : ℕ → Type 0
-  Clean more = NoneFails (head_size h) (answers frame more)
+  Clean more = NoneFails (answers frame more)
 
-  own_clean : (f : Reached) (more : ℕ) → Clean more → NoneFails (head_size h) (write_undivided form s h own more)
+  own_clean : (f : Reached) (more : ℕ) → Clean more → NoneFails (write_undivided form s h own more)
   own_clean f more n = (number (sym (undivided_alone f more)) ∙ n.0, ap (λ (o : Outcome State). o.size) (sym (undivided_alone f more)) ∙ n.1)
 
-  served_header : HearsUndivided → (more : ℕ) → Clean more → answers frame (head_size h) ≡ refused (head_size h) ReplyTooLong (answers frame more).state
+  served_header : HearsUndivided → (more : ℕ) → Clean more → answers frame 3 ≡ refused 3 ReplyTooLong (answers frame more).state
   served_header (refuses why e f) more n = absurd (omega (arith, refusal_nonzero why, number (f frame more asks), n.0))
   served_header (hears k f) more n =
-      undivided_alone f (head_size h)
+      undivided_alone f 3
       ∙ ap (storing t) (header_five form s h own readable more (own_clean f more n))
-      ∙ ap (refused (head_size h) ReplyTooLong) (left (sym (undivided_alone f more)))
+      ∙ ap (refused 3 ReplyTooLong) (left (sym (undivided_alone f more)))
 
-  served_header_cut : HearsUndivided → (b : List ℕ) (more : ℕ) → Unread records b → Clean more → answers (frame ++ b) (head_size h) ≡ refused (head_size h) RecordCut (state s t)
+  served_header_cut : HearsUndivided → (b : List ℕ) (more : ℕ) → Unread records b → Clean more → answers (frame ++ b) 3 ≡ refused 3 RecordCut (state s t)
   served_header_cut (refuses why e f) b more u n = absurd (omega (arith, refusal_nonzero why, number (f frame more asks), n.0))
-  served_header_cut (hears k f) b more u n = undivided_more f (head_size h) b ∙ ap (storing t) (header_four form s h own readable more (own_clean f more n) b u)
+  served_header_cut (hears k f) b more u n = undivided_more f 3 b ∙ ap (storing t) (header_four form s h own readable more (own_clean f more n) b u)
 
   hearing : HearsUndivided
   hearing = heard form limit s cluster unicast h WriteAttributesUndivided t

@@ -15,7 +15,6 @@ use Rattle.server.specs.Serve.{State, state, serve}
 use Rattle.server.specs.Lent.{Lent, lent, serve_lent}
 use Rattle.server.specs.UnsupportedCluster.{unsupported_cluster}
 use Rattle.server.specs.Claims.Unique.{DefaultResponseOnce, HandleRequestLentOnce, HandleRequestOnce, UnsupportedClusterOnce}
-use Rattle.store.specs.Contents.{entry_size}
 
 -- ---- what is seen of a call tells all that it left
 
@@ -33,12 +32,12 @@ default_response_once request unicast status reply r q x y e f = only_answer (de
 -- src/serve.rt
 
 pub handle_request_lent_once : HandleRequestLentOnce
-handle_request_lent_once store form table cluster unicast request reply r q x y s u bs cs e f =
-    let w = only_one (serve_lent (entry_size form) store table cluster.0 unicast request (length reply)) r q x y (lent s bs) (lent u cs) e f in
+handle_request_lent_once store table cluster unicast request reply r q x y s u bs cs e f =
+    let w = only_one (serve_lent store table cluster.0 unicast request (length reply)) r q x y (lent s bs) (lent u cs) e f in
     (w.0, (w.1.0, (ap (λ (z : Lent). z.store) w.1.1, ap (λ (z : Lent). z.table) w.1.1)))
 
 pub handle_request_once : HandleRequestOnce
-handle_request_once store form table cluster unicast request reply r q x y s u e f = one_served (serve (entry_size form) capacity store (quieted_t (table_of table)) cluster.0 unicast request (length reply)) r q x y s u e f
+handle_request_once store table cluster unicast request reply r q x y s u e f = one_served (serve 8 capacity store (quieted_t (table_of table)) cluster.0 unicast request (length reply)) r q x y s u e f
 
 -- src/unsupported_cluster.rt
 

@@ -12,7 +12,7 @@ use Rattle.server.specs.Lent.{lent}
 -- ---- a request over bytes
 
 -- where they are known to be a table, it is served over that one, and they are one afterwards; otherwise it is refused, and nothing changes
-pub record OverBytes (form : ℕ) (known : Bool) (s bs : List ℕ) (cluster : ℕ) (unicast : Bool) (frame : List ℕ) (size : ℕ) (a : Answer) (d s' bs' : List ℕ) : Type 0 where
+pub record OverBytes (known : Bool) (s bs : List ℕ) (cluster : ℕ) (unicast : Bool) (frame : List ℕ) (size : ℕ) (a : Answer) (d s' bs' : List ℕ) : Type 0 where
   pub stays : known ≡ true → is_table capacity bs' ≡ true
-  pub served : known ≡ true → seen a d (state s' (holding (table_in bs'))) ≡ serve form capacity s (holding (table_in bs)) cluster unicast frame size
-  pub fails : known ≡ false → seen a d (lent s' bs') ≡ refused size (cond (is_store form s) NotATable NotAStore) (lent s bs)
+  pub served : known ≡ true → seen a d (state s' (holding (table_in bs'))) ≡ serve 8 capacity s (holding (table_in bs)) cluster unicast frame size
+  pub fails : known ≡ false → seen a d (lent s' bs') ≡ refused size (cond (is_store 8 s) NotATable NotAStore) (lent s bs)

@@ -21,8 +21,8 @@ abbrev pub carried : List ℕ → State → Lent
 carried bs x = lent x.store (bytes_after bs x.table)
 
 -- 7, then 8 for bytes that are no table, then as the table that they are is served
-unfoldable pub serve_lent : ℕ → List ℕ → List ℕ → ℕ → Bool → List ℕ → ℕ → Outcome Lent
-serve_lent form s bs cluster unicast frame size =
+unfoldable pub serve_lent : List ℕ → List ℕ → ℕ → Bool → List ℕ → ℕ → Outcome Lent
+serve_lent s bs cluster unicast frame size =
     cond (is_table capacity bs)
-    (within (carried bs) (serve form capacity s (holding (table_in bs)) cluster unicast frame size))
-    (refused size (cond (is_store form s) NotATable NotAStore) (lent s bs))
+    (within (carried bs) (serve 8 capacity s (holding (table_in bs)) cluster unicast frame size))
+    (refused size (cond (is_store 8 s) NotATable NotAStore) (lent s bs))

@@ -4,7 +4,6 @@ ghost use Rattle.std.specs.Prelude.{◌≡◌, true, length};
 ghost use Rattle.frame.specs.Answer.{seen};
 ghost use Rattle.frame.specs.Header.{frame_type_of};
 ghost use Rattle.frame.specs.CommandIdentifier.{command_of};
-ghost use Rattle.store.specs.Contents.{entry_size};
 ghost use Rattle.reporting.specs.Table.{capacity, table_of, holding};
 ghost use Rattle.reporting.specs.Carried.{is_table, table_in};
 ghost use Rattle.reporting.specs.Lent.{quieted_t};
@@ -23,7 +22,6 @@ use frame::status::Status;
 use read::attributes::read_attributes;
 use reporting::carried::{TABLE_BYTES, is_table, read_table, write_table};
 use reporting::table::ReportingTable;
-use store::form::Form;
 use store::layout::is_store;
 use store::lookup::cluster_of;
 use types::ids::ClusterId;
@@ -41,7 +39,6 @@ pub struct Served {
 // A global command: one of the seven, or UNSUP_COMMAND; and nothing to a Default Response, which is never answered by another.
 fn global_command(
     store: &mut [u8],
-    form: Form,
     table: &mut [u8],
     request: ZclHeader,
     body: &[u8],
@@ -50,28 +47,26 @@ fn global_command(
 ) -> Answer
     requires { is_table capacity table.old ≡ true }
     ensures table_after { is_table capacity table.new ≡ true }
-    ensures table_after_2 { seen result reply.new (state store.new (holding (table_in table.new))) ≡ commanded (entry_size form) capacity store.old (holding (table_in table.old)) unicast request body.now (length reply.old) (command_of request.command_identifier.0) }
+    ensures table_after_2 { seen result reply.new (state store.new (holding (table_in table.new))) ≡ commanded 8 capacity store.old (holding (table_in table.old)) unicast request body.now (length reply.old) (command_of request.command_identifier.0) }
 {
     let number = request.command_identifier;
     let command = CommandIdentifier::from_bits(number.0);
     match command {
-        CommandIdentifier::ReadAttributes => read_attributes(store, form, request, body, reply),
-        CommandIdentifier::WriteAttributes => write_attributes(store, form, request, body, reply),
+        CommandIdentifier::ReadAttributes => read_attributes(store, request, body, reply),
+        CommandIdentifier::WriteAttributes => write_attributes(store, request, body, reply),
         CommandIdentifier::WriteAttributesUndivided => {
-            write_attributes_undivided(store, form, request, body, reply)
+            write_attributes_undivided(store, request, body, reply)
         }
         CommandIdentifier::WriteAttributesNoResponse => {
-            write_attributes_no_response(store, form, request, body, reply)
+            write_attributes_no_response(store, request, body, reply)
         }
         CommandIdentifier::ConfigureReporting => {
-            configure_reporting(store, form, table, request, body, reply)
+            configure_reporting(store, table, request, body, reply)
         }
         CommandIdentifier::ReadReportingConfiguration => {
-            read_reporting_configuration(store, form, table, request, body, reply)
+            read_reporting_configuration(store, table, request, body, reply)
         }
-        CommandIdentifier::DiscoverAttributes => discover_attributes(
-            store, form, request, body, reply,
-        ),
+        CommandIdentifier::DiscoverAttributes => discover_attributes(store, request, body, reply),
         CommandIdentifier::DefaultResponse => refuse(reply, Refusal::NothingToSend),
         _ => default_response(request, unicast, Status::UnsupCommand, reply),
     }
@@ -80,7 +75,6 @@ fn global_command(
 // By the frame's type: no cluster command is known. The global one is told first: of a match with three arms the compiler makes a slower test.
 fn serve_frame(
     store: &mut [u8],
-    form: Form,
     table: &mut [u8],
     request: ZclHeader,
     body: &[u8],
@@ -89,7 +83,7 @@ fn serve_frame(
 ) -> Answer
     requires { is_table capacity table.old ≡ true }
     ensures table_after { is_table capacity table.new ≡ true }
-    ensures table_after_2 { seen result reply.new (state store.new (holding (table_in table.new))) ≡ typed (entry_size form) capacity store.old (holding (table_in table.old)) unicast request body.now (length reply.old) (frame_type_of request.frame_control.0) }
+    ensures table_after_2 { seen result reply.new (state store.new (holding (table_in table.new))) ≡ typed 8 capacity store.old (holding (table_in table.old)) unicast request body.now (length reply.old) (frame_type_of request.frame_control.0) }
 {
     let kind = request.frame_control.frame_type();
     let FrameType::GlobalCommand = kind else {
@@ -98,14 +92,13 @@ fn serve_frame(
         };
         return default_response(request, unicast, Status::UnsupCommand, reply);
     };
-    global_command(store, form, table, request, body, unicast, reply)
+    global_command(store, table, request, body, unicast, reply)
 }
 
 // A request over bytes of which it is known whether they are a table: 7, 8, 1, 2, and then the frame. The table has been asked before the store, which
 // is refused first: in the other order the compiler keeps less in registers, and a read and a discover take more instructions.
 fn serve_known(
     store: &mut [u8],
-    form: Form,
     table: &mut [u8],
     known: bool,
     cluster: ClusterId,
@@ -114,9 +107,9 @@ fn serve_known(
     reply: &mut [u8],
 ) -> Answer
     requires { known ≡ true → is_table capacity table.old ≡ true }
-    ensures { OverBytes (entry_size form) known store.old table.old cluster.0 unicast request.now (length reply.old) result reply.new store.new table.new }
+    ensures { OverBytes known store.old table.old cluster.0 unicast request.now (length reply.old) result reply.new store.new table.new }
 {
-    if !is_store(store, form) {
+    if !is_store(store) {
         return refuse(reply, Refusal::NotAStore);
     }
     if !known {
@@ -130,44 +123,40 @@ fn serve_known(
         return refuse(reply, Refusal::HeaderShort);
     };
     let start = h.body;
-    serve_frame(store, form, table, h, &request[start..], unicast, reply)
+    serve_frame(store, table, h, &request[start..], unicast, reply)
 }
 
 // Serves a request over a table that is lent as bytes. They are checked once; then Configure Reporting and Read Reporting Configuration work on
 // them where they lie, and no other command touches them.
 pub fn handle_request_lent(
     store: &mut [u8],
-    form: Form,
     table: &mut [u8],
     cluster: ClusterId,
     unicast: bool,
     request: &[u8],
     reply: &mut [u8],
 ) -> Answer
-    ensures { seen result reply.new (lent store.new table.new) ≡ serve_lent (entry_size form) store.old table.old cluster.0 unicast request.now (length reply.old) }
+    ensures { seen result reply.new (lent store.new table.new) ≡ serve_lent store.old table.old cluster.0 unicast request.now (length reply.old) }
 {
     let known = is_table(table);
-    serve_known(store, form, table, known, cluster, unicast, request, reply)
+    serve_known(store, table, known, cluster, unicast, request, reply)
 }
 
 // Serves a request over a table by value, and hands the table back: it is laid out as bytes, served there, and read back. One with a count above
 // the limit comes back as it was.
 pub fn handle_request(
     store: &mut [u8],
-    form: Form,
     table: ReportingTable,
     cluster: ClusterId,
     unicast: bool,
     request: &[u8],
     reply: &mut [u8],
 ) -> Served
-    ensures { seen result.answer reply.new (state store.new (table_of result.table)) ≡ serve (entry_size form) capacity store.old (quieted_t (table_of table)) cluster.0 unicast request.now (length reply.old) }
+    ensures { seen result.answer reply.new (state store.new (table_of result.table)) ≡ serve 8 capacity store.old (quieted_t (table_of table)) cluster.0 unicast request.now (length reply.old) }
 {
     let mut bytes = [0; TABLE_BYTES];
     let known = write_table(&mut bytes, table);
-    let answer = serve_known(
-        store, form, &mut bytes, known, cluster, unicast, request, reply,
-    );
+    let answer = serve_known(store, &mut bytes, known, cluster, unicast, request, reply);
     if !known {
         return Served { answer, table };
     }

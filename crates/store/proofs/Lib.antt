@@ -1,6 +1,5 @@
 -- What the proofs of several functions, and of other crates, cite.
 pub mod Contents  -- the attributes as a list, and the one of a name
-pub mod OfCode  -- the attributes of one code, and names in the order of code and id
 pub mod Scan  -- the scan for a name, one attribute after the other
 pub mod Layouts  -- when bytes are a store, condition by condition
 pub mod Placed  -- where the attributes of a store lie

@@ -67,9 +67,9 @@ module _ (form : ℕ) (s : List ℕ) (n i name : ℕ) (so_far : scan form s n i 
       ∙ sym (ap (λ (b : Bool). cond b (At (attribute_at form s n)) Nothing) (le-ltb n (count_of s) (omega arith)))
 
 -- what stands at the place that a scan found: nothing, where it is behind the last, or the attribute
-module _ (form : ℕ) (s : List ℕ) (n i name : ℕ) (e : n ≡ count_of s) (at : find_of form s name ≡ found_at form s i) where
-  pub none_there : n ≤ i → Nothing ≡ find_of form s name
-  none_there h = sym (at ∙ ap (λ (b : Bool). cond b (At (attribute_at form s i)) Nothing) (le-ltb i (count_of s) (omega arith)))
+module _ (s : List ℕ) (n i name : ℕ) (e : n ≡ count_of s) (at : find_of 8 s name ≡ found_at 8 s i) where
+  pub none_there : n ≤ i → Nothing ≡ find_of 8 s name
+  none_there h = sym (at ∙ ap (λ (b : Bool). cond b (At (attribute_at 8 s i)) Nothing) (le-ltb i (count_of s) (omega arith)))
 
-  pub one_there : (a : Attribute) → i < n → a ≡ attribute_at form s i → At a ≡ find_of form s name
-  one_there a h q = ap At q ∙ sym (at ∙ ap (λ (b : Bool). cond b (At (attribute_at form s i)) Nothing) (lt-ltb i (count_of s) (omega arith)))
+  pub one_there : (a : Attribute) → i < n → a ≡ attribute_at 8 s i → At a ≡ find_of 8 s name
+  one_there a h q = ap At q ∙ sym (at ∙ ap (λ (b : Bool). cond b (At (attribute_at 8 s i)) Nothing) (lt-ltb i (count_of s) (omega arith)))

@@ -10,7 +10,7 @@ use Rattle.frame.specs.declared.status.Status.{Status}
 use native.Mathlib.Omega.{arith}
 use Rattle.frame.proofs.Codes.{refusal_same, refusal_nonzero}
 use Rattle.store.specs.declared.value.Numbered.TheVariants.{Is, Refused}
-use Rattle.store.specs.Claims.Unique.{PartOnce, IsTextOnce, TextLengthOnce, IsStoreOnce, NameOfOnce, CodeOfOnce, IdOfOnce, EntrySizeOnce, ClusterOfOnce, CountOfOnce, AttributeAtOnce}
+use Rattle.store.specs.Claims.Unique.{PartOnce, IsTextOnce, TextLengthOnce, IsStoreOnce, NameOfOnce, ClusterOfOnce, CountOfOnce, AttributeAtOnce}
 use Rattle.store.specs.Claims.Unique.{IsReportableOnce, FindOnce, ValueOfOnce, WriteValueOnce, NumberOfOnce, CheckWriteOnce, WriteOnce}
 
 -- the laws of what a contract sees
@@ -29,10 +29,6 @@ telling_same a b p = go a b (ap (λ (x : Telling). x.answer) p) (ap (λ (x : Tel
 pub wrote_same : (a b : Status) (s t : List ℕ) → wrote a s ≡ wrote b t → (a ≡ b) × (s ≡ t)
 wrote_same a b s t p = (ap (λ (x : Wrote). x.status) p, ap (λ (x : Wrote). x.store) p)
 
--- src/form.rt
-pub entry_size_once : EntrySizeOnce
-entry_size_once self r q e f = e ∙ sym f
-
 -- src/layout.rt
 pub part_once : PartOnce
 part_once s from n r q e f = e ∙ sym f
@@ -44,17 +40,11 @@ pub text_length_once : TextLengthOnce
 text_length_once s a r q e f = e ∙ sym f
 
 pub is_store_once : IsStoreOnce
-is_store_once s form r q e f = e ∙ sym f
+is_store_once s r q e f = e ∙ sym f
 
 -- src/lookup.rt
 pub name_of_once : NameOfOnce
 name_of_once code id r q e f = ap (λ (n : ℕ). record { 0 = n }) (e ∙ sym f)
-
-pub code_of_once : CodeOfOnce
-code_of_once a r q e f = ap (λ (n : ℕ). record { 0 = n }) (e ∙ sym f)
-
-pub id_of_once : IdOfOnce
-id_of_once a r q e f = ap (λ (n : ℕ). record { 0 = n }) (e ∙ sym f)
 
 pub cluster_of_once : ClusterOfOnce
 cluster_of_once s r q e f = ap (λ (n : ℕ). record { 0 = n }) (e ∙ sym f)
@@ -63,13 +53,13 @@ pub count_of_once : CountOfOnce
 count_of_once s r q e f = e ∙ sym f
 
 pub attribute_at_once : AttributeAtOnce
-attribute_at_once s form i r q e f = e ∙ sym f
+attribute_at_once s i r q e f = e ∙ sym f
 
 pub is_reportable_once : IsReportableOnce
 is_reportable_once a r q e f = e ∙ sym f
 
 pub find_once : FindOnce
-find_once s form name r q e f = e ∙ sym f
+find_once s name r q e f = e ∙ sym f
 
 -- src/value.rt
 pub value_of_once : ValueOfOnce
@@ -79,11 +69,11 @@ pub write_value_once : WriteValueOnce
 write_value_once s a value x y e f = e ∙ sym f
 
 pub number_of_once : NumberOfOnce
-number_of_once s form name r q e f = telling_same r q (e ∙ sym f)
+number_of_once s name r q e f = telling_same r q (e ∙ sym f)
 
 -- src/write.rt
 pub check_write_once : CheckWriteOnce
-check_write_once s form name type_id value r q e f = e ∙ sym f
+check_write_once s name type_id value r q e f = e ∙ sym f
 
 pub write_once : WriteOnce
-write_once s form name type_id value r q x y e f = wrote_same r q x y (e ∙ sym f)
+write_once s name type_id value r q x y e f = wrote_same r q x y (e ∙ sym f)

@@ -1,11 +1,9 @@
 // Whether bytes are a store. Any bytes get an answer.
 ghost use Rattle.std.specs.Prelude.{◌≡◌, [], ◌∷◌, take, drop};
-ghost use Rattle.store.specs.Contents.{entry_size};
 ghost use Rattle.store.specs.Layout.{is_text, text_length, room_ok, length_ok, unused_ok, all_of, is_store};
 ghost use Rattle.store.specs.Inside.{entry_ok};
 
-use super::form::Form;
-use super::lookup::{Attribute, count_of, entry_in};
+use super::lookup::{Attribute, attribute_in, count_of};
 use types::ids::{Shape, TypeId};
 use types::number::{all_zero, byte_at};
 
@@ -83,31 +81,28 @@ fn entry_ok(s: &[u8], a: Attribute, least: usize, from: usize) -> bool
 }
 
 // Whether the bytes are a store. Bytes that end within the contents are none, so the loop has whole entries before it.
-pub fn is_store(s: &[u8], form: Form) -> bool
-    ensures { result ≡ is_store (entry_size form) s.now }
+pub fn is_store(s: &[u8]) -> bool
+    ensures { result ≡ is_store 8 s.now }
 {
     let n = count_of(s);
     if 64 < n {
         return false;
     }
-    let size = form.entry_size();
-    let mut from = 4 + (n as usize) * size;
+    let mut i: u16 = 0;
+    let mut least: usize = 0;
+    let mut from = 4 + (n as usize) * 8;
     if s.len() < from {
         return false;
     }
-    let mut i: u16 = 0;
-    let mut at: usize = 4;
-    let mut least: usize = 0;
     while i < n {
-        let a = entry_in(s, form, at);
+        let a = attribute_in(s, i);
         if !entry_ok(s, a, least, from) {
             return false;
         }
         let name = a.name;
         least = name.0 as usize + 1;
         from = from + a.room as usize;
-        at = at + size;
         i += 1;
     }
-    from == s.len() && from <= 4096 + (n as usize) * (size - 8)
+    from == s.len() && from <= 4096
 }

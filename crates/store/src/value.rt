@@ -1,9 +1,7 @@
 // The value of an attribute: as it is sent, its number, and written.
 ghost use Rattle.std.specs.Prelude.{◌≡◌};
-ghost use Rattle.store.specs.Contents.{entry_size};
 ghost use Rattle.store.specs.Value.{used_of, value_of, stored, telling, number_of};
 
-use super::form::Form;
 use super::layout::{is_store, is_text, part, text_length};
 use super::lookup::{Attribute, Found, Name, find};
 use frame::answer::Refusal;
@@ -53,13 +51,13 @@ pub enum Numbered {
 }
 
 // The number of the value of the attribute of a name: 7, then 9.
-pub fn number_of(s: &[u8], form: Form, name: Name) -> Numbered
-    ensures { telling result ≡ telling (number_of (entry_size form) s.now name.0) }
+pub fn number_of(s: &[u8], name: Name) -> Numbered
+    ensures { telling result ≡ telling (number_of 8 s.now name.0) }
 {
-    if !is_store(s, form) {
+    if !is_store(s) {
         return Numbered::Refused(Refusal::NotAStore);
     }
-    let Found::At(a) = find(s, form, name) else {
+    let Found::At(a) = find(s, name) else {
         return Numbered::Refused(Refusal::NoNumber);
     };
     let Number::Value(z) = number_at(s, a.offset as usize, a.type_id) else {

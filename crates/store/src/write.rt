@@ -1,9 +1,8 @@
 // One write: the four checks, and the value stored where they pass.
 ghost use Rattle.std.specs.Prelude.{◌≡◌};
-ghost use Rattle.store.specs.Contents.{entry_size, find_of};
+ghost use Rattle.store.specs.Contents.{find_of};
 ghost use Rattle.store.specs.Write.{too_long, check_of, wrote, write_of};
 
-use super::form::Form;
 use super::layout::is_text;
 use super::lookup::{Attribute, Found, Name, find};
 use super::value::write_value;
@@ -33,10 +32,10 @@ fn too_long(a: Attribute, value: &[u8]) -> bool
 }
 
 // The four checks of a write, in order: not found, not writable, other type, too long.
-pub fn check_write(s: &[u8], form: Form, name: Name, type_id: TypeId, value: &[u8]) -> Checked
-    ensures { result ≡ check_of (find_of (entry_size form) s.now name.0) type_id.0 value.now }
+pub fn check_write(s: &[u8], name: Name, type_id: TypeId, value: &[u8]) -> Checked
+    ensures { result ≡ check_of (find_of 8 s.now name.0) type_id.0 value.now }
 {
-    let Found::At(a) = find(s, form, name) else {
+    let Found::At(a) = find(s, name) else {
         return Checked::Failed(Status::UnsupportedAttribute);
     };
     if a.access % 2 != 1 {
@@ -53,10 +52,10 @@ pub fn check_write(s: &[u8], form: Form, name: Name, type_id: TypeId, value: &[u
 }
 
 // Writes a value if the checks pass, and says how they went.
-pub fn write(s: &mut [u8], form: Form, name: Name, type_id: TypeId, value: &[u8]) -> Status
-    ensures { wrote result s.new ≡ write_of (entry_size form) s.old name.0 type_id.0 value.now }
+pub fn write(s: &mut [u8], name: Name, type_id: TypeId, value: &[u8]) -> Status
+    ensures { wrote result s.new ≡ write_of 8 s.old name.0 type_id.0 value.now }
 {
-    let checked = check_write(s, form, name, type_id, value);
+    let checked = check_write(s, name, type_id, value);
     match checked {
         Checked::Fine(a) => {
             write_value(s, a, value);

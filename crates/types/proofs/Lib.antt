@@ -1,7 +1,5 @@
 -- What the proofs of several functions, and of other crates, cite.
 pub mod Numbers  -- numbers over the width
-pub mod Halves  -- a number read, or written, in two parts
-pub mod Zeros  -- whether all bytes are 0, piece by piece and by the bits that are set
 pub mod Readings  -- what signed and unsigned readings say, and reading back what was written
 pub mod Machine  -- signed numbers as the machine holds them
 pub mod Finite  -- a rule over all codes, from one computed test

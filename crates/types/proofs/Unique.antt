@@ -4,7 +4,6 @@ use mathlib.Core.Path.{sym, ◌∙◌}
 use Rattle.types.specs.Claims.Unique.{ExtentAtOnce, FixedSizeOnce, ShapeOnce, IsAnalogOnce, IsReportableTypeOnce, IsSignedOnce, IsFloatOnce, ByteAtOnce}
 use Rattle.types.specs.Claims.Unique.{AllZeroOnce, U16AtOnce, UnsignedAtOnce, BitsI64Once, SignedAtOnce, MagnitudeOnce, PutLeOnce, LeBytesOnce, NumberAtOnce}
 use Rattle.types.specs.Claims.Unique.{ChangeAtOnce}
-use Rattle.types.specs.Claims.Unique.{U16InOnce, U32InOnce, U64InOnce, PutU16InOnce, PutU32InOnce, PutU64InOnce}
 
 -- src/extent.rt
 pub extent_at_once : ExtentAtOnce
@@ -63,22 +62,3 @@ number_at_once s at type_id r q e f = e ∙ sym f
 
 pub change_at_once : ChangeAtOnce
 change_at_once s at type_id r q e f = e ∙ sym f
-
--- src/within.rt
-pub u16_in_once : U16InOnce
-u16_in_once bytes at r q e f = e ∙ sym f
-
-pub u32_in_once : U32InOnce
-u32_in_once bytes at r q e f = e ∙ sym f
-
-pub u64_in_once : U64InOnce
-u64_in_once bytes at r q e f = e ∙ sym f
-
-pub put_u16_in_once : PutU16InOnce
-put_u16_in_once bytes at n x y e f = e ∙ sym f
-
-pub put_u32_in_once : PutU32InOnce
-put_u32_in_once bytes at n x y e f = e ∙ sym f
-
-pub put_u64_in_once : PutU64InOnce
-put_u64_in_once bytes at n x y e f = e ∙ sym f

@@ -4,4 +4,3 @@ pub mod extent;
 pub mod ids;
 pub mod number;
 pub mod value;
-pub mod within;

@@ -1,5 +1,5 @@
 // Numbers of up to 8 bytes, the low byte first. Each function answers for every slice, place and width.
-ghost use Rattle.std.specs.Prelude.{◌≡◌, ◌+◌, ◌-◌, ◌*◌, ◌≤◌, ◌<◌, ◌^◌, min, nat_abs, get_or, length, take};
+ghost use Rattle.std.specs.Prelude.{◌≡◌, ◌+◌, ◌-◌, ◌*◌, ◌<◌, ◌^◌, min, nat_abs, get_or};
 ghost use Rattle.std.proofs.lemmas.List.Edits.{sets};
 ghost use Rattle.types.specs.Number.{all_zero, bytes_of, unsigned_at, signed_at, signed_of};
 
@@ -29,8 +29,9 @@ pub fn byte_at(s: &[u8], at: usize) -> u8
     0
 }
 
-// Whether no bit is set in any byte. One way out of the loop and no test in it, so that it runs on many bytes at once.
-fn none_set(s: &[u8]) -> bool
+// Whether every byte is 0: whether no bit is set in any. One way out of the loop and no test in it, so that it runs on many bytes at
+// once.
+pub fn all_zero(s: &[u8]) -> bool
     ensures { result ≡ all_zero s.now }
 {
     let mut bits: u8 = 0;
@@ -40,35 +41,6 @@ fn none_set(s: &[u8]) -> bool
         i += 1;
     }
     bits == 0
-}
-
-// Whether no bit is set in the first 4 * q bytes. Four strands of q bytes are walked at once, so that what the loop itself costs
-// is shared by four times as many bytes.
-fn none_set_in_four(s: &[u8], q: usize) -> bool
-    requires { 4 * q ≤ length s.now }
-    ensures { result ≡ all_zero (take (4 * q) s.now) }
-{
-    let mut bits: u8 = 0;
-    let mut i = 0;
-    while i < q {
-        bits = bits | ((s[i] | s[q + i]) | (s[2 * q + i] | s[3 * q + i]));
-        i += 1;
-    }
-    bits == 0
-}
-
-// Whether every byte is 0. A short slice is walked plainly: there the four strands cost more than they save.
-pub fn all_zero(s: &[u8]) -> bool
-    ensures { result ≡ all_zero s.now }
-{
-    if s.len() < 256 {
-        return none_set(s);
-    }
-    let q = s.len() / 4;
-    if none_set_in_four(s, q) {
-        return none_set(&s[4 * q..]);
-    }
-    false
 }
 
 // The two-byte number at `at`; bytes past the end count as 0.

@@ -12,13 +12,12 @@ use Rattle.frame.specs.declared.status.Status.{Status}
 use Rattle.frame.specs.declared.command_identifier.CommandIdentifier.TheVariants.{WriteAttributesResponse}
 use Rattle.frame.specs.declared.answer.Refusal.TheVariants.{ReplyTooLong}
 use Rattle.frame.specs.Status.{status_code}
-use Rattle.frame.specs.Header.{reply_head, head_size}
+use Rattle.frame.specs.Header.{reply_head}
 use Rattle.frame.specs.Answer.{Outcome, refused}
 use Rattle.frame.specs.Walk.{Ending, done, cut, All}
-use Rattle.frame.specs.Encoded.{fits}
+use Rattle.frame.specs.Encoded.{encode_all, fits}
 use Rattle.frame.specs.Failures.{pass_from, pass, also, performed, headed}
 use Rattle.frame.specs.Claims.Failing.{failing_by}
-use Rattle.frame.proofs.Encoded.{fits_none}
 use Rattle.frame.proofs.States.{folded, state_concluded}
 use Rattle.frame.proofs.Failing.{fits_closed, takes, taken_leave}
 use Rattle.store.specs.Layout.{is_store}
@@ -92,9 +91,6 @@ module _ (form : ℕ) (h : ZclHeader) (s body : List ℕ) (room : ℕ) (wide : 8
   abbrev head : List ℕ
   head = reply_head h WriteAttributesResponse
 
-  abbrev size : ℕ
-  size = head_size h
-
   -- 05: all
   pub silent_deed : Deed form h s body (λ t. (write_silently form t h body room).state)
   unfolding write_silently
@@ -162,31 +158,32 @@ module _ (form : ℕ) (h : ZclHeader) (s body : List ℕ) (room : ℕ) (wide : 8
     o = write_undivided form t h body room
 
     -- by the store's own failures
-    by_way : Decided room h t (written_all form h body t) (records body).ending (failing form h t rs) o
-        → o.state ≡ steps form h t (done_of (leb size room) (records body).ending (failing form h t rs))
-    by_way (tight k e) = left e ∙ ap (λ (b : Bool). steps form h t (done_of b (records body).ending (failing form h t rs))) (sym (lt-leb size room k))
+    by_way : Decided room head t (written_all form h body t) (records body).ending (failing form h t rs) o
+        → o.state ≡ steps form h t (done_of (leb 3 room) (records body).ending (failing form h t rs))
+    unfolding fits encode_all
+    by_way (tight k e) = left e ∙ ap (λ (b : Bool). steps form h t (done_of b (records body).ending (failing form h t rs))) (sym (lt-leb 3 room k))
     by_way (full k f e) =
-        let some : failing form h t rs ≡ [] → ⊥ = λ z. differ (sym (fits_none encode room size k) ∙ ap (fits encode room size) (sym z) ∙ f) in
-        left e ∙ sym (λ i. steps form h t (cond (le-leb size room k i) (none_chosen (records body).ending (failing form h t rs) some i) []))
+        let some : failing form h t rs ≡ [] → ⊥ = λ z. differ (sym (le-leb 3 room k) ∙ ap (fits encode room 3) (sym z) ∙ f) in
+        left e ∙ sym (λ i. steps form h t (cond (le-leb 3 room k i) (none_chosen (records body).ending (failing form h t rs) some i) []))
       where
         differ : true ≡ false → ⊥
         differ z = let y : ◌≡◌ {A = ℕ} 0 1 = cc in omega arith
-    by_way (broke k f c e) = left e ∙ sym (λ i. steps form h t (cond (le-leb size room k i) (chosen (c i) (failing form h t rs)) []))
-    by_way (listed k f c x l z e) = left e ∙ sym (λ i. steps form h t (cond (le-leb size room k i) (chosen (c i) (z i)) []))
+    by_way (broke k f c e) = left e ∙ sym (λ i. steps form h t (cond (le-leb 3 room k i) (chosen (c i) (failing form h t rs)) []))
+    by_way (listed k f c x l z e) = left e ∙ sym (λ i. steps form h t (cond (le-leb 3 room k i) (chosen (c i) (z i)) []))
     by_way (wrote k c z e) =
-        left e ∙ all_written form h t wide like.still body ∙ sym (λ i. steps form h t (cond (le-leb size room (omega arith) i) (chosen (c i) (z i)) []))
+        left e ∙ all_written form h t wide like.still body ∙ sym (λ i. steps form h t (cond (le-leb 3 room (omega arith) i) (chosen (c i) (z i)) []))
     by_way (narrow k c z e) =
-        left e ∙ all_written form h t wide like.still body ∙ sym (λ i. steps form h t (cond (le-leb size room (omega arith) i) (chosen (c i) (z i)) []))
+        left e ∙ all_written form h t wide like.still body ∙ sym (λ i. steps form h t (cond (le-leb 3 room (omega arith) i) (chosen (c i) (z i)) []))
 
     -- which are those of s
-    undivided_leaves : o.state ≡ steps form h t (done_of (leb size room) (records body).ending (failing form h s rs))
+    undivided_leaves : o.state ≡ steps form h t (done_of (leb 3 room) (records body).ending (failing form h s rs))
     undivided_leaves =
         by_way (undivided_ways form t h body room)
-        ∙ ap (λ (l : List Failure). steps form h t (done_of (leb size room) (records body).ending l)) (same_failing t like rs (records_whole body 0))
+        ∙ ap (λ (l : List Failure). steps form h t (done_of (leb 3 room) (records body).ending l)) (same_failing t like rs (records_whole body 0))
 
   pub undivided_deed : Deed form h s body (λ t. (write_undivided form t h body room).state)
   undivided_deed = record {
-    doing = cond (leb size room) (chosen (records body).ending (failing form h s rs)) [];
-    among = some_chosen (leb size room) (records body).ending (failing form h s rs);
+    doing = cond (leb 3 room) (chosen (records body).ending (failing form h s rs)) [];
+    among = some_chosen (leb 3 room) (records body).ending (failing form h s rs);
     is = undivided_leaves;
   }

@@ -61,14 +61,14 @@ module _ (writes : List ℕ → List ℕ) (start : ℕ) (head : List ℕ) (way :
 
 -- ---- the whole command, behind its header and the first pass
 
-module _ (form : ℕ) (request : ZclHeader) (s : List ℕ) (room : ℕ) (r : Put) (after : List ℕ) (p : putting r after ≡ put (zeros room) 0 (reply_head request WriteAttributesResponse)) (body : List ℕ)
-    (start : ℕ) (e : r ≡ At start) (first : Pass) (t d : List ℕ) (w : Passed (checking form request) (records body) start s after first t d) (l : length d ≡ length after)
-    (clean : Bool) (c : clean ≡ is_clean first start) (u : List ℕ) (z : u ≡ cond clean (written_all form request body t) t) where
+module _ (request : ZclHeader) (s : List ℕ) (room : ℕ) (r : Put) (after : List ℕ) (p : putting r after ≡ put (zeros room) 0 (reply_head request WriteAttributesResponse)) (body : List ℕ)
+    (start : ℕ) (e : r ≡ At start) (first : Pass) (t d : List ℕ) (w : Passed (checking 8 request) (records body) start s after first t d) (l : length d ≡ length after)
+    (clean : Bool) (c : clean ≡ is_clean first start) (u : List ℕ) (z : u ≡ cond clean (written_all 8 request body t) t) where
   abbrev way : List ℕ → Way (Sofar (List ℕ) Failure)
-  way h = pass (checking form request) (fits encode room (length h)) (records body) s
+  way h = pass (checking 8 request) (fits encode room (length h)) (records body) s
 
   abbrev leads : List ℕ → Way (Sofar (List ℕ) Failure)
-  leads h = settled (written_all form request body) (way h)
+  leads h = settled (written_all 8 request body) (way h)
 
   abbrev head : List ℕ
   head = reply_head request WriteAttributesResponse
@@ -77,12 +77,12 @@ module _ (form : ℕ) (request : ZclHeader) (s : List ℕ) (room : ℕ) (r : Put
   begun = headed_in request WriteAttributesResponse s room r after p (λ h. concluded encode room h (leads h)) start e
 
   passes : Passes encode (way head) head first t d
-  passes = subst (λ (n : ℕ). Passes encode (pass (checking form request) (fits encode n (length head)) (records body) s) head first t d) begun.0.1 (w head begun.0.0)
+  passes = subst (λ (n : ℕ). Passes encode (pass (checking 8 request) (fits encode n (length head)) (records body) s) head first t d) begun.0.1 (w head begun.0.0)
 
   led : Passes encode (leads head) head first u d
-  led = subst (λ (x : List ℕ). Passes encode (leads head) head first x d) (sym z) (settled_passes (written_all form request body) start head (way head) t d begun.0.0.place first passes clean (sym c))
+  led = subst (λ (x : List ℕ). Passes encode (leads head) head first x d) (sym z) (settled_passes (written_all 8 request body) start head (way head) t d begun.0.0.place first passes clean (sym c))
 
-  pub undivided_run : (x : Answer) (d2 : List ℕ) → seen x d2 no_state ≡ concluded_at d start first → seen x d2 u ≡ write_undivided form s request body room
+  pub undivided_run : (x : Answer) (d2 : List ℕ) → seen x d2 no_state ≡ concluded_at d start first → seen x d2 u ≡ write_undivided 8 s request body room
   unfolding write_undivided
   undivided_run x d2 q =
       concludes encode some d start first x d2 q head (leads head) u begun.0.0.place led

@@ -1,7 +1,6 @@
 // The three commands.
 ghost use Rattle.std.specs.Prelude.{◌≡◌, length};
 ghost use Rattle.frame.specs.Answer.{seen};
-ghost use Rattle.store.specs.Contents.{entry_size};
 ghost use Rattle.write.specs.Write.{write_attributes, write_undivided, write_silently};
 ghost use Rattle.write.specs.Inside.{is_clean};
 
@@ -11,7 +10,6 @@ use frame::command_identifier::CommandIdentifier;
 use frame::failures::{Pass, conclude};
 use frame::header::{ZclHeader, begin_reply};
 use frame::reply::Put;
-use store::form::Form;
 
 // Whether a pass took every record and listed none of them.
 fn is_clean(done: Pass, start: usize) -> bool
@@ -27,38 +25,36 @@ fn is_clean(done: Pass, start: usize) -> bool
 // Write Attributes.
 pub fn write_attributes(
     store: &mut [u8],
-    form: Form,
     request: ZclHeader,
     body: &[u8],
     reply: &mut [u8],
 ) -> Answer
-    ensures { seen result reply.new store.new ≡ write_attributes (entry_size form) store.old request body.now (length reply.old) }
+    ensures { seen result reply.new store.new ≡ write_attributes 8 store.old request body.now (length reply.old) }
 {
     let begun = begin_reply(reply, request, CommandIdentifier::WriteAttributesResponse);
     let Put::At(start) = begun else {
         return refuse(reply, Refusal::ReplyTooLong);
     };
-    let done = pass_records(store, form, Task::Write, request, body, reply, start);
+    let done = pass_records(store, Task::Write, request, body, reply, start);
     conclude(reply, start, done)
 }
 
 // Write Attributes Undivided: the checks first, and the writes only where none of them failed, so that none can fail any more.
 pub fn write_attributes_undivided(
     store: &mut [u8],
-    form: Form,
     request: ZclHeader,
     body: &[u8],
     reply: &mut [u8],
 ) -> Answer
-    ensures { seen result reply.new store.new ≡ write_undivided (entry_size form) store.old request body.now (length reply.old) }
+    ensures { seen result reply.new store.new ≡ write_undivided 8 store.old request body.now (length reply.old) }
 {
     let begun = begin_reply(reply, request, CommandIdentifier::WriteAttributesResponse);
     let Put::At(start) = begun else {
         return refuse(reply, Refusal::ReplyTooLong);
     };
-    let first = pass_records(store, form, Task::Check, request, body, reply, start);
+    let first = pass_records(store, Task::Check, request, body, reply, start);
     if is_clean(first, start) {
-        apply_write_records(store, form, request, body);
+        apply_write_records(store, request, body);
     }
     conclude(reply, start, first)
 }
@@ -66,13 +62,12 @@ pub fn write_attributes_undivided(
 // Write Attributes No Response.
 pub fn write_attributes_no_response(
     store: &mut [u8],
-    form: Form,
     request: ZclHeader,
     body: &[u8],
     reply: &mut [u8],
 ) -> Answer
-    ensures { seen result reply.new store.new ≡ write_silently (entry_size form) store.old request body.now (length reply.old) }
+    ensures { seen result reply.new store.new ≡ write_silently 8 store.old request body.now (length reply.old) }
 {
-    apply_write_records(store, form, request, body);
+    apply_write_records(store, request, body);
     refuse(reply, Refusal::NothingToSend)
 }

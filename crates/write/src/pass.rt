@@ -4,7 +4,6 @@ ghost use Rattle.frame.specs.Status.{status_code};
 ghost use Rattle.frame.specs.Inside.Buffer.{putting};
 ghost use Rattle.frame.specs.Inside.Failures.{noting};
 ghost use Rattle.frame.specs.Inside.Passes.{Passed};
-ghost use Rattle.store.specs.Contents.{entry_size};
 ghost use Rattle.store.specs.Write.{wrote, write_of};
 ghost use Rattle.write.specs.Request.{records};
 ghost use Rattle.write.specs.Reply.{failure, encode};
@@ -16,7 +15,6 @@ use frame::failures::{Pass, list_failure};
 use frame::header::ZclHeader;
 use frame::reply::Put;
 use frame::status::Status;
-use store::form::Form;
 use store::lookup::{Name, name_of};
 use store::write::{Checked, check_write, write};
 use types::ids::{AttributeId, TypeId};
@@ -40,48 +38,34 @@ pub(crate) enum Step {
 }
 
 // The status of a value that is only checked: what a write of it would say.
-fn check_writable(s: &[u8], form: Form, name: Name, type_id: TypeId, value: &[u8]) -> Status
-    ensures { result ≡ (write_of (entry_size form) s.now name.0 type_id.0 value.now).status }
+fn check_writable(s: &[u8], name: Name, type_id: TypeId, value: &[u8]) -> Status
+    ensures { result ≡ (write_of 8 s.now name.0 type_id.0 value.now).status }
 {
-    let Checked::Failed(why) = check_write(s, form, name, type_id, value) else {
+    let Checked::Failed(why) = check_write(s, name, type_id, value) else {
         return Status::Success;
     };
     why
 }
 
 // A value written, or only checked.
-fn do_value(
-    s: &mut [u8],
-    form: Form,
-    task: Task,
-    name: Name,
-    type_id: TypeId,
-    value: &[u8],
-) -> Status
-    ensures { wrote result s.new ≡ task_of task (entry_size form) s.old name.0 type_id.0 value.now }
+fn do_value(s: &mut [u8], task: Task, name: Name, type_id: TypeId, value: &[u8]) -> Status
+    ensures { wrote result s.new ≡ task_of task 8 s.old name.0 type_id.0 value.now }
 {
     match task {
-        Task::Check => check_writable(s, form, name, type_id, value),
-        Task::Write => write(s, form, name, type_id, value),
+        Task::Check => check_writable(s, name, type_id, value),
+        Task::Write => write(s, name, type_id, value),
     }
 }
 
 // One record read, and written or checked.
-fn record_turn(
-    store: &mut [u8],
-    form: Form,
-    task: Task,
-    request: ZclHeader,
-    body: &[u8],
-    at: usize,
-) -> Step
-    ensures { Took (doing_of task (entry_size form) request) store.old body.now at result store.new }
+fn record_turn(store: &mut [u8], task: Task, request: ZclHeader, body: &[u8], at: usize) -> Step
+    ensures { Took (doing_of task 8 request) store.old body.now at result store.new }
 {
     let Next::Record { id, type_id, end } = next_record(body, at) else {
         return Step::Cut;
     };
     let name = name_of(request.manufacturer_code, id);
-    let status = do_value(store, form, task, name, type_id, &body[at + 3..end]);
+    let status = do_value(store, task, name, type_id, &body[at + 3..end]);
     Step::Done { end, status, id }
 }
 
@@ -97,20 +81,18 @@ fn note(reply: &mut [u8], out: usize, status: Status, id: AttributeId) -> Put
 // Every record of the body, its failures listed from `start` on, until one cannot be read or does not fit.
 pub(crate) fn pass_records(
     store: &mut [u8],
-    form: Form,
     task: Task,
     request: ZclHeader,
     body: &[u8],
     reply: &mut [u8],
     start: usize,
 ) -> Pass
-    ensures { Passed (doing_of task (entry_size form) request) (records body.now) start store.old reply.old result store.new reply.new }
+    ensures { Passed (doing_of task 8 request) (records body.now) start store.old reply.old result store.new reply.new }
 {
     let mut at: usize = 0;
     let mut out = start;
     while at < body.len() {
-        let Step::Done { end, status, id } = record_turn(store, form, task, request, body, at)
-        else {
+        let Step::Done { end, status, id } = record_turn(store, task, request, body, at) else {
             return Pass::Cut;
         };
         let Put::At(next) = note(reply, out, status, id) else {
@@ -123,8 +105,8 @@ pub(crate) fn pass_records(
 }
 
 // Every record written, until one cannot be read; nothing is listed.
-pub(crate) fn apply_write_records(store: &mut [u8], form: Form, request: ZclHeader, body: &[u8])
-    ensures { store.new ≡ written_all (entry_size form) request body.now store.old }
+pub(crate) fn apply_write_records(store: &mut [u8], request: ZclHeader, body: &[u8])
+    ensures { store.new ≡ written_all 8 request body.now store.old }
 {
     let mut at: usize = 0;
     while at < body.len() {
@@ -132,7 +114,7 @@ pub(crate) fn apply_write_records(store: &mut [u8], form: Form, request: ZclHead
             end,
             status: _,
             id: _,
-        } = record_turn(store, form, Task::Write, request, body, at)
+        } = record_turn(store, Task::Write, request, body, at)
         else {
             return;
         };

@@ -1,12 +1,10 @@
 //! Tables at random, for the attributes of a store and for others, with and
 //! without last reports, and damaged ones.
 
-use reading::store::{Attribute, Name};
-use reading::table::{
-    Config, ENTRIES, Entry, FLAG, Key, MARK, SIGNED, SIZE, SLOT, UNSIGNED, to_bytes,
-};
+use reading::store::Attribute;
+use reading::table::{Config, ENTRIES, Entry, Key, SIGNED, SIZE, SLOT, UNSIGNED, to_bytes};
 
-use super::stores::{CLUSTERS, CODES};
+use super::stores::CLUSTERS;
 use crate::random::Random;
 
 const INTERVALS: [u16; 6] = [0, 1, 10, 60, 65534, 65535];
@@ -29,17 +27,10 @@ const COUNTS: [usize; 13] = [
     ENTRIES,
 ];
 
-/// Whether keys have codes.
-#[derive(Debug, Clone, Copy, PartialEq, Eq)]
-pub enum Codes {
-    None,
-    Some,
-}
-
 /// A table's bytes, sound or damaged.
-pub fn any(random: &mut Random, cluster: u16, attributes: &[Attribute], codes: Codes) -> Vec<u8> {
+pub fn any(random: &mut Random, cluster: u16, attributes: &[Attribute]) -> Vec<u8> {
     let many = random.of(&COUNTS);
-    let table = to_bytes(&sound(random, many, cluster, attributes, codes));
+    let table = to_bytes(&sound(random, many, cluster, attributes));
     if random.one_in(24) {
         damaged(random, table)
     } else {
@@ -53,19 +44,11 @@ pub fn sound(
     many: usize,
     cluster: u16,
     attributes: &[Attribute],
-    codes: Codes,
 ) -> Vec<Entry> {
     // about five of the store's, so that a full table does not have all of them
     let own = (many / 5).max(3);
     (0..many)
-        .map(|_| {
-            let mut entry = entry(random, own, cluster, attributes);
-            // an attribute's own, mostly; another's now and then
-            if codes == Codes::Some && random.one_in(3) {
-                entry.key.code = random.of(&CODES);
-            }
-            entry
-        })
+        .map(|_| entry(random, own, cluster, attributes))
         .collect()
 }
 
@@ -73,16 +56,17 @@ pub fn sound(
 /// an attribute of the store.
 fn entry(random: &mut Random, own: usize, cluster: u16, attributes: &[Attribute]) -> Entry {
     let own = !attributes.is_empty() && random.one_in(own);
-    let cluster = match random.below(4) {
-        0 => random.of(&CLUSTERS),
-        _ => cluster,
+    let key = Key {
+        cluster: match random.below(4) {
+            0 => random.of(&CLUSTERS),
+            _ => cluster,
+        },
+        attribute: if own {
+            random.of(attributes).id
+        } else {
+            random.short()
+        },
     };
-    let name = if own {
-        random.of(attributes).name
-    } else {
-        Name::plain(random.short())
-    };
-    let key = Key::of(cluster, name);
     let change = match random.below(3) {
         0 => random.number(),
         _ => random.byte().into(),
@@ -108,8 +92,8 @@ fn damaged(random: &mut Random, mut table: Vec<u8>) -> Vec<u8> {
         1 => table.truncate(random.below(SIZE)),
         2 => table.push(0),
         // a mark or a flag
-        3 => table[1 + SLOT * count + MARK] = random.of(&[1, 2, 0xff]),
-        4 => table[1 + SLOT * count + FLAG] = random.of(&[1, 2, 0xff]),
+        3 => table[1 + SLOT * count + 16] = random.of(&[1, 2, 0xff]),
+        4 => table[1 + SLOT * count + 17] = random.of(&[1, 2, 0xff]),
         _ => {
             let at = random.below(SIZE);
             table[at] ^= 1 << random.below(8);

@@ -51,23 +51,6 @@ impl Answer {
 }
 
 impl Call {
-    pub fn key(&self) -> Key {
-        match *self {
-            Self::Configure(key, _) | Self::Clear(key) | Self::Configuration(key) => key,
-            Self::Ask(key, ..) | Self::Mark(key, ..) => key,
-        }
-    }
-
-    pub fn name(&self) -> &'static str {
-        match self {
-            Self::Configure(..) => "configure",
-            Self::Clear(_) => "clear",
-            Self::Configuration(_) => "configuration",
-            Self::Ask(..) => "ask",
-            Self::Mark(..) => "mark",
-        }
-    }
-
     /// The answer of documents 01 and 02 on a table of these entries, which are
     /// then as they are to be.
     pub fn document(&self, entries: &mut Vec<Entry>) -> Answer {
@@ -110,9 +93,9 @@ impl fmt::Display for Call {
     }
 }
 
-/// Cluster, code and attribute, in hex.
+/// Cluster and attribute, in hex.
 pub fn shown(key: Key) -> String {
-    format!("{:04x}/{:04x}/{:04x}", key.cluster, key.code, key.attribute)
+    format!("{:04x}/{:04x}", key.cluster, key.attribute)
 }
 
 pub fn settings(config: Config) -> String {

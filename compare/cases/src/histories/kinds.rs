@@ -1,9 +1,6 @@
 //! Calls by kind and answer, and how often each came.
 
-use reading::store::NO_CODE;
-use reading::table::{
-    Broken, ENTRIES, Entry, FORMER_ENTRIES, Key, Reason, SIGNED, ask, moved, place,
-};
+use reading::table::{Broken, ENTRIES, Entry, FORMER_ENTRIES, Reason, SIGNED, ask, moved, place};
 
 use super::call::{Answer, Call};
 use super::middle::deciding;
@@ -12,15 +9,13 @@ use super::middle::deciding;
 pub const CALLS: [&str; 5] = ["configure", "clear", "configuration", "mark", "ask"];
 
 /// All that is done to a table's bytes.
-pub const ALL: [&str; 13] = [
+pub const ALL: [&str; 11] = [
     "configure",
     "clear",
     "configuration",
     "mark",
     "ask",
     "refused",
-    "coded",
-    "uncoded",
     "signed",
     "unsigned",
     "entries",
@@ -29,7 +24,7 @@ pub const ALL: [&str; 13] = [
 ];
 
 /// All kinds; a run that does not reach each of them has failed.
-const KINDS: [&str; 89] = [
+const KINDS: [&str; 57] = [
     "configure accepted, new key",
     "configure accepted, key again",
     "configure not accepted",
@@ -59,38 +54,6 @@ const KINDS: [&str; 89] = [
     "ask no: not moved",
     "ask no: clock back, not moved",
     "refused, 13: configure with a mark above 1",
-    "coded: configure 0, the key stands",
-    "coded: configure 0, it stands under another code",
-    "coded: configure 0, it does not stand",
-    "coded: configure 8",
-    "coded: configure 13",
-    "coded: clear 0, the key stands",
-    "coded: clear 0, it stands under another code",
-    "coded: clear 0, it does not stand",
-    "coded: clear 8",
-    "coded: configuration 0, the key stands",
-    "coded: configuration 0, it stands under another code",
-    "coded: configuration 0, it does not stand",
-    "coded: configuration 8",
-    "coded: ask 0, the key stands",
-    "coded: ask 0, it stands under another code",
-    "coded: ask 0, it does not stand",
-    "coded: ask 8",
-    "coded: mark 0, the key stands",
-    "coded: mark 0, it stands under another code",
-    "coded: mark 0, it does not stand",
-    "coded: mark 8",
-    "uncoded: configure 0, it stands under another code",
-    "uncoded: configure 8",
-    "uncoded: configure 13",
-    "uncoded: clear 0, it stands under another code",
-    "uncoded: clear 8",
-    "uncoded: configuration 0, it stands under another code",
-    "uncoded: configuration 8",
-    "uncoded: ask 0, it stands under another code",
-    "uncoded: ask 8",
-    "uncoded: mark 0, it stands under another code",
-    "uncoded: mark 8",
     "signed: ask that the values do not decide, and the Rust says the same",
     "signed: ask, both values below 0 or neither, and the Rust says the same",
     "signed: ask, one value below 0 and one not, and the Rust says the same",
@@ -130,16 +93,9 @@ impl Default for Kinds {
 }
 
 impl Kinds {
-    pub fn count(&mut self, kind: &str) {
+    pub fn count(&mut self, kind: &'static str) {
         let place = KINDS.iter().position(|&known| known == kind);
         self.0[place.expect("the kind is listed")] += 1;
-    }
-
-    /// Counts it where it is listed.
-    pub fn count_listed(&mut self, kind: &str) {
-        if KINDS.contains(&kind) {
-            self.count(kind);
-        }
     }
 
     /// The kinds of these calls that never came.
@@ -191,30 +147,6 @@ pub fn of(entries: &[Entry], call: &Call, answer: &Answer) -> &'static str {
             of_ask(reason, entry, now, value)
         }
     }
-}
-
-/// The kind of a call by whether its key has a code, what it is answered, and what
-/// stands. Not all that come without a code are listed: most are of other kinds too.
-pub fn of_coded(entries: &[Entry], call: &Call, number: u8) -> String {
-    let key = call.key();
-    let coded = if key.code == NO_CODE {
-        "uncoded"
-    } else {
-        "coded"
-    };
-    let beside = |entry: &Entry| {
-        let Key {
-            cluster, attribute, ..
-        } = entry.key;
-        (cluster, attribute) == (key.cluster, key.attribute)
-    };
-    let stands = match number {
-        0 if place(entries, key).is_some() => ", the key stands",
-        0 if entries.iter().any(beside) => ", it stands under another code",
-        0 => ", it does not stand",
-        _ => "",
-    };
-    format!("{coded}: {} {number}{stands}", call.name())
 }
 
 fn of_ask(reason: Reason, entry: Option<Entry>, now: u32, value: i64) -> &'static str {

@@ -78,7 +78,10 @@ pub const SMALLEST: [Smallest; 2] = [
 
 /// A key configured with this mark and change, reported, and asked at once.
 pub const fn moving(mark: u8, change: u64, reported: i64, value: i64) -> [Call; 3] {
-    let key = Key::plain(0xfc21, 5);
+    let key = Key {
+        cluster: 0xfc21,
+        attribute: 5,
+    };
     let config = Config {
         minimum: 0,
         maximum: 60,

@@ -26,9 +26,6 @@ pub const SERVED: [&str; 11] = [
 /// The calls besides.
 pub const OTHERS: [&str; 3] = ["unsupported cluster", "report", "number"];
 
-/// The moves between the forms of a store.
-pub const MOVES: [&str; 2] = ["to second", "to first"];
-
 pub const ALLOWED: &[(&str, u8, &[Detail])] = &[
     ("any frame", 1, &[Said("other cluster")]),
     ("any frame", 2, &[Said("header short")]),
@@ -266,51 +263,6 @@ pub const ALLOWED: &[(&str, u8, &[Detail])] = &[
     ("number", 0, &[Said("not below 0"), Said("below 0")]),
     ("number", 7, &[Said("no store")]),
     ("number", 9, &[Said("not found"), Said("no number")]),
-    ("to second", 0, &MOVED),
-    ("to second", 5, &NOT_MOVED),
-    (
-        "to second",
-        7,
-        &[
-            Said("no store"),
-            Said("a store of the other form"),
-            Said("before 5"),
-        ],
-    ),
-    ("to first", 0, &MOVED),
-    ("to first", 5, &NOT_MOVED),
-    (
-        "to first",
-        7,
-        &[
-            Said("no store"),
-            Said("a store of the other form"),
-            Said("names in the order of their ids"),
-            Said("before 5"),
-        ],
-    ),
-    (
-        "to first",
-        14,
-        &[
-            Said("some have codes"),
-            Said("all have codes"),
-            Said("before 5"),
-        ],
-    ),
-];
-
-const MOVED: [Detail; 4] = [
-    Said("of attributes"),
-    Said("of none"),
-    Said("no room to spare"),
-    Said("room to spare"),
-];
-
-const NOT_MOVED: [Detail; 3] = [
-    Said("no room at all"),
-    Said("a byte short"),
-    Said("shorter"),
 ];
 
 /// All kinds.

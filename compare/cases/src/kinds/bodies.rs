@@ -1,5 +1,6 @@
 //! The kinds of what reading and discovering answer.
 
+use reading::store::attributes;
 use reading::{Extent, extent};
 
 use super::Detail::{self, Said};
@@ -48,7 +49,7 @@ pub fn discover(call: &Call<'_>, body: &[u8]) -> Vec<Detail> {
     let said = match call.answer.number {
         0 => found(call, body),
         4 => "cut",
-        _ if call.room < call.head() => "header",
+        _ if call.room < 3 => "header",
         _ => "the complete byte",
     };
     vec![Said(said)]
@@ -56,8 +57,8 @@ pub fn discover(call: &Call<'_>, body: &[u8]) -> Vec<Detail> {
 
 fn found(call: &Call<'_>, body: &[u8]) -> &'static str {
     let start = u16::from_le_bytes([body[0], body[1]]);
-    let all = call.scope().attributes(call.store);
-    let from_start = all.iter().filter(|entry| entry.name.id >= start).count();
+    let all = attributes(call.store).unwrap_or_default();
+    let from_start = all.iter().filter(|entry| entry.id >= start).count();
     let sent = call.records().len() / 3;
     match call.records()[0] {
         1 if from_start == 0 => "complete, nothing from start on",

@@ -1,12 +1,11 @@
 //! The kinds of what the two reporting commands answer.
 
-use reading::commands::serve;
 use reading::is_analog;
 use reading::table::{SIGNED, place};
 
 use super::Detail::{self, Alone, Said};
 use super::bodies::stopped_or_not;
-use super::served::Call;
+use super::served::{Call, header_or};
 use super::writes::listed;
 
 pub fn configure(call: &Call<'_>, body: &[u8]) -> Vec<Detail> {
@@ -15,8 +14,8 @@ pub fn configure(call: &Call<'_>, body: &[u8]) -> Vec<Detail> {
         0 => listed(call, body, 4),
         4 => vec![Said("cut")],
         // under ample room it would have been a failure or the one 00
-        _ if call.room == call.head() && !fails(call) => vec![Said("the one 00")],
-        _ => vec![call.header_or("a failure")],
+        _ if call.room == 3 && !fails(call, body) => vec![Said("the one 00")],
+        _ => vec![header_or(call.room, "a failure")],
     };
     if done && call.answer.number != 0 {
         details.push(Said("earlier records done"));
@@ -32,12 +31,14 @@ pub fn configure(call: &Call<'_>, body: &[u8]) -> Vec<Detail> {
 }
 
 /// Whether any record of the request fails.
-fn fails(call: &Call<'_>) -> bool {
-    let (store, table) = (&mut call.store.to_vec(), &mut call.table.to_vec());
+fn fails(call: &Call<'_>, body: &[u8]) -> bool {
+    let mut table = call.table.to_vec();
+    let request = [&[0x00, 0x00, 0x06], body].concat();
     let cluster = reading::store::cluster_of(call.store).unwrap_or(0);
-    let ample = 6 + 4 * call.request.len();
-    let answer = serve(store, call.form, table, cluster, true, call.request, ample);
-    answer.reply.len() != call.head() + 1
+    let store = &mut call.store.to_vec();
+    let ample = 4 + 4 * request.len();
+    let answer = reading::commands::serve(store, &mut table, cluster, true, &request, ample);
+    answer.reply.len() != 4
 }
 
 fn changed(call: &Call<'_>) -> Option<Detail> {

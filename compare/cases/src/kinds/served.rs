@@ -1,19 +1,16 @@
 //! The kinds of a served frame's answer.
 
 use reading::commands::Answer;
-use reading::store::{Form, NO_CODE, Scope};
 use reading::table::Entry;
 use reading::{FrameType, Header};
 
 use super::Detail::{Alone, Said};
 use super::{Detail, Kind, bodies, reporting, writes};
-use crate::case::scope;
 use crate::records::body_of;
 
 /// One call and all that came of it.
 pub struct Call<'a> {
     pub store: &'a [u8],
-    pub form: Form,
     pub table: &'a [Entry],
     pub unicast: bool,
     pub request: &'a [u8],
@@ -28,24 +25,9 @@ impl Call<'_> {
         self.store != self.store_after
     }
 
-    /// What the request can name.
-    pub fn scope(&self) -> Scope {
-        scope(self.form, self.request)
-    }
-
-    /// The bytes of the reply's header.
-    pub fn head(&self) -> usize {
-        head(self.scope().code)
-    }
-
     /// The records of the reply.
     pub fn records(&self) -> &[u8] {
-        self.answer.reply.get(self.head()..).unwrap_or_default()
-    }
-
-    /// Where the reply's header and its records were in the way of the room.
-    pub fn header_or(&self, otherwise: &'static str) -> Detail {
-        header_or(self.scope().code, self.room, otherwise)
+        self.answer.reply.get(3..).unwrap_or_default()
     }
 }
 
@@ -85,19 +67,9 @@ fn by_command(call: &Call<'_>, header: &Header, body: &[u8]) -> (&'static str, V
     }
 }
 
-/// The bytes of the header of a reply with this code.
-pub fn head(code: u16) -> usize {
-    if code == NO_CODE { 3 } else { 5 }
-}
-
-/// Where the header of a reply with this code and its records were in the way of
-/// the room.
-pub fn header_or(code: u16, room: usize, otherwise: &'static str) -> Detail {
-    Said(if room < head(code) {
-        "header"
-    } else {
-        otherwise
-    })
+/// Where the reply's header and its records were in the way of the room.
+pub fn header_or(room: usize, otherwise: &'static str) -> Detail {
+    Said(if room < 3 { "header" } else { otherwise })
 }
 
 /// The statuses of the records of a reply, as details.
@@ -116,16 +88,14 @@ fn received(call: &Call<'_>) -> Vec<Detail> {
     } else {
         "no unicast"
     });
-    let narrow = (call.room < call.head() + 2).then_some(Said("without room for an answer"));
+    let narrow = (call.room < 5).then_some(Said("without room for an answer"));
     [sent].into_iter().chain(narrow).collect()
 }
 
 fn default_response(call: &Call<'_>) -> Vec<Detail> {
     match call.answer.number {
         0 => call.records()[1..].iter().map(|&s| Alone(s)).collect(),
-        5 if call.unicast && call.room < call.head() + 2 => {
-            vec![call.header_or("behind the header")]
-        }
+        5 if call.unicast && call.room < 5 => vec![header_or(call.room, "behind the header")],
         6 if !call.unicast => vec![Said("no unicast")],
         // allowed nowhere
         _ => vec![Said("without a reason")],

@@ -1,18 +1,18 @@
 //! The kinds of what the three writes answer.
 
 use super::Detail::{self, Alone, Said};
-use super::served::{Call, statuses};
+use super::served::{Call, header_or, statuses};
 use crate::records::{End, Record, records};
 
 pub fn write(call: &Call<'_>, body: &[u8]) -> Vec<Detail> {
-    let (records, end) = records(call.store, call.scope(), body);
+    let (records, end) = records(call.store, body);
     let mut details = match call.answer.number {
         0 => listed(call, body, 3),
         4 => vec![trouble(end)],
         _ if records.iter().any(|record| record.status != 0x00) => {
-            vec![call.header_or("a failure")]
+            vec![header_or(call.room, "a failure")]
         }
-        _ => vec![call.header_or("the one 00")],
+        _ => vec![header_or(call.room, "the one 00")],
     };
     if call.stored() {
         match call.answer.number {
@@ -25,13 +25,13 @@ pub fn write(call: &Call<'_>, body: &[u8]) -> Vec<Detail> {
 }
 
 pub fn undivided(call: &Call<'_>, body: &[u8]) -> Vec<Detail> {
-    let (records, end) = records(call.store, call.scope(), body);
+    let (records, end) = records(call.store, body);
     let fails = records.iter().any(|record| record.status != 0x00);
     let mut details = match call.answer.number {
         0 => listed(call, body, 3),
         4 => vec![trouble(end)],
-        _ if fails => vec![call.header_or("a failure")],
-        _ => vec![call.header_or("the one 00")],
+        _ if fails => vec![header_or(call.room, "a failure")],
+        _ => vec![header_or(call.room, "the one 00")],
     };
     details.extend(by_fourth_check(call, &records, end));
     if call.stored() {
@@ -51,7 +51,7 @@ fn by_fourth_check(call: &Call<'_>, records: &[Record<'_>], end: End) -> Option<
     let many = |failed: fn(&Record<'_>) -> bool| records.iter().filter(|one| failed(one)).count();
     let by_three = many(|record| record.of_three != 0x00);
     let too_long = many(|record| record.of_three != record.status);
-    if too_long == 0 || call.room < call.head() + 3 * by_three {
+    if too_long == 0 || call.room < 3 + 3 * by_three {
         return None;
     }
     match (call.answer.number, end) {
@@ -64,7 +64,7 @@ fn by_fourth_check(call: &Call<'_>, records: &[Record<'_>], end: End) -> Option<
 }
 
 pub fn no_response(call: &Call<'_>, body: &[u8]) -> Vec<Detail> {
-    let (records, end) = records(call.store, call.scope(), body);
+    let (records, end) = records(call.store, body);
     let mut details = vec![Said(match end {
         End::Whole => "whole",
         End::Cut => "up to a cut record",

@@ -2,30 +2,25 @@
 
 use cases::given::small_room;
 use cases::given::stores::CLUSTERS;
-use cases::kinds::{Coding, Forms, Kinds, of_unsupported};
+use cases::kinds::{Kinds, of_unsupported};
 use cases::requests::header;
-use cases::{Random, hex, room_without, scope, with_code, without_code};
+use cases::{Random, hex};
 use oracle::Request;
 use ours::{Call, Held, lent_list, replied};
-use reading::store::Form;
 
-pub fn one(random: &mut Random, kinds: &mut Kinds, forms: &mut Forms) -> Result<Held, String> {
+pub fn one(random: &mut Random, kinds: &mut Kinds) -> Result<Held, String> {
     let many = random.below(5);
     let served: Vec<u16> = (0..many).map(|_| random.of(&CLUSTERS)).collect();
     let cluster = random.of(&[0xfc21, 0x0006, 0x0600, 0x1234]);
     let (unicast, room) = (random.of(&[0, 1, 1, 0x80]), small_room(random));
     let request = request(random);
 
-    let document = |request: &[u8], room| {
-        reading::commands::unsupported_cluster(&served, cluster, unicast != 0, request, room)
-    };
-    let answer = document(&request, room);
-    // the Rust ignores a code: a listed difference
-    let plain = without_code(&request);
-    let ignoring = document(&plain, room);
+    let unicast_asked = unicast != 0;
+    let answer =
+        reading::commands::unsupported_cluster(&served, cluster, unicast_asked, &request, room);
     let asked = Request {
         cluster,
-        unicast: unicast != 0,
+        unicast: unicast_asked,
         frame: &request,
         room,
     };
@@ -36,18 +31,11 @@ pub fn one(random: &mut Random, kinds: &mut Kinds, forms: &mut Forms) -> Result<
             hex(&request)
         )
     };
-    if rust != (ignoring.number == 0).then_some(ignoring.reply) {
+    if rust != (answer.number == 0).then(|| answer.reply.clone()) {
         return Err(named(format!("document 01 {answer:?}, the Rust {rust:?}")));
-    }
-    let code = scope(Form::FIRST, &request).code;
-    let alone = document(&plain, room_without(room, code));
-    if (answer.number, &answer.reply) != (alone.number, &with_code(&alone.reply, code)) {
-        return Err(named(format!("not as without its code: {answer:?}")));
     }
     let counted = of_unsupported(&served, cluster, &request, room, &answer);
     kinds.count(&counted).map_err(named)?;
-    let coding = Coding::of_frame(&[], Form::FIRST, &request);
-    forms.count(&counted, Form::FIRST, coding);
     Ok(Held {
         call: Call::unsupported_cluster(&served, cluster, unicast, &request, room),
         answer: replied(&answer, room, [&lent_list(&served), &request]),
@@ -62,8 +50,7 @@ fn request(random: &mut Random) -> Vec<u8> {
         _ => random.byte(),
     };
     let more = random.below(3);
-    let code = random.of(&[0, 1, 0x1234]);
-    let whole = [header(random, control, code, command), random.bytes(more)].concat();
+    let whole = [header(random, control, command), random.bytes(more)].concat();
     match random.below(8) {
         0 => whole[..random.below(whole.len())].to_vec(),
         _ => whole,

@@ -18,8 +18,6 @@ pub enum Refusal {
     NotReportable = 12,
     /// Of document 02: bytes that are not a saved form, or a table without one.
     NoSavedForm = 13,
-    /// A store of the second form of which some entry has a code.
-    CannotGoBack = 14,
 }
 
 impl From<Cut> for Refusal {

@@ -4,13 +4,12 @@
 use super::answer::Served;
 use super::reply::{Reply, id_bytes};
 use crate::body::Body;
-use crate::store::{Form, Scope, find};
+use crate::store::find;
 use crate::table::{Entry, Key, place};
 use crate::types::change_width;
 
 pub fn read_configuration(
     store: &[u8],
-    scope: Scope,
     table: &[Entry],
     cluster: u16,
     mut body: Body<'_>,
@@ -18,8 +17,8 @@ pub fn read_configuration(
 ) -> Served {
     while body.goes_on() {
         let direction = body.byte()?;
-        let key = Key::of(cluster, scope.name(body.short()?));
-        let record = record(store, scope.form, table, direction, key);
+        let attribute = body.short()?;
+        let record = record(store, table, direction, Key { cluster, attribute });
         if !reply.fits(record.len()) {
             break;
         }
@@ -28,10 +27,10 @@ pub fn read_configuration(
     reply.done()
 }
 
-fn record(store: &[u8], form: Form, table: &[Entry], direction: u8, key: Key) -> Vec<u8> {
+fn record(store: &[u8], table: &[Entry], direction: u8, key: Key) -> Vec<u8> {
     let [low, high] = id_bytes(key.attribute);
     let status_alone = |status| vec![status, direction, low, high];
-    let Some(attribute) = find(store, form, key.name()) else {
+    let Some(attribute) = find(store, key.attribute) else {
         return status_alone(0x86);
     };
     if direction != 0 {

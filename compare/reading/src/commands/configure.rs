@@ -4,7 +4,7 @@ use super::answer::{Refusal, Served};
 use super::reply::{Reply, id_bytes};
 use crate::body::Body;
 use crate::number::{is_int, widened};
-use crate::store::{Form, Scope, find};
+use crate::store::find;
 use crate::table::{Config, Entry, Key, SIGNED, UNSIGNED, clear, configure as set};
 use crate::types::change_width;
 
@@ -54,7 +54,6 @@ fn change(type_code: u8, field: &[u8]) -> u64 {
 
 pub fn configure(
     store: &[u8],
-    scope: Scope,
     table: &mut Vec<Entry>,
     cluster: u16,
     mut body: Body<'_>,
@@ -66,8 +65,8 @@ pub fn configure(
         let id = body.short()?;
         let status = if direction == 0 {
             let asked = Asked::read(&mut body)?;
-            let key = Key::of(cluster, scope.name(id));
-            one(store, scope.form, table, key, &asked)
+            let attribute = id;
+            one(store, table, Key { cluster, attribute }, &asked)
         } else {
             body.short()?;
             0x8c
@@ -85,8 +84,8 @@ pub fn configure(
 }
 
 /// The status of one record of direction 0, which is done if it is 00.
-fn one(store: &[u8], form: Form, table: &mut Vec<Entry>, key: Key, asked: &Asked) -> u8 {
-    let Some(attribute) = find(store, form, key.name()) else {
+fn one(store: &[u8], table: &mut Vec<Entry>, key: Key, asked: &Asked) -> u8 {
+    let Some(attribute) = find(store, key.attribute) else {
         return 0x86;
     };
     if attribute.access & 2 == 0 {

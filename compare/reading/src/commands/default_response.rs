@@ -11,7 +11,7 @@ pub fn default_response(header: &Header, unicast: bool, status: u8, room: usize)
     if !unicast {
         return Err(Refusal::NothingToSend);
     }
-    let mut reply = Reply::begun(header.code(), header.sequence, 0x0b, room)?;
+    let mut reply = Reply::begun(header.sequence, 0x0b, room)?;
     reply.put(&[header.command, status])?;
     reply.done()
 }

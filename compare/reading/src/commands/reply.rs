@@ -1,7 +1,6 @@
 //! A reply as it is written. What does not fit is not written at all.
 
 use super::answer::{Refusal, Served};
-use crate::store::NO_CODE;
 
 pub struct Reply {
     bytes: Vec<u8>,
@@ -9,19 +8,13 @@ pub struct Reply {
 }
 
 impl Reply {
-    /// Every reply starts 18, sequence, reply command; to a request with a code 1c,
-    /// that code, sequence, reply command.
-    pub fn begun(code: u16, sequence: u8, command: u8, room: usize) -> Result<Self, Refusal> {
+    /// Every reply starts 18, sequence, reply command.
+    pub fn begun(sequence: u8, command: u8, room: usize) -> Result<Self, Refusal> {
         let mut reply = Self {
             bytes: Vec::new(),
             room,
         };
-        let [low, high] = code.to_le_bytes();
-        if code == NO_CODE {
-            reply.put(&[0x18, sequence, command])?;
-        } else {
-            reply.put(&[0x1c, low, high, sequence, command])?;
-        }
+        reply.put(&[0x18, sequence, command])?;
         Ok(reply)
     }
 

@@ -1,20 +1,17 @@
-//! A report turn: one frame for all of one code that is due. Document 02, requests 3
-//! and 8.
+//! A report turn: one frame for all that is due. Document 02, request 3.
 
 use std::collections::BTreeSet;
 
 use super::answer::{Answer, Refusal, Served};
 use super::reply::Reply;
 use super::report::record;
-use crate::store::{Form, Scope, cluster_of, is_store, number};
+use crate::store::{cluster_of, is_store, number};
 use crate::table::{self, Entry, Key, ask, entries, place};
 
 /// What a turn is handed, beside the table.
 #[derive(Debug, Clone, Copy, PartialEq, Eq)]
 pub struct Turn<'a> {
     pub store: &'a [u8],
-    pub form: Form,
-    pub code: u16,
     pub sequence: u8,
     pub now: u32,
     /// The last id reported; none where it is no id, above ffff.
@@ -52,7 +49,7 @@ impl Turn<'_> {
 
     /// Writes the frame, and marks what stands in it.
     fn marked(&self, table: &mut [u8]) -> Result<Written, Refusal> {
-        if !is_store(self.store, self.form) {
+        if !is_store(self.store) {
             return Err(Refusal::NoStore);
         }
         let mut entries = entries(table).map_err(|_| Refusal::NoTable)?;
@@ -68,14 +65,14 @@ impl Turn<'_> {
 
     /// The due records, up to the first that does not fit.
     fn written(&self, table: &[Entry]) -> Result<Written, Refusal> {
-        let mut frame = Reply::begun(self.code, self.sequence, 0x0a, self.room)?;
+        let mut frame = Reply::begun(self.sequence, 0x0a, self.room)?;
         let due = self.found_due(table);
         if due.is_empty() {
             return Err(Refusal::NothingToSend);
         }
         let mut ids = Vec::new();
         for id in due {
-            let record = record(self.store, self.scope(), id).expect("it was found due");
+            let record = record(self.store, id).expect("it was found due");
             if !frame.fits(record.len()) {
                 break;
             }
@@ -96,27 +93,22 @@ impl Turn<'_> {
         [first, then].concat()
     }
 
-    /// The ids of the due entries of the store's cluster and of the code, each once. An
-    /// entry whose attribute is gone or not reportable is passed over.
+    /// The ids of the due entries of the store's cluster, each once. An entry whose
+    /// attribute is gone or not reportable is passed over.
     fn ascending(&self, table: &[Entry]) -> BTreeSet<u16> {
         let ids = table.iter().map(|entry| entry.key.attribute);
-        ids.filter(|&id| record(self.store, self.scope(), id).is_some())
+        ids.filter(|&id| record(self.store, id).is_some())
             .filter(|&id| ask(table, self.key(id), self.now, self.value(id)).is_due())
             .collect()
     }
 
     /// The number of an attribute's value. No number counts as 0.
     fn value(&self, id: u16) -> i64 {
-        number(self.store, self.form, self.scope().name(id)).unwrap_or(0)
+        number(self.store, id).unwrap_or(0)
     }
 
     fn key(&self, attribute: u16) -> Key {
         let cluster = cluster_of(self.store).expect("a store has its cluster");
-        Key::of(cluster, self.scope().name(attribute))
-    }
-
-    fn scope(&self) -> Scope {
-        let Self { form, code, .. } = *self;
-        Scope { form, code }
+        Key { cluster, attribute }
     }
 }

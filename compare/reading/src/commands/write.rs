@@ -3,7 +3,7 @@
 use super::answer::{Refusal, Served};
 use super::reply::{Reply, id_bytes};
 use crate::body::Body;
-use crate::store::{self, Scope};
+use crate::store;
 
 /// One record of a request: an id, a type and a whole value of it.
 struct Record<'a> {
@@ -25,15 +25,13 @@ impl<'a> Record<'a> {
     }
 
     /// Stores the value, or says why not.
-    fn written(&self, store: &mut [u8], scope: Scope) -> u8 {
-        let name = scope.name(self.id);
-        store::write(store, scope.form, name, self.type_code, self.value)
+    fn written(&self, store: &mut [u8]) -> u8 {
+        store::write(store, self.id, self.type_code, self.value)
     }
 
     /// The same status, and nothing is stored.
-    fn checked(&self, store: &[u8], scope: Scope) -> u8 {
-        let name = scope.name(self.id);
-        let writable = store::writable(store, scope.form, name, self.type_code, self.value);
+    fn checked(&self, store: &[u8]) -> u8 {
+        let writable = store::writable(store, self.id, self.type_code, self.value);
         writable.err().unwrap_or(0x00)
     }
 }
@@ -67,40 +65,40 @@ impl Failures {
     }
 }
 
-pub fn write(store: &mut [u8], scope: Scope, mut body: Body<'_>, reply: Reply) -> Served {
+pub fn write(store: &mut [u8], mut body: Body<'_>, reply: Reply) -> Served {
     let mut failures = Failures::new(reply);
     while body.goes_on() {
         let record = Record::read(&mut body)?;
-        failures.add(record.written(store, scope), record.id)?;
+        failures.add(record.written(store), record.id)?;
     }
     failures.concluded()
 }
 
 /// All records are read and checked before the first is stored, and none is
 /// stored where one cannot be read or fails (document 02, request 2).
-pub fn undivided(store: &mut [u8], scope: Scope, mut body: Body<'_>, reply: Reply) -> Served {
+pub fn undivided(store: &mut [u8], mut body: Body<'_>, reply: Reply) -> Served {
     let mut failures = Failures::new(reply);
     let mut records = Vec::new();
     while body.goes_on() {
         let record = Record::read(&mut body)?;
-        failures.add(record.checked(store, scope), record.id)?;
+        failures.add(record.checked(store), record.id)?;
         records.push(record);
     }
     if failures.none {
         for record in records {
-            record.written(store, scope);
+            record.written(store);
         }
     }
     failures.concluded()
 }
 
 /// Up to a record that cannot be read.
-pub fn without_response(store: &mut [u8], scope: Scope, mut body: Body<'_>) -> Served {
+pub fn without_response(store: &mut [u8], mut body: Body<'_>) -> Served {
     while body.goes_on() {
         let Ok(record) = Record::read(&mut body) else {
             break;
         };
-        record.written(store, scope);
+        record.written(store);
     }
     Err(Refusal::NothingToSend)
 }

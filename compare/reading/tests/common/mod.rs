@@ -3,7 +3,6 @@
 #![allow(dead_code)] // no test takes all of them
 
 use reading::commands::serve;
-use reading::store::Form;
 use reading::table::Entry;
 
 pub const CLUSTER: u16 = 0xfc21;
@@ -30,7 +29,6 @@ pub fn bench() -> Vec<u8> {
 /// A store and a table that frames are served over, unicast.
 pub struct Served {
     pub store: Vec<u8>,
-    pub form: Form,
     pub table: Vec<Entry>,
 }
 
@@ -38,7 +36,6 @@ impl Served {
     pub fn bench() -> Self {
         Self {
             store: bench(),
-            form: Form::FIRST,
             table: Vec::new(),
         }
     }
@@ -47,7 +44,7 @@ impl Served {
     pub fn says(&mut self, frame: &str, room: usize) -> String {
         let frame = bytes(frame);
         let (store, table) = (&mut self.store, &mut self.table);
-        let answer = serve(store, self.form, table, CLUSTER, true, &frame, room);
+        let answer = serve(store, table, CLUSTER, true, &frame, room);
         assert!(answer.reply.len() <= room);
         assert_eq!(answer.number == 0, !answer.reply.is_empty());
         match answer.number {

@@ -5,7 +5,7 @@ use cases::kinds::{self, Call};
 use cases::{Case, Difference, hex};
 use oracle::{Oracle, Request};
 use reading::commands::serve;
-use reading::store::{Form, cluster_of};
+use reading::store::cluster_of;
 
 use super::Counts;
 use super::answers::{Said, encoded};
@@ -87,15 +87,7 @@ pub fn document(store: &[u8], request: &[u8]) -> Vec<Said> {
         .map(|room| {
             let mut after = store.to_vec();
             let mut table = Vec::new();
-            let answer = serve(
-                &mut after,
-                Form::FIRST,
-                &mut table,
-                cluster,
-                true,
-                request,
-                room,
-            );
+            let answer = serve(&mut after, &mut table, cluster, true, request, room);
             Said {
                 number: answer.number,
                 reply: answer.reply,
@@ -152,7 +144,6 @@ fn count(
     };
     let call = Call {
         store,
-        form: Form::FIRST,
         table: &[],
         unicast: true,
         request,

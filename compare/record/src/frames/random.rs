@@ -3,7 +3,7 @@
 use cases::Random;
 use cases::requests::request;
 use cases::stores::{built, random_parts};
-use reading::store::{Form, attributes};
+use reading::store::attributes;
 
 use super::Frames;
 use super::line::{MOST_ROOM, document};
@@ -12,7 +12,7 @@ pub fn add(frames: &mut Frames) {
     let random = &mut Random::new(0x6672_616d);
     for _ in 0..120 {
         let store = built(&random_parts(random));
-        let attributes = attributes(&store, Form::FIRST).expect("a store");
+        let attributes = attributes(&store).expect("a store");
         for command in [0x00, 0x02, 0x03, 0x05, 0x0c] {
             let request = request(random, &attributes, command);
             if fits(&store, &request) {

@@ -7,7 +7,7 @@
 use cases::stores::bench;
 use cases::{Case, Condition, Difference, hex};
 use oracle::Oracle;
-use reading::store::{Form, Name, write};
+use reading::store::write;
 use reading::{Extent, extent};
 
 use super::answers::Said;
@@ -182,8 +182,7 @@ pub fn strings(length: usize) -> Vec<Vec<u8>> {
 fn is_stored(record: &[u8]) -> bool {
     let mut store = bench();
     let id = u16::from_le_bytes([record[0], record[1]]);
-    let name = Name::plain(id);
-    write(&mut store, Form::FIRST, name, record[2], &record[3..]);
+    write(&mut store, id, record[2], &record[3..]);
     store != bench()
 }
 

@@ -25,7 +25,7 @@ pub fn all() -> Vec<Vec<Step>> {
 }
 
 const fn key(cluster: u16, attribute: u16) -> Key {
-    Key::plain(cluster, attribute)
+    Key { cluster, attribute }
 }
 
 fn configure(key: Key, minimum: u16, maximum: u16, change: u64) -> Step {

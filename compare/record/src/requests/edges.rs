@@ -29,23 +29,6 @@ pub fn all() -> Vec<Case> {
         cases.push(asked(&of(&[0, 5]), READ, &ids, room));
     }
     cases.extend(received());
-    cases.extend(coded());
-    cases
-}
-
-/// Both commands with a code, which no attribute and no entry has, and with code
-/// 0000, which means none.
-fn coded() -> Vec<Case> {
-    let mut cases = Vec::new();
-    for [low, high] in [[0x00, 0x00], [0x01, 0x00], [0x34, 0x12]] {
-        for (command, body) in [(CONFIGURE, record(5, 10, 60)), (READ, vec![0, 5, 0])] {
-            let head = [0x04, low, high, 0x2a, command];
-            let frame = [&head[..], &body].concat();
-            for room in [2, 3, 4, 5, 8, 9, 64] {
-                cases.push(over(&bench(), &of(&[5]), &frame, room));
-            }
-        }
-    }
     cases
 }
 
@@ -144,7 +127,10 @@ fn of(attributes: &[u16]) -> Vec<Entry> {
 
 fn entry(attribute: u16, last: Option<(u32, i64)>) -> Entry {
     Entry {
-        key: Key::plain(CLUSTER, attribute),
+        key: Key {
+            cluster: CLUSTER,
+            attribute,
+        },
         config: Config {
             minimum: attribute,
             maximum: 0xff00 + attribute,

@@ -5,7 +5,7 @@ use cases::stores::{
     Part, bench, built, invalid, most_rooms, random_parts, single, string, strings, word,
 };
 use reading::Kind;
-use reading::store::{Form, is_store};
+use reading::store::is_store;
 
 use super::line;
 use crate::lines::Inputs;
@@ -23,7 +23,7 @@ pub fn lines() -> Vec<String> {
     inputs
         .into_vec()
         .iter()
-        .map(|bytes| line('s', bytes, &[is_store(bytes, Form::FIRST).into()]))
+        .map(|bytes| line('s', bytes, &[is_store(bytes).into()]))
         .collect()
 }
 

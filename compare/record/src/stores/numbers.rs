@@ -4,7 +4,7 @@
 use cases::Random;
 use cases::stores::{Part, bench, built, most_rooms, random_parts, single, string, strings};
 use reading::Kind;
-use reading::store::{Form, Name, number};
+use reading::store::number;
 
 use super::line;
 use crate::lines::Inputs;
@@ -24,8 +24,7 @@ pub fn lines() -> Vec<String> {
 
 fn answer(input: &[u8]) -> Vec<u8> {
     let (id, store) = input.split_at(2);
-    let name = Name::plain(u16::from_le_bytes([id[0], id[1]]));
-    match number(store, Form::FIRST, name) {
+    match number(store, u16::from_le_bytes([id[0], id[1]])) {
         Ok(number) => [&[0], &number.to_le_bytes()[..]].concat(),
         Err(refusal) => vec![refusal],
     }
@@ -103,11 +102,11 @@ fn random(inputs: &mut Inputs, random: &mut Random) {
         let parts = random_parts(random);
         let store = built(&parts);
         for part in parts.iter().take(2) {
-            inputs.add(asked(part.name.id, &store));
+            inputs.add(asked(part.id, &store));
         }
         inputs.add(asked(0x7fff, &store));
         if let Some(part) = parts.last() {
-            inputs.add(asked(part.name.id, &store[..store.len() - 1]));
+            inputs.add(asked(part.id, &store[..store.len() - 1]));
         }
     }
 }

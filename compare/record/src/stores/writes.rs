@@ -8,7 +8,7 @@ use cases::stores::{
     word,
 };
 use reading::Kind;
-use reading::store::{Form, Name, write};
+use reading::store::write;
 
 use super::line;
 use crate::lines::Inputs;
@@ -45,8 +45,8 @@ fn answer(input: &[u8]) -> Vec<u8> {
     let length = u16::from_le_bytes([head[3], head[4]]);
     let (value, store) = rest.split_at(length.into());
     let mut store = store.to_vec();
-    let name = Name::plain(u16::from_le_bytes([head[0], head[1]]));
-    let status = write(&mut store, Form::FIRST, name, head[2], value);
+    let id = u16::from_le_bytes([head[0], head[1]]);
+    let status = write(&mut store, id, head[2], value);
     [vec![status], store].concat()
 }
 
@@ -162,14 +162,14 @@ fn random(inputs: &mut Inputs, random: &mut Random) {
         let store = built(&parts);
         for part in parts.iter().take(3) {
             let value = random_value(random, part.code);
-            inputs.add(asked(part.name.id, part.code, &value, &store));
+            inputs.add(asked(part.id, part.code, &value, &store));
         }
         if let Some(part) = parts.last() {
             let code = TYPES[random.under(TYPES.len())];
             let value = random_value(random, code);
-            inputs.add(asked(part.name.id, code, &value, &store));
+            inputs.add(asked(part.id, code, &value, &store));
             let value = random_value(random, part.code);
-            inputs.add(asked(part.name.id + 1, part.code, &value, &store));
+            inputs.add(asked(part.id + 1, part.code, &value, &store));
         }
     }
 }
@@ -198,9 +198,9 @@ mod tests {
             let length = usize::from(u16::from_le_bytes([head[3], head[4]]));
             let (value, store) = rest.split_at(length);
             assert_eq!(reading::extent(head[2], value, 0), Extent::End(length));
-            assert!(is_store(store, Form::FIRST));
+            assert!(is_store(store));
             let answer = answer(&input);
-            assert!(is_store(&answer[1..], Form::FIRST));
+            assert!(is_store(&answer[1..]));
             assert!(answer[0] == 0 || &answer[1..] == store);
             statuses[usize::from(answer[0])] += 1;
         }

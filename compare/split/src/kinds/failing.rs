@@ -10,10 +10,7 @@ const HOLDS: &str = "the same is left all the same";
 const IN_COMMON: &str = "order, an attribute in common";
 
 /// Sides of the law of joining, by the joined list's command.
-const SIDES: [(u8, Outside); 18] = [
-    (0x02, Outside::OtherCode),
-    (0x05, Outside::OtherCode),
-    (0x06, Outside::OtherCode),
+const SIDES: [(u8, Outside); 15] = [
     (0x02, Outside::Cut),
     (0x05, Outside::Cut),
     (0x06, Outside::Cut),
@@ -41,7 +38,6 @@ pub fn lines() -> Vec<Line> {
 fn law(joined: u8, outside: Outside) -> String {
     let why = match outside {
         Outside::Undivided => "undivided",
-        Outside::OtherCode => "a call has another code",
         Outside::Cut => "A is cut",
         Outside::WithoutExtent => "A has a value without extent",
         Outside::JoinedRefused => "the joined call is refused by 5",

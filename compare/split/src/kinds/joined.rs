@@ -1,7 +1,6 @@
 //! Of lists for which the law of joining held.
 
 use cases::{End, Seen};
-use reading::store::NO_CODE;
 use reading::table;
 
 use super::{Line, came, must, nothing, nothing_lines};
@@ -18,15 +17,12 @@ const WITHOUT_EXTENT: &str = "changed, B has a value without extent";
 const REFUSED: &str = "changed, the joined call is refused by 4";
 const ONE_00: &str = "changed, A is refused by 5 for its one 00";
 const IN_COMMON: &str = "changed, A and B name an attribute in common";
-const CODES: &str = "changed, code 0000 in one header and none in another";
-const CODED: &str = "changed, by a code";
+const CODES: &str = "changed, a code in one header and none in another";
 const CLEARED: &str = "changed, an entry is cleared";
 const AGAIN: &str = "changed, an entry is configured again";
 
 /// Of writes and of configurations.
-const BOTH: [&str; 8] = [
-    EMPTY_A, EMPTY_B, CUT, REFUSED, ONE_00, IN_COMMON, CODES, CODED,
-];
+const BOTH: [&str; 7] = [EMPTY_A, EMPTY_B, CUT, REFUSED, ONE_00, IN_COMMON, CODES];
 
 /// Failures that a reply lists.
 const STATUSES: [(u8, &str); 6] = [
@@ -106,13 +102,11 @@ fn details(split: &Split, ran: &Ran, command: u8) -> Vec<&'static str> {
         (ONE_00, ran.a.number == 5),
         (IN_COMMON, b.ids().iter().any(|id| named.contains(id))),
         (CODES, lengths.iter().any(|length| *length != lengths[0])),
-        (CODED, split.ways[2].code() != NO_CODE),
     ]);
     if command == 0x06 {
         details.extend(entries(split, ran));
     }
-    let head = split.ways[2].reply_head();
-    details.extend(statuses(ran, command, head).into_iter().map(status));
+    details.extend(statuses(ran, command).into_iter().map(status));
     details
 }
 
@@ -129,11 +123,11 @@ fn entries(split: &Split, ran: &Ran) -> Vec<&'static str> {
     came([(CLEARED, cleared), (AGAIN, again)])
 }
 
-/// The statuses of failures in the replies, behind their headers, each once.
-fn statuses(ran: &Ran, command: u8, head: usize) -> Vec<u8> {
+/// The statuses of failures in the replies, each once.
+fn statuses(ran: &Ran, command: u8) -> Vec<u8> {
     let size = if command == 0x06 { 4 } else { 3 };
     let listed = |seen: &Seen| -> Vec<u8> {
-        match seen.reply().get(head..) {
+        match seen.reply().get(3..) {
             // one 00, or none
             None | Some([]) | Some([_]) => Vec::new(),
             Some(failures) => failures.chunks(size).map(|failure| failure[0]).collect(),
@@ -148,7 +142,6 @@ fn statuses(ran: &Ran, command: u8, head: usize) -> Vec<u8> {
 #[cfg(test)]
 mod tests {
     use cases::unhex;
-    use reading::store::Form;
     use reading::table::to_bytes;
 
     use super::*;
@@ -161,12 +154,11 @@ mod tests {
         let split = Split {
             before: Before {
                 store: cases::stores::bench(),
-                form: Form::FIRST,
                 table: to_bytes(&[]),
                 cluster: 0xfc21,
             },
             lists: lists.map(unhex),
-            ways: commands.map(|command| Way::plain(command, NO_CODE, 64)),
+            ways: commands.map(|command| Way::plain(command, 64)),
         };
         let ran = run(&mut Document, std::slice::from_ref(&split)).expect("it answers");
         joined(&split, &ran[0])

@@ -1,10 +1,9 @@
 //! Of pairs for which the law of order held.
 
-use cases::End;
-use reading::store::NO_CODE;
+use cases::{End, Seen};
 
 use super::{Line, came, must, nothing, nothing_lines};
-use crate::lists::{in_common, read};
+use crate::lists::read;
 use crate::order::{Pair, Ran};
 
 const LAW: &str = "order";
@@ -24,10 +23,7 @@ const BOTH_5: &str = "changed, both calls are refused by 5";
 const BEHIND: &str = "changed, a call is refused by 5 behind a record that it stored";
 const UNDIVIDED_5: &str = "changed, an undivided call is refused by 5 for its one 00";
 
-const ONE_CODE: &str = "changed, by one code";
-const TWO_CODES: &str = "changed, an id in common, of two codes";
-
-const DETAILS: [&str; 11] = [
+const DETAILS: [&str; 9] = [
     MADE,
     BY_CHANCE,
     CUT,
@@ -37,8 +33,6 @@ const DETAILS: [&str; 11] = [
     BOTH_5,
     BEHIND,
     UNDIVIDED_5,
-    ONE_CODE,
-    TWO_CODES,
 ];
 
 const COMMANDS: [[u8; 2]; 6] = [
@@ -87,16 +81,13 @@ fn details(pair: &Pair, ran: &Ran, commands: [u8; 2], changed: [bool; 2]) -> Vec
     let refused = ran.first.each_ref().map(|seen| seen.number == 5);
     let either = |is: &dyn Fn(usize) -> bool| is(0) || is(1);
     let undivided = |list: usize| commands[list] == 0x03;
-    let failures = |list: usize| ran.first[list].used > pair.ways[list].reply_head() + 1;
     let stored_and_refused = |list: usize| refused[list] && changed[list];
     came([
         (CUT, ends.contains(&End::Cut)),
         (WITHOUT_EXTENT, ends.contains(&End::WithoutExtent)),
-        (NOT_DONE, either(&|list| undivided(list) && failures(list))),
-        (ONE_CODE, pair.one_code() && pair.ways[0].code() != NO_CODE),
         (
-            TWO_CODES,
-            !pair.one_code() && in_common(&pair.lists[0], &pair.lists[1]),
+            NOT_DONE,
+            either(&|list| undivided(list) && lists_failures(&ran.first[list])),
         ),
         (ONE_5, refused[0] != refused[1]),
         (BOTH_5, refused == [true, true]),
@@ -111,10 +102,14 @@ fn details(pair: &Pair, ran: &Ran, commands: [u8; 2], changed: [bool; 2]) -> Vec
     ])
 }
 
+/// Whether the reply is not one 00.
+fn lists_failures(seen: &Seen) -> bool {
+    seen.used > 4
+}
+
 #[cfg(test)]
 mod tests {
     use cases::unhex;
-    use reading::store::Form;
     use reading::table::to_bytes;
 
     use super::*;
@@ -127,12 +122,11 @@ mod tests {
         let pair = Pair {
             before: Before {
                 store: cases::stores::bench(),
-                form: Form::FIRST,
                 table: to_bytes(&[]),
                 cluster: 0xfc21,
             },
             lists: lists.map(unhex),
-            ways: [0, 1].map(|list| Way::plain(commands[list], NO_CODE, rooms[list])),
+            ways: [0, 1].map(|list| Way::plain(commands[list], rooms[list])),
         };
         let ran = run(&mut Document, std::slice::from_ref(&pair)).expect("it answers");
         ordered(&pair, &ran[0], MADE)

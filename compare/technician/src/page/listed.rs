@@ -13,11 +13,10 @@ pub fn section(results: &Results) -> Vec<Block> {
         heading("The listed differences, by their smallest frames"),
         text(&format!(
             "All stand in docs/DIFFERENCES.md. To step over a value that it does not store, the old server reads it with a reader that refuses some values \
-             whose end is known; there it ends without a reply, or without the records behind. The new one steps over them. The last five rows are others. The old \
+             whose end is known; there it ends without a reply, or without the records behind. The new one steps over them. The last three rows are others. The old \
              server answers a Default Response by a Default Response, so that two of them never stop; the new one sends nothing. In an undivided write the \
              old server finds too late that a string is too long: it has stored the record before, or has listed another failure and not this one; the new \
-             one stores nothing and lists every failure. A manufacturer code in the header the old server ignores, in what it looks up and in its reply; to the new one a code \
-             and an id name an attribute together, none in T has a code, and the reply carries the code. These frames were run for this page, over store T of document 01, with room for {ROOM} bytes of reply:",
+             one stores nothing and lists every failure. These frames were run for this page, over store T of document 01, with room for {ROOM} bytes of reply:",
         )),
         in_answers(results),
         text(

@@ -1,6 +1,5 @@
 //! One line of traffic.
 
-use reading::store::Form;
 use reading::table::{SIZE, to_bytes};
 
 use super::bytes::{bytes, count};
@@ -8,7 +7,6 @@ use super::bytes::{bytes, count};
 #[derive(Debug, Clone, PartialEq, Eq)]
 pub enum Step {
     Store(Vec<u8>),
-    Form(Form),
     Table(Vec<u8>),
     /// `None`: the store's own.
     Cluster(Option<u16>),
@@ -34,10 +32,9 @@ pub fn step(line: &[u8]) -> Result<Option<Step>, String> {
     let rest = rest.trim();
     let step = match word {
         "store" => Step::Store(bytes(rest)?),
-        "form" => Step::Form(Form(byte(rest)?)),
         "table" => Step::Table(table(rest)?),
         "cluster" => Step::Cluster(cluster(rest)?),
-        "unicast" => Step::Unicast(byte(rest)?),
+        "unicast" => Step::Unicast(unicast(rest)?),
         "room" => Step::Room(count(rest)?),
         "request" => Step::Request(bytes(rest)?),
         _ => {
@@ -78,7 +75,8 @@ fn cluster(text: &str) -> Result<Option<u16>, String> {
     }
 }
 
-fn byte(text: &str) -> Result<u8, String> {
+/// A byte, of which only 0 means no.
+fn unicast(text: &str) -> Result<u8, String> {
     let byte = count(text).map(u8::try_from);
     match byte {
         Ok(Ok(byte)) => Ok(byte),

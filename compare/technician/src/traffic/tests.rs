@@ -44,14 +44,6 @@ fn what_is_set_stays_set() {
     assert_eq!(cases[0].request, []);
 }
 
-/// The form stays set, whatever store comes.
-#[test]
-fn forms() {
-    let file = over_t("request 00\nform 2\nrequest 00\nstore 00000000\nrequest 00\n");
-    let forms: Vec<u8> = cases_of(&file).iter().map(|case| case.form.0).collect();
-    assert_eq!(forms, [1, 2, 2]);
-}
-
 #[test]
 fn store_and_table_carry_on() {
     let write = "request 002b0201002009\n";
@@ -89,14 +81,11 @@ fn every_bad_line_is_named() {
         ("request 0g", "`g`"),
         ("request +1", "`+`"),
         ("request 00 2a 0", "5 hex digits"),
-        ("table 00", "4097 bytes, these are 1"),
+        ("table 00", "3841 bytes, these are 1"),
         ("table", "missing"),
         ("cluster fc", "four hex digits"),
         ("cluster 21fc00", "four hex digits"),
         ("unicast 256", "from 0 to 255"),
-        ("form 256", "from 0 to 255"),
-        ("form two", "from 0 to 255"),
-        ("form", "from 0 to 255"),
         ("unicast", "from 0 to 255"),
         ("table 0g, then zeros", "`g`"),
         ("room", "no number"),

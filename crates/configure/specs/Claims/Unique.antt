@@ -5,8 +5,6 @@ use Rattle.types.specs.Number.{AllBytes}
 use Rattle.frame.specs.declared.answer.Answer.{Answer}
 use Rattle.frame.specs.declared.header.ZclHeader.{ZclHeader}
 use Rattle.frame.specs.Answer.{no_state, seen}
-use Rattle.store.specs.declared.form.Form.{Form}
-use Rattle.store.specs.Contents.{entry_size}
 use Rattle.reporting.specs.Table.{capacity, holding}
 use Rattle.reporting.specs.Carried.{table_in, is_table}
 use Rattle.configure.specs.Request.{change_width}
@@ -20,17 +18,17 @@ ChangeWidthOnce = (type_id : TypeId) (r q : ℕ) → r ≡ change_width type_id.
 -- src/configuration.rt
 abbrev pub ReadReportingConfigurationOnce : Type 0
 ReadReportingConfigurationOnce =
-    (store : List ℕ) (form : Form) (table : List ℕ) (request : ZclHeader) (body reply : List ℕ) (r q : Answer) (x y : List ℕ)
-    → seen r x no_state ≡ configuration_of (entry_size form) store (holding (table_in table)) request body (length reply)
-    → seen q y no_state ≡ configuration_of (entry_size form) store (holding (table_in table)) request body (length reply)
+    (store table : List ℕ) (request : ZclHeader) (body reply : List ℕ) (r q : Answer) (x y : List ℕ)
+    → seen r x no_state ≡ configuration_of 8 store (holding (table_in table)) request body (length reply)
+    → seen q y no_state ≡ configuration_of 8 store (holding (table_in table)) request body (length reply)
     → (r ≡ q) × (x ≡ y)
 
 -- src/configure.rt
 abbrev pub ConfigureReportingOnce : Type 0
 ConfigureReportingOnce =
-    (store : List ℕ) (form : Form) (table : List ℕ) (request : ZclHeader) (body reply : List ℕ) (r q : Answer) (x y t u : List ℕ)
+    (store table : List ℕ) (request : ZclHeader) (body reply : List ℕ) (r q : Answer) (x y t u : List ℕ)
     → AllBytes t
     → AllBytes u
-    → (is_table capacity t ≡ true) × (seen r x (holding (table_in t)) ≡ configure_of (entry_size form) capacity store (holding (table_in table)) request body (length reply))
-    → (is_table capacity u ≡ true) × (seen q y (holding (table_in u)) ≡ configure_of (entry_size form) capacity store (holding (table_in table)) request body (length reply))
+    → (is_table capacity t ≡ true) × (seen r x (holding (table_in t)) ≡ configure_of 8 capacity store (holding (table_in table)) request body (length reply))
+    → (is_table capacity u ≡ true) × (seen q y (holding (table_in u)) ≡ configure_of 8 capacity store (holding (table_in table)) request body (length reply))
     → (r ≡ q) × ((x ≡ y) × (t ≡ u))

@@ -1,10 +1,9 @@
 -- Claims. Which trouble counts (document 01, "What a call says back": "Within records the first trouble met counts"; beside 4 "earlier records stay
 -- done", beside 5 "records up to there stay done"), of every command that lists its failures, over its state, its record and its failure.
-use Rattle.std.specs.Prelude.{◌≡◌, ℕ, ◌+◌, ◌≤◌, ◌<◌, length}
+use Rattle.std.specs.Prelude.{◌≡◌, ℕ, ◌≤◌, length}
 use Rattle.frame.specs.declared.header.ZclHeader.{ZclHeader}
 use Rattle.frame.specs.declared.command_identifier.CommandIdentifier.{CommandIdentifier}
 use Rattle.frame.specs.declared.answer.Refusal.TheVariants.{RecordCut, ReplyTooLong}
-use Rattle.frame.specs.Header.{head_size}
 use Rattle.frame.specs.Answer.{Outcome, refused}
 use Rattle.frame.specs.Walk.{done, cut, Records, ended, behind, joined}
 use Rattle.frame.specs.Failures.{Doing, performed, headed}
@@ -23,9 +22,9 @@ Not5 o = Is5 o → ⊥
 abbrev pub single : {R : Type 0} → R → Records R
 single r = behind r (ended done)
 
--- what is claimed of a command, whatever request it answers and whatever state it meets: of the size of its reply's header, and of its answer
-abbrev pub OfCommand : {S R F : Type 0} → Doing S R F → (ℕ → (Records R → ℕ → Outcome S) → Type 0) → Type 0
-OfCommand {S} doing P = (request : ZclHeader) (command : CommandIdentifier) (s : S) → P (head_size request) (executed doing request command s)
+-- what is claimed of a command, whatever request it answers and whatever state it meets
+abbrev pub OfCommand : {S R F : Type 0} → Doing S R F → ((Records R → ℕ → Outcome S) → Type 0) → Type 0
+OfCommand {S} doing P = (request : ZclHeader) (command : CommandIdentifier) (s : S) → P (executed doing request command s)
 
 -- ---- 4: records that can all be read, and behind them one that cannot
 
@@ -33,7 +32,7 @@ OfCommand {S} doing P = (request : ZclHeader) (command : CommandIdentifier) (s :
 abbrev pub CutIsFour : {S R F : Type 0} → Doing S R F → Type 0
 CutIsFour {S} {R} doing =
     OfCommand doing
-    (λ head answer.
+    (λ answer.
     (a : Records R) (room : ℕ)
     → a.ending ≡ done
     → Not5 (answer a room)
@@ -45,14 +44,14 @@ CutIsFour {S} {R} doing =
 abbrev pub FiveStays : {S R F : Type 0} → Doing S R F → Type 0
 FiveStays {S} {R} doing =
     OfCommand doing
-    (λ head answer. (a b : Records R) (room : ℕ) → a.ending ≡ done → head < room → Is5 (answer a room) → answer (joined a b) room ≡ answer a room)
+    (λ answer. (a b : Records R) (room : ℕ) → a.ending ≡ done → 4 ≤ room → Is5 (answer a room) → answer (joined a b) room ≡ answer a room)
 
 -- the record that did not fit is done too: where those before it are not refused by 5, the state is the one that they and it leave in any room in which they are not
 -- refused by 5
 abbrev pub FiveDone : {S R F : Type 0} → Doing S R F → Type 0
 FiveDone {S} {R} doing =
     OfCommand doing
-    (λ head answer.
+    (λ answer.
     (a : Records R) (r : R) (room more : ℕ)
     → a.ending ≡ done
     → Not5 (answer a room)
@@ -70,12 +69,12 @@ pub record MetAt {S R : Type 0} (answer : Records R → ℕ → Outcome S) (rs :
   pub here : Is5 (answer (joined earlier (single met)) room)
 
 abbrev pub FiveIsMet : {S R F : Type 0} → Doing S R F → Type 0
-FiveIsMet {S} {R} doing = OfCommand doing (λ head answer. (rs : Records R) (room : ℕ) → head < room → Is5 (answer rs room) → MetAt answer rs room)
+FiveIsMet {S} {R} doing = OfCommand doing (λ answer. (rs : Records R) (room : ℕ) → 4 ≤ room → Is5 (answer rs room) → MetAt answer rs room)
 
 -- ---- room for the header alone, and records of which none fails: in some other room they are answered by one byte behind the header, where a failure has more
 
-abbrev pub NoneFails : {S : Type 0} → ℕ → Outcome S → Type 0
-NoneFails head o = (o.number ≡ 0) × (o.size ≡ head + 1)
+abbrev pub NoneFails : {S : Type 0} → Outcome S → Type 0
+NoneFails o = (o.number ≡ 0) × (o.size ≡ 4)
 
 abbrev pub LongFailures : {S R F : Type 0} → Doing S R F → Type 0
 LongFailures {F = F} doing = (f : F) → 2 ≤ length (doing.bytes f)
@@ -85,12 +84,12 @@ abbrev pub FiveAtHeader : {S R F : Type 0} → Doing S R F → Type 0
 FiveAtHeader {S} {R} doing =
     LongFailures doing
     → OfCommand doing
-    (λ head answer. (a : Records R) (more : ℕ) → a.ending ≡ done → NoneFails head (answer a more) → answer a head ≡ refused head ReplyTooLong (answer a more).state)
+    (λ answer. (a : Records R) (more : ℕ) → a.ending ≡ done → NoneFails (answer a more) → answer a 3 ≡ refused 3 ReplyTooLong (answer a more).state)
 
 -- but a record behind them that cannot be read is met before: 4
 abbrev pub CutIsFourAtHeader : {S R F : Type 0} → Doing S R F → Type 0
 CutIsFourAtHeader {S} {R} doing =
     LongFailures doing
     → OfCommand doing
-    (λ head answer.
-    (a : Records R) (more : ℕ) → a.ending ≡ done → NoneFails head (answer a more) → answer (joined a (ended cut)) head ≡ refused head RecordCut (answer a more).state)
+    (λ answer.
+    (a : Records R) (more : ℕ) → a.ending ≡ done → NoneFails (answer a more) → answer (joined a (ended cut)) 3 ≡ refused 3 RecordCut (answer a more).state)

@@ -23,68 +23,56 @@ use Rattle.server.specs.Claims.Starts.{Starts, answering}
 use Rattle.hingedrift.specs.Tables.{left, no_result, configure_left}
 use Rattle.hingedrift.specs.Saving.{save_left, restore_left}
 use Rattle.hingedrift.specs.Serving.{unsupported_left, report_left, turn_left, handle_left}
-use Rattle.store.specs.Contents.{entry_size}
-use Rattle.store.specs.declared.form.Form.{Form}
-use Rattle.hingedrift.specs.Forms.{form_said}
-use Rattle.hingedrift.specs.Forms.{is_lent}
-use Rattle.report.specs.Report.{unasked}
-use Rattle.hingedrift.specs.Moving.{to_second_left}
-use Rattle.hingedrift.specs.Moving.{to_first_left}
-use Rattle.hingedrift.specs.declared.form.Said.TheVariants.{Named}
 
 -- ---- hd_handle_request
 
--- for every store, number of its form, table, cluster, `unicast`, frame and size of the reply buffer: P of this number and size, of store and table as they
--- came, and of what is left
-abbrev pub OfEveryRequest : (ℕ → ℕ → Lent → Outcome Lent → Type 0) → Type 0
-OfEveryRequest P =
-    (s : List ℕ) (form : ℕ) (bs : List ℕ) (cluster unicast : ℕ) (frame : List ℕ) (size : ℕ) → P form size (lent s bs) (handle_left s form bs cluster unicast frame size)
+-- for every store, table, cluster, `unicast`, frame and size of the reply buffer: P of this size, of store and table as they came, and of what is left
+abbrev pub OfEveryRequest : (ℕ → Lent → Outcome Lent → Type 0) → Type 0
+OfEveryRequest P = (s bs : List ℕ) (cluster unicast : ℕ) (frame : List ℕ) (size : ℕ) → P size (lent s bs) (handle_left s bs cluster unicast frame size)
 
 abbrev pub HdHandleRequestClears : Type 0
-HdHandleRequestClears = OfEveryRequest (λ form size came o. Clears size o)
+HdHandleRequestClears = OfEveryRequest (λ size came o. Clears size o)
 
 abbrev pub HdHandleRequestThenZeros : Type 0
-HdHandleRequestThenZeros = OfEveryRequest (λ form size came o. ThenZeros size o)
+HdHandleRequestThenZeros = OfEveryRequest (λ size came o. ThenZeros size o)
 
 abbrev pub HdHandleRequestLength : Type 0
-HdHandleRequestLength = OfEveryRequest (λ form size came o. AsLong size o)
+HdHandleRequestLength = OfEveryRequest (λ size came o. AsLong size o)
 
 -- "untouched": 1, 2, 3, 7 and 8 leave the store as it came, and so the table, if its bytes are below 256 as C's are
 abbrev pub HdUntouched : Type 0
 HdUntouched =
     OfEveryRequest
-    (λ form size came o.
+    (λ size came o.
     (why : Refusal) → Early why → o.number ≡ refusal_number why → (o.state.store ≡ came.store) × (AllBytes came.table → o.state.table ≡ came.table))
 
 -- over what is no table the number is 8, or 7 where the store is none either, and both stay as they came, whatever they are
 abbrev pub HdNoTableStays : Type 0
 HdNoTableStays =
     OfEveryRequest
-    (λ form size came o.
-    is_table capacity came.table ≡ false → (o.number ≡ refusal_number (cond (is_lent form came.store) NotATable NotAStore)) × (o.state ≡ came))
+    (λ size came o.
+    is_table capacity came.table ≡ false → (o.number ≡ refusal_number (cond (is_store 8 came.store) NotATable NotAStore)) × (o.state ≡ came))
 
 -- a store stays a store, of the same length, with the same contents
 abbrev pub HdStoreStays : Type 0
-HdStoreStays =
-    (f : Form) → OfEveryRequest (λ form size came o. form_said form ≡ Named f → is_store (entry_size f) came.store ≡ true → StoreLike (entry_size f) came.store o.state.store)
+HdStoreStays = OfEveryRequest (λ size came o. is_store 8 came.store ≡ true → StoreLike 8 came.store o.state.store)
 
 -- a table stays a table, of the same length, under a frame of bytes over a store of bytes
 abbrev pub HdTableStays : Type 0
 HdTableStays =
-    (s : List ℕ) (form : ℕ) (bs : List ℕ) (cluster unicast : ℕ) (frame : List ℕ) (size : ℕ)
+    (s bs : List ℕ) (cluster unicast : ℕ) (frame : List ℕ) (size : ℕ)
     → AllBytes s
     → AllBytes bs
     → AllBytes frame
     → is_table capacity bs ≡ true
-    → (is_table capacity (handle_left s form bs cluster unicast frame size).state.table ≡ true) × (length (handle_left s form bs cluster unicast frame size).state.table ≡ length bs)
+    → (is_table capacity (handle_left s bs cluster unicast frame size).state.table ≡ true) × (length (handle_left s bs cluster unicast frame size).state.table ≡ length bs)
 
--- every reply starts with the head of a reply to the request, which carries its code and sequence number, and the command that answers its (server,
--- specs/Claims/Starts.antt)
+-- every reply starts 18, the request's sequence number, and the command that answers the request's (server, specs/Claims/Starts.antt)
 abbrev pub HdHandleRequestStarts : Type 0
 HdHandleRequestStarts =
-    (s : List ℕ) (form : ℕ) (bs : List ℕ) (cluster unicast : ℕ) (frame : List ℕ) (size : ℕ) (h : ZclHeader)
+    (s bs : List ℕ) (cluster unicast : ℕ) (frame : List ℕ) (size : ℕ) (h : ZclHeader)
     → header_of frame ≡ Header h
-    → Starts h (answering (frame_type_of h.frame_control.0) h.command_identifier.0) (handle_left s form bs cluster unicast frame size)
+    → Starts h.sequence_number (answering (frame_type_of h.frame_control.0) h.command_identifier.0) (handle_left s bs cluster unicast frame size)
 
 -- ---- hd_unsupported_cluster, which changes neither
 
@@ -104,12 +92,12 @@ abbrev pub HdUnsupportedClusterStarts : Type 0
 HdUnsupportedClusterStarts =
     (served : List ℕ) (cluster unicast : ℕ) (frame : List ℕ) (size : ℕ) (h : ZclHeader)
     → header_of frame ≡ Header h
-    → Starts h DefaultResponse (unsupported_left served cluster unicast frame size)
+    → Starts h.sequence_number DefaultResponse (unsupported_left served cluster unicast frame size)
 
 -- ---- hd_report, which changes neither
 
 abbrev pub OfEveryReport : (ℕ → Outcome (Unit {0}) → Type 0) → Type 0
-OfEveryReport P = (s : List ℕ) (form code sequence : ℕ) (ids : List ℕ) (size : ℕ) → P size (report_left s form code sequence ids size)
+OfEveryReport P = (s : List ℕ) (sequence : ℕ) (ids : List ℕ) (size : ℕ) → P size (report_left s sequence ids size)
 
 abbrev pub HdReportClears : Type 0
 HdReportClears = OfEveryReport (λ size o. Clears size o)
@@ -121,14 +109,13 @@ abbrev pub HdReportLength : Type 0
 HdReportLength = OfEveryReport (λ size o. AsLong size o)
 
 abbrev pub HdReportStarts : Type 0
-HdReportStarts =
-    (s : List ℕ) (form code sequence : ℕ) (ids : List ℕ) (size : ℕ) → Starts (unasked code sequence) ReportAttributes (report_left s form code sequence ids size)
+HdReportStarts = (s : List ℕ) (sequence : ℕ) (ids : List ℕ) (size : ℕ) → Starts sequence ReportAttributes (report_left s sequence ids size)
 
 -- ---- hd_report_turn
 
--- for every store, number of its form, table, code, sequence number, time, last id and size of the frame buffer: P of this size, of table and last id as they came, and of what is left
+-- for every store, table, sequence number, time, last id and size of the frame buffer: P of this size, of table and last id as they came, and of what is left
 abbrev pub OfEveryTurn : (ℕ → After → Outcome After → Type 0) → Type 0
-OfEveryTurn P = (s : List ℕ) (form : ℕ) (bs : List ℕ) (code sequence now last size : ℕ) → P size (after_turn bs last) (turn_left s form bs code sequence now last size)
+OfEveryTurn P = (s bs : List ℕ) (sequence now last size : ℕ) → P size (after_turn bs last) (turn_left s bs sequence now last size)
 
 abbrev pub HdReportTurnClears : Type 0
 HdReportTurnClears = OfEveryTurn (λ size came o. Clears size o)
@@ -146,16 +133,15 @@ HdReportTurnUntouched = OfEveryTurn (λ size came o. (o.number ≡ 0 → ⊥) �
 -- a table stays a table, of the same length, over a store of bytes and at a time of 32 bits
 abbrev pub HdReportTurnTableStays : Type 0
 HdReportTurnTableStays =
-    (s : List ℕ) (form : ℕ) (bs : List ℕ) (code sequence now last size : ℕ)
+    (s bs : List ℕ) (sequence now last size : ℕ)
     → AllBytes s
     → AllBytes bs
     → now < 2 ^ 32
     → is_table capacity bs ≡ true
-    → (is_table capacity (turn_left s form bs code sequence now last size).state.table ≡ true) × (length (turn_left s form bs code sequence now last size).state.table ≡ length bs)
+    → (is_table capacity (turn_left s bs sequence now last size).state.table ≡ true) × (length (turn_left s bs sequence now last size).state.table ≡ length bs)
 
 abbrev pub HdReportTurnStarts : Type 0
-HdReportTurnStarts =
-    (s : List ℕ) (form : ℕ) (bs : List ℕ) (code sequence now last size : ℕ) → Starts (unasked code sequence) ReportAttributes (turn_left s form bs code sequence now last size)
+HdReportTurnStarts = (s bs : List ℕ) (sequence now last size : ℕ) → Starts sequence ReportAttributes (turn_left s bs sequence now last size)
 
 -- ---- hd_configure
 
@@ -167,20 +153,6 @@ HdConfigureNoTable =
 abbrev pub HdConfigureNoMark : Type 0
 HdConfigureNoMark =
     (bs : List ℕ) (k : Key) (g : ReportingConfig) (mark : ℕ) → is_table capacity bs ≡ true → 1 < mark → configure_left bs k g mark ≡ left (refusal_number NotASavedForm) bs 0
-
--- ---- hd_to_second and hd_to_first
-
-abbrev pub OfEveryMove : (ℕ → Outcome (Unit {0}) → Type 0) → Type 0
-OfEveryMove P = (s : List ℕ) (size : ℕ) → P size (to_second_left s size) × P size (to_first_left s size)
-
-abbrev pub HdMovesClear : Type 0
-HdMovesClear = OfEveryMove (λ size o. Clears size o)
-
-abbrev pub HdMovesThenZeros : Type 0
-HdMovesThenZeros = OfEveryMove (λ size o. ThenZeros size o)
-
-abbrev pub HdMovesLength : Type 0
-HdMovesLength = OfEveryMove (λ size o. AsLong size o)
 
 -- ---- hd_save and hd_restore
 

@@ -24,17 +24,12 @@ use Rattle.hingedrift.specs.Tables.{key_as, config_of, left, no_result, Configur
 use Rattle.server.specs.Lent.{lent}
 use Rattle.hingedrift.specs.Serving.{handed, is_unicast, turn_left, handle_left}
 use Rattle.hingedrift.specs.Saving.{save_left, restore_left}
-use Rattle.store.specs.Contents.{entry_size}
-use Rattle.store.specs.declared.form.Form.{Form}
-use Rattle.hingedrift.specs.Forms.{form_said}
-use Rattle.hingedrift.specs.Forms.{in_form}
 
 -- ---- calls
 
 -- the arguments of a call, beside the table
 pub record Target : Type 0 where
   pub cluster : ℕ
-  pub code : ℕ
   pub attribute : ℕ
 
 pub record Intervals : Type 0 where
@@ -48,11 +43,10 @@ pub record Sample : Type 0 where
   pub now : ℕ
   pub value : ℤ
 
--- a request: store and its form, cluster, unicast, frame and the size of the reply buffer; and what hd_handle_request gave back: its number, what it put through
+-- a request: store, cluster, unicast, frame and the size of the reply buffer; and what hd_handle_request gave back: its number, what it put through
 -- `reply_used`, and the reply buffer, the store and the table's bytes afterwards
 pub record Handled : Type 0 where
   pub store : List ℕ
-  pub form : ℕ
   pub cluster : ℕ
   pub unicast : ℕ
   pub frame : List ℕ
@@ -63,12 +57,10 @@ pub record Handled : Type 0 where
   pub store_after : List ℕ
   pub table_after : List ℕ
 
--- a turn: store and its form, manufacturer code, sequence number, time, last id and the size of the frame buffer; and what hd_report_turn gave back: its number, what it put through
+-- a turn: store, sequence number, time, last id and the size of the frame buffer; and what hd_report_turn gave back: its number, what it put through
 -- `frame_used` and `last`, and the frame buffer and the table's bytes afterwards
 pub record Turning : Type 0 where
   pub store : List ℕ
-  pub form : ℕ
-  pub code : ℕ
   pub sequence : ℕ
   pub now : ℕ
   pub last : ℕ
@@ -94,7 +86,7 @@ pub data Made : Type 0 where
   turn : Turning → Made
 
 abbrev pub key_at : Target → Key
-key_at a = key_as a.cluster a.code a.attribute
+key_at a = key_as a.cluster a.attribute
 
 abbrev pub config_as : Intervals → ReportingConfig
 config_as g = config_of g.minimum g.maximum g.change g.mark
@@ -108,17 +100,17 @@ Contract (ask a x number due) bs = left number bs due ≡ ask_left bs (key_at a)
 Contract (configuration a number found) bs = left number bs found ≡ configuration_left bs (key_at a)
 Contract (handle h) bs =
     handed h.number h.used h.reply (lent h.store_after h.table_after)
-    ≡ handle_left h.store h.form bs h.cluster h.unicast h.frame h.size
+    ≡ handle_left h.store bs h.cluster h.unicast h.frame h.size
 Contract (save size number used buffer) bs = handed number used buffer no_state ≡ save_left bs size
 Contract (restore form number table) bs = left number table no_result ≡ restore_left bs form
 Contract (turn t) bs =
     handed t.number t.used t.frame (after_turn t.table_after t.last_after)
-    ≡ turn_left t.store t.form bs t.code t.sequence t.now t.last t.size
+    ≡ turn_left t.store bs t.sequence t.now t.last t.size
 
 -- what the types of the arguments say, of those that go into the table: uint16_t, uint64_t, uint32_t, int64_t, and bytes
 abbrev pub Typed : Made → Type 0
 Typed (configure a g number accepted table) =
-    (a.cluster < 2 ^ 16) × (a.code < 2 ^ 16) × (a.attribute < 2 ^ 16) × (g.minimum < 2 ^ 16) × (g.maximum < 2 ^ 16) × (g.change < 2 ^ 64)
+    (a.cluster < 2 ^ 16) × (a.attribute < 2 ^ 16) × (g.minimum < 2 ^ 16) × (g.maximum < 2 ^ 16) × (g.change < 2 ^ 64)
 Typed (clear a number table) = Unit
 Typed (mark a x number table) = (x.now < 2 ^ 32) × (mag x.value < 2 ^ 63)
 Typed (ask a x number due) = Unit
@@ -151,28 +143,28 @@ Log bs (c ∷ cs) = Typed c × Contract c bs × Log (next c bs) cs
 
 -- ---- their events
 
-abbrev pub request_of : Handled → Form → Request
-request_of h f = record { store = h.store; form = f; cluster = h.cluster; unicast = is_unicast h.unicast; frame = h.frame; room = h.size }
+abbrev pub request_of : Handled → Request
+request_of h = record { store = h.store; cluster = h.cluster; unicast = is_unicast h.unicast; frame = h.frame; room = h.size }
 
-abbrev pub turn_as : Turning → Form → Turn
-turn_as t f = turn_for (entry_size f) t.store t.code t.sequence t.last t.now t.size
+abbrev pub turn_as : Turning → Turn
+turn_as t = turn_for t.store t.sequence t.last t.now t.size
 
 -- what hd_restore read in, by its number
 abbrev pub come : List ℕ → ℕ → List Entry
 come form number = cond (eqb number 0) (saved_in (form_in form) form) []
 
 -- by what a call gave back: what was not accepted, or refused with a number, is none; the answer of an ask is its `due`. A request's are by the table that
--- it was called on, and so are a turn's, the marks of what it wrote; one that names no form has none. A read, refused or not, clears what stood and configures what it read.
+-- it was called on, and so are a turn's, the marks of what it wrote. A read, refused or not, clears what stood and configures what it read.
 abbrev pub events_of : Made → List ℕ → List Event
 events_of (configure a g number accepted table) bs = cond (eqb accepted 1) (configured (key_at a) (config_as g) ∷ []) []
 events_of (clear a number table) bs = cond (eqb number 0) (cleared (key_at a) ∷ []) []
 events_of (mark a x number table) bs = cond (eqb number 0) (marked (key_at a) x.now x.value ∷ []) []
 events_of (ask a x number due) bs = cond (eqb number 0) (asked (key_at a) x.now x.value (eqb due 1) ∷ []) []
 events_of (configuration a number found) bs = []
-events_of (handle h) bs = in_form (form_said h.form) (λ f. request_events capacity (request_of h f) (table_in bs)) []
+events_of (handle h) bs = request_events capacity (request_of h) (table_in bs)
 events_of (save size number used buffer) bs = []
 events_of (restore form number table) bs = clearings (table_in bs) ++ settings (come form number)
-events_of (turn t) bs = in_form (form_said t.form) (λ f. marking t.store t.now (frame_of (turn_as t f) (table_in bs))) []
+events_of (turn t) bs = marking t.store t.now (frame_of 8 (turn_as t) (table_in bs))
 
 abbrev pub all_events_of : List Made → List ℕ → List Event
 all_events_of [] bs = []

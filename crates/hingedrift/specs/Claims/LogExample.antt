@@ -26,7 +26,7 @@ abbrev pub new : List ℕ
 new = table_bytes capacity []
 
 abbrev pub fifth : Target
-fifth = record { cluster = cluster; code = 0; attribute = 5 }
+fifth = record { cluster = cluster; attribute = 5 }
 
 -- at this time, with -200
 abbrev pub at : ℕ → Sample
@@ -36,7 +36,6 @@ at now = record { now = now; value = negsuc 199 }
 abbrev pub handled : Request → List ℕ → List Entry → Handled
 handled q reply l = record {
   store = T 0x07;
-  form = 1;
   cluster = cluster;
   unicast = 1;
   frame = q.frame;

@@ -22,16 +22,16 @@ number_said numbered z = cond (eqb numbered 1) (number_handed 0 z) (number_hande
 -- a Read Attributes was answered with a reply of `size` bytes; record k of these bytes was found, with status 0
 abbrev pub HdReadNumber : Type 0
 HdReadNumber =
-    (s : List ℕ) (form : ℕ) (bs : List ℕ) (cluster unicast : ℕ) (frame : List ℕ) (room : ℕ) (h : ZclHeader)
+    (s bs : List ℕ) (cluster unicast : ℕ) (frame : List ℕ) (room : ℕ) (h : ZclHeader)
     → AllBytes s → AllBytes bs → AllBytes frame → Asks ReadAttributes frame h
-    → (size : ℕ) (reply : List ℕ) (after : Lent) → handed 0 size reply after ≡ handle_left s form bs cluster unicast frame room
+    → (size : ℕ) (reply : List ℕ) (after : Lent) → handed 0 size reply after ≡ handle_left s bs cluster unicast frame room
     → (k id t start len numbered : ℕ) (z : ℤ) → told 0 (read_as 1 id 0 (value_as t start len numbered z)) ≡ read_recorded (take size reply) k
-    → number_said numbered z ≡ number_left s form h.manufacturer_code.0 id
+    → number_said numbered z ≡ number_left s id
 
 -- the same of a report
 abbrev pub HdReportNumber : Type 0
 HdReportNumber =
-    (s : List ℕ) (form code sequence : ℕ) (ids : List ℕ) (room : ℕ) → All (λ (id : ℕ). id < 2 ^ 16) ids
-    → (size : ℕ) (frame : List ℕ) → handed 0 size frame no_state ≡ report_left s form code sequence ids room
+    (s : List ℕ) (sequence : ℕ) (ids : List ℕ) (room : ℕ) → All (λ (id : ℕ). id < 2 ^ 16) ids
+    → (size : ℕ) (frame : List ℕ) → handed 0 size frame no_state ≡ report_left s sequence ids room
     → (k id t start len numbered : ℕ) (z : ℤ) → told 0 (report_as 1 id (value_as t start len numbered z)) ≡ report_recorded (take size frame) k
-    → number_said numbered z ≡ number_left s form code id
+    → number_said numbered z ≡ number_left s id

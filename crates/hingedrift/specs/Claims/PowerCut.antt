@@ -19,9 +19,9 @@ use Rattle.hingedrift.specs.Claims.LogExample.{was, new, fifth, at, first}
 
 -- ---- before the cut
 
--- cluster fc21, attribute 5, no code, 10 to 60 seconds, change 50, signed: 22 bytes, and no last report
+-- cluster fc21, attribute 5, 10 to 60 seconds, change 50, signed: 20 bytes, and no last report
 abbrev pub form : List ℕ
-form = 0x01 ∷ 0x21 ∷ 0xfc ∷ 0x05 ∷ 0x00 ∷ 0x00 ∷ 0x00 ∷ 0x09 ∷ 0x00 ∷ 0x0a ∷ 0x00 ∷ 0x3c ∷ 0x00 ∷ 0x32 ∷ 0x00 ∷ 0x00 ∷ 0x00 ∷ 0x00 ∷ 0x00 ∷ 0x00 ∷ 0x00 ∷ 0x00 ∷ []
+form = 0x01 ∷ 0x21 ∷ 0xfc ∷ 0x05 ∷ 0x00 ∷ 0x07 ∷ 0x00 ∷ 0x0a ∷ 0x00 ∷ 0x3c ∷ 0x00 ∷ 0x32 ∷ 0x00 ∷ 0x00 ∷ 0x00 ∷ 0x00 ∷ 0x00 ∷ 0x00 ∷ 0x00 ∷ 0x00 ∷ []
 
 -- configured, asked, marked; hd_save with a buffer of 32 bytes
 abbrev pub lived : List Made
@@ -29,7 +29,7 @@ lived =
     handle first
     ∷ ask fifth (at 100) 0 1
     ∷ mark fifth (at 100) 0 (table_bytes capacity (reported ∷ []))
-    ∷ save 32 0 22 (padded 32 form)
+    ∷ save 32 0 20 (padded 32 form)
     ∷ []
 
 -- ---- after it

@@ -7,7 +7,7 @@ use Rattle.frame.specs.Answer.{no_state}
 use Rattle.reporting.specs.Entries.{unreported}
 use Rattle.reporting.specs.Table.{capacity}
 use Rattle.reporting.specs.Carried.{count_in, size_ok, table_in, table_bytes}
-use Rattle.saved.specs.Saved.{saved_size, coded, saved_bytes, saved_in, form_in}
+use Rattle.saved.specs.Saved.{marked, plain, saved_size, saved_bytes, saved_in, form_in}
 use Rattle.hingedrift.specs.Tables.{left, no_result}
 use Rattle.hingedrift.specs.Serving.{handed}
 use Rattle.hingedrift.specs.Saving.{save_left, restore_left}
@@ -21,21 +21,22 @@ HdSaveRestore =
     → size_ok capacity was ≡ true
     → restore_left was (take used buffer) ≡ left 0 (table_bytes capacity (map unreported (table_in bs))) no_result
 
--- what hd_restore read, hd_save writes into any buffer that is long enough: 0, of the newest form the same bytes, and then zeros
+-- what hd_restore read, hd_save writes into any buffer that is long enough: 0, of a form with marks the same bytes, and then zeros
 abbrev pub HdRestoreSave : Type 0
 HdRestoreSave =
     (was form table : List ℕ) (room : ℕ)
     → AllBytes form
-    → form_in form ≡ coded
+    → form_in form ≡ marked
     → left 0 table no_result ≡ restore_left was form
     → length form ≤ room
     → handed 0 (length form) (padded room form) no_state ≡ save_left table room
 
--- of a shorter form, the entries that it is read as in the newest: without codes, and without marks signed (crate `saved`, `LayoutBack`)
+-- of one without, its entries with marks; each is signed (crate `saved`, `OldFormBack`)
 abbrev pub HdRestoreSaveOld : Type 0
 HdRestoreSaveOld =
     (was form table : List ℕ) (room : ℕ)
     → AllBytes form
+    → form_in form ≡ plain
     → left 0 table no_result ≡ restore_left was form
-    → saved_size coded (count_in form) ≤ room
-    → handed 0 (saved_size coded (count_in form)) (padded room (saved_bytes coded (saved_in (form_in form) form))) no_state ≡ save_left table room
+    → saved_size marked (count_in form) ≤ room
+    → handed 0 (saved_size marked (count_in form)) (padded room (saved_bytes marked (saved_in plain form))) no_state ≡ save_left table room

@@ -1,4 +1,4 @@
--- Claims. Splitting a list (document 02, request 4) in what hd_handle_request left: the laws of crate `server` (specs/Claims/Split.antt) of the bytes of store and table, for every store in either form and every table, also bytes that are none.
+-- Claims. Splitting a list (document 02, request 4) in what hd_handle_request left: the laws of crate `server` (specs/Claims/Split.antt) of the bytes of store and table, for every store and table, also bytes that are none.
 use Rattle.std.specs.Prelude.{◌≡◌, ℕ, List}
 use Rattle.types.specs.Number.{AllBytes}
 use Rattle.frame.specs.declared.header.ZclHeader.{ZclHeader}
@@ -21,11 +21,11 @@ abbrev pub served : Calling → Call
 served k = record { frame = k.frame; header = k.header; unicast = is_unicast k.unicast; room = k.room }
 
 -- what the call gives back over the bytes of store and table, and what it leaves of them
-abbrev pub given : ℕ → ℕ → Lent → Calling → Outcome Lent
-given form cluster x k = handle_left x.store form x.table cluster k.unicast k.frame k.room
+abbrev pub given : ℕ → Lent → Calling → Outcome Lent
+given cluster x k = handle_left x.store x.table cluster k.unicast k.frame k.room
 
-abbrev pub left : ℕ → ℕ → Lent → Calling → Lent
-left form cluster x k = (given form cluster x k).state
+abbrev pub left : ℕ → Lent → Calling → Lent
+left cluster x k = (given cluster x k).state
 
 -- the number is not 5
 abbrev pub Fits : Outcome Lent → Type 0
@@ -34,16 +34,16 @@ Fits o = o.number ≡ 5 → ⊥
 -- A and then B leave the bytes that the joined list leaves, where no call gets 5; bytes are below 256, as C's are
 abbrev pub JoinsWhere : (Calling → Calling → Calling → Type 0) → Type 0
 JoinsWhere Supposed =
-    (form cluster : ℕ) (x : Lent) (a b whole : Calling)
+    (cluster : ℕ) (x : Lent) (a b whole : Calling)
     → AllBytes x.store
     → AllBytes x.table
     → AllBytes a.frame
     → Joined (served a) (served b) (served whole)
     → Supposed a b whole
-    → Fits (given form cluster x a)
-    → Fits (given form cluster (left form cluster x a) b)
-    → Fits (given form cluster x whole)
-    → left form cluster (left form cluster x a) b ≡ left form cluster x whole
+    → Fits (given cluster x a)
+    → Fits (given cluster (left cluster x a) b)
+    → Fits (given cluster x whole)
+    → left cluster (left cluster x a) b ≡ left cluster x whole
 
 -- 02 and 05
 abbrev pub HdWritesJoin : Type 0
@@ -56,7 +56,7 @@ HdConfiguresJoin = JoinsWhere (λ a b whole. ConfiguresAll (served a) (served b)
 -- two lists that name no attribute in common, by 02, 03 or 05, leave the same bytes in either order
 abbrev pub HdEitherOrder : Type 0
 HdEitherOrder =
-    (form cluster : ℕ) (x : Lent) (a b : Calling)
+    (cluster : ℕ) (x : Lent) (a b : Calling)
     → AllBytes x.store
     → AllBytes x.table
     → AllBytes a.frame
@@ -64,4 +64,4 @@ HdEitherOrder =
     → WritesAny (served a)
     → WritesAny (served b)
     → NoneInCommon (served a) (served b)
-    → left form cluster (left form cluster x a) b ≡ left form cluster (left form cluster x b) a
+    → left cluster (left cluster x a) b ≡ left cluster (left cluster x b) a

@@ -20,8 +20,6 @@ use Rattle.hingedrift.specs.Claims.Turns.{happenings_in, turns_made}
 abbrev pub turning : ℕ → ℕ → ℕ → List ℕ → List Entry → ℕ → Turning
 turning now last number frame l last_after = record {
   store = T 0x07;
-  form = 1;
-  code = 0;
   sequence = 0x2e;
   now = now;
   last = last;
@@ -54,7 +52,7 @@ TurnLogStands = Begins made was new × Log new ([] ++ (handle first ∷ turns))
 
 -- nothing else configures, clears or marks it, it is there in each turn, and they come at most 59 seconds apart
 pub record TurnLogMeets : Type 0 where
-  pub alone : LeftAlone (key_of cluster 0 5) (as_events [] ++ happenings_in turns first.table_after)
-  pub present : Each (Present 5) (turns_made cluster 0 turns first.table_after)
-  pub paced : Paced 59 (looks_of 5 (turns_made cluster 0 turns first.table_after))
-  pub promised : Promised g (looks_of 5 (turns_made cluster 0 turns first.table_after))
+  pub alone : LeftAlone (key_of cluster 5) (as_events [] ++ happenings_in turns first.table_after)
+  pub present : Each (Present 8 5) (turns_made cluster turns first.table_after)
+  pub paced : Paced 59 (looks_of 8 5 (turns_made cluster turns first.table_after))
+  pub promised : Promised g (looks_of 8 5 (turns_made cluster turns first.table_after))

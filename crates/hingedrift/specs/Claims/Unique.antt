@@ -14,16 +14,16 @@ use Rattle.hingedrift.specs.Reading.{read_recorded, report_recorded, write_recor
 -- src/serving.rt
 abbrev pub HdNumberOnce : Type 0
 HdNumberOnce =
-    (store : List ℕ) (form code attribute r q : ℕ) (x y : ℤ)
-    → number_handed r x ≡ number_left store form code attribute
-    → number_handed q y ≡ number_left store form code attribute
+    (store : List ℕ) (attribute r q : ℕ) (x y : ℤ)
+    → number_handed r x ≡ number_left store attribute
+    → number_handed q y ≡ number_left store attribute
     → (r ≡ q) × (x ≡ y)
 
 abbrev pub HdHandleRequestOnce : Type 0
 HdHandleRequestOnce =
-    (store : List ℕ) (form : ℕ) (table : List ℕ) (cluster unicast : ℕ) (request reply : List ℕ) (r q m n : ℕ) (x y s u bs cs : List ℕ)
-    → handed r m x (lent s bs) ≡ handle_left store form table cluster unicast request (length reply)
-    → handed q n y (lent u cs) ≡ handle_left store form table cluster unicast request (length reply)
+    (store table : List ℕ) (cluster unicast : ℕ) (request reply : List ℕ) (r q m n : ℕ) (x y s u bs cs : List ℕ)
+    → handed r m x (lent s bs) ≡ handle_left store table cluster unicast request (length reply)
+    → handed q n y (lent u cs) ≡ handle_left store table cluster unicast request (length reply)
     → (r ≡ q) × ((m ≡ n) × ((x ≡ y) × ((s ≡ u) × (bs ≡ cs))))
 
 abbrev pub HdUnsupportedClusterOnce : Type 0
@@ -35,16 +35,16 @@ HdUnsupportedClusterOnce =
 
 abbrev pub HdReportOnce : Type 0
 HdReportOnce =
-    (store : List ℕ) (form code sequence : ℕ) (ids frame : List ℕ) (r q m n : ℕ) (x y : List ℕ)
-    → handed r m x no_state ≡ report_left store form code sequence ids (length frame)
-    → handed q n y no_state ≡ report_left store form code sequence ids (length frame)
+    (store : List ℕ) (sequence : ℕ) (ids frame : List ℕ) (r q m n : ℕ) (x y : List ℕ)
+    → handed r m x no_state ≡ report_left store sequence ids (length frame)
+    → handed q n y no_state ≡ report_left store sequence ids (length frame)
     → (r ≡ q) × ((m ≡ n) × (x ≡ y))
 
 abbrev pub HdReportTurnOnce : Type 0
 HdReportTurnOnce =
-    (store : List ℕ) (form : ℕ) (table : List ℕ) (code sequence now last : ℕ) (frame : List ℕ) (r q m n : ℕ) (x y bs cs : List ℕ) (u v : ℕ)
-    → handed r m x (after_turn bs u) ≡ turn_left store form table code sequence now last (length frame)
-    → handed q n y (after_turn cs v) ≡ turn_left store form table code sequence now last (length frame)
+    (store table : List ℕ) (sequence now last : ℕ) (frame : List ℕ) (r q m n : ℕ) (x y bs cs : List ℕ) (u v : ℕ)
+    → handed r m x (after_turn bs u) ≡ turn_left store table sequence now last (length frame)
+    → handed q n y (after_turn cs v) ≡ turn_left store table sequence now last (length frame)
     → (r ≡ q) × ((m ≡ n) × ((x ≡ y) × ((bs ≡ cs) × (u ≡ v))))
 
 -- src/table.rt
@@ -53,37 +53,37 @@ HdTableNewOnce = (table : List ℕ) (r q : ℕ) (bs cs : List ℕ) → left r bs
 
 abbrev pub HdConfigureOnce : Type 0
 HdConfigureOnce =
-    (table : List ℕ) (cluster code attribute minimum maximum change mark r q : ℕ) (bs cs : List ℕ) (x y : ℕ)
-    → left r bs x ≡ configure_left table (key_as cluster code attribute) (config_of minimum maximum change mark) mark
-    → left q cs y ≡ configure_left table (key_as cluster code attribute) (config_of minimum maximum change mark) mark
+    (table : List ℕ) (cluster attribute minimum maximum change mark r q : ℕ) (bs cs : List ℕ) (x y : ℕ)
+    → left r bs x ≡ configure_left table (key_as cluster attribute) (config_of minimum maximum change mark) mark
+    → left q cs y ≡ configure_left table (key_as cluster attribute) (config_of minimum maximum change mark) mark
     → (r ≡ q) × ((bs ≡ cs) × (x ≡ y))
 
 abbrev pub HdClearOnce : Type 0
 HdClearOnce =
-    (table : List ℕ) (cluster code attribute r q : ℕ) (bs cs : List ℕ)
-    → left r bs no_result ≡ clear_left table (key_as cluster code attribute)
-    → left q cs no_result ≡ clear_left table (key_as cluster code attribute)
+    (table : List ℕ) (cluster attribute r q : ℕ) (bs cs : List ℕ)
+    → left r bs no_result ≡ clear_left table (key_as cluster attribute)
+    → left q cs no_result ≡ clear_left table (key_as cluster attribute)
     → (r ≡ q) × (bs ≡ cs)
 
 abbrev pub HdConfigurationOnce : Type 0
 HdConfigurationOnce =
-    (table : List ℕ) (cluster code attribute r q a b k l m n x y u v : ℕ)
-    → left r table (configuration_as a k m x u) ≡ configuration_left table (key_as cluster code attribute)
-    → left q table (configuration_as b l n y v) ≡ configuration_left table (key_as cluster code attribute)
+    (table : List ℕ) (cluster attribute r q a b k l m n x y u v : ℕ)
+    → left r table (configuration_as a k m x u) ≡ configuration_left table (key_as cluster attribute)
+    → left q table (configuration_as b l n y v) ≡ configuration_left table (key_as cluster attribute)
     → (r ≡ q) × ((a ≡ b) × ((k ≡ l) × ((m ≡ n) × ((x ≡ y) × (u ≡ v)))))
 
 abbrev pub HdAskOnce : Type 0
 HdAskOnce =
-    (table : List ℕ) (cluster code attribute now : ℕ) (value : ℤ) (r q x y : ℕ)
-    → left r table x ≡ ask_left table (key_as cluster code attribute) now value
-    → left q table y ≡ ask_left table (key_as cluster code attribute) now value
+    (table : List ℕ) (cluster attribute now : ℕ) (value : ℤ) (r q x y : ℕ)
+    → left r table x ≡ ask_left table (key_as cluster attribute) now value
+    → left q table y ≡ ask_left table (key_as cluster attribute) now value
     → (r ≡ q) × (x ≡ y)
 
 abbrev pub HdMarkOnce : Type 0
 HdMarkOnce =
-    (table : List ℕ) (cluster code attribute now : ℕ) (value : ℤ) (r q : ℕ) (bs cs : List ℕ)
-    → left r bs no_result ≡ mark_left table (key_as cluster code attribute) now value
-    → left q cs no_result ≡ mark_left table (key_as cluster code attribute) now value
+    (table : List ℕ) (cluster attribute now : ℕ) (value : ℤ) (r q : ℕ) (bs cs : List ℕ)
+    → left r bs no_result ≡ mark_left table (key_as cluster attribute) now value
+    → left q cs no_result ≡ mark_left table (key_as cluster attribute) now value
     → (r ≡ q) × (bs ≡ cs)
 
 -- src/saving.rt

@@ -3,14 +3,12 @@ use Rattle.std.specs.Prelude.{◌≡◌, List, length, ℕ}
 use Rattle.frame.specs.declared.answer.Answer.{Answer}
 use Rattle.frame.specs.declared.header.ZclHeader.{ZclHeader}
 use Rattle.frame.specs.Answer.{no_state, seen}
-use Rattle.store.specs.declared.form.Form.{Form}
-use Rattle.store.specs.Contents.{entry_size}
 use Rattle.read.specs.Read.{read_of}
 
 -- src/attributes.rt
 abbrev pub ReadAttributesOnce : Type 0
 ReadAttributesOnce =
-    (store : List ℕ) (form : Form) (request : ZclHeader) (body reply : List ℕ) (r q : Answer) (x y : List ℕ)
-    → seen r x no_state ≡ read_of (entry_size form) store request body (length reply)
-    → seen q y no_state ≡ read_of (entry_size form) store request body (length reply)
+    (store : List ℕ) (request : ZclHeader) (body reply : List ℕ) (r q : Answer) (x y : List ℕ)
+    → seen r x no_state ≡ read_of 8 store request body (length reply)
+    → seen q y no_state ≡ read_of 8 store request body (length reply)
     → (r ≡ q) × (x ≡ y)

@@ -31,7 +31,7 @@ ReadNumber =
 
 abbrev pub ReportNumber : Type 0
 ReportNumber =
-    (form : ℕ) (s : List ℕ) (code sequence : ℕ) (ids : List ℕ) (room : ℕ) → All (λ (id : ℕ). id < 2 ^ 16) ids
-    → (size : ℕ) (reply : List ℕ) → seen (Reply size) reply no_state ≡ report_of form s code sequence ids room
+    (form : ℕ) (s : List ℕ) (sequence : ℕ) (ids : List ℕ) (room : ℕ) → All (λ (id : ℕ). id < 2 ^ 16) ids
+    → (size : ℕ) (reply : List ℕ) → seen (Reply size) reply no_state ≡ report_of form s sequence ids room
     → (k id t : ℕ) (v : List ℕ) (w : ValueIn) → kth k (report_frame_held (take size reply)) ≡ read (some (held (report_record id t v) (some w)))
-    → numbered_by w.number ≡ number_of form s (name_of code id)
+    → numbered_by w.number ≡ number_of form s (name_of 0 id)

@@ -1,6 +1,6 @@
 -- Claims. READING WHAT WAS SERVED gives the records that the command's definition made: for every store, table, request and room. Where the room
 -- shortened a reply, the records are those that fit. Proved in proofs/ServesBack.antt.
-use Rattle.std.specs.Prelude.{◌≡◌, ℕ, ◌+◌, ◌-◌, ◌<◌, ◌^◌, Bool, List, [], take, drop, get_or}
+use Rattle.std.specs.Prelude.{◌≡◌, ℕ, ◌-◌, ◌<◌, ◌^◌, Bool, List, [], take, drop, get_or}
 use Rattle.types.specs.Number.{unsigned_at, AllBytes}
 use Rattle.frame.specs.declared.header.ZclHeader.{ZclHeader}
 use Rattle.frame.specs.declared.header.HeaderRead.TheVariants.{Header}
@@ -9,14 +9,14 @@ use Rattle.frame.specs.declared.command_identifier.CommandIdentifier.TheVariants
 use Rattle.frame.specs.declared.status.Status.TheVariants.{UnsupCommand, UnsupportedCluster}
 use Rattle.frame.specs.declared.answer.Answer.TheVariants.{Reply}
 use Rattle.frame.specs.Status.{status_code}
-use Rattle.frame.specs.Header.{head_size, header_of}
+use Rattle.frame.specs.Header.{header_of}
 use Rattle.frame.specs.Answer.{no_state, seen}
 use Rattle.frame.specs.Walk.{Way, through, broken, stopped, reached, All}
 use Rattle.frame.specs.Encoded.{fits}
 use Rattle.frame.specs.Shortened.{shortened_from}
 use Rattle.frame.specs.Failures.{pass}
 use Rattle.store.specs.declared.lookup.Attribute.{Attribute}
-use Rattle.store.specs.Contents.{attributes_of, of_code}
+use Rattle.store.specs.Contents.{name_of, attributes_of}
 use Rattle.reporting.specs.declared.entry.Entry.{Entry}
 use Rattle.reporting.specs.Table.{holding}
 use Rattle.read.specs.Read as Read
@@ -29,12 +29,12 @@ use Rattle.configure.specs.Configuration as Configuration
 use Rattle.discover.specs.Discover.{at_or_after, listed, complete_byte, discovered_all}
 use Rattle.server.specs.Serve.{State, serve}
 use Rattle.server.specs.UnsupportedCluster.{unsupported_cluster}
-use Rattle.report.specs.Report.{ReportRecord, all, report_from, unasked, report_of}
+use Rattle.report.specs.Report.{ReportRecord, all, report_from, report_of}
 use Rattle.server.specs.Claims.Asks.{Asks, AsksCluster}
 use Rattle.readers.specs.Reading.{Read, read}
 use Rattle.readers.specs.Replies.{Discovery, discovery, Response, read_reply_of, write_reply_of, configure_reply_of, configuration_reply_of, report_frame_of, discover_reply_of, default_response_of}
 
--- ---- the records that a command made, behind the reply's head
+-- ---- the records that a command made, behind a head of three bytes
 
 -- those that the reply holds; a walk that broke has no reply, and what is said of it here never counts
 abbrev pub kept : {R : Type 0} → Way (List R) → List R
@@ -47,27 +47,27 @@ abbrev pub OfRequest : Type 0 → Type 0
 OfRequest A = ℕ → ℕ → List ℕ → List Entry → ZclHeader → List ℕ → ℕ → A
 
 abbrev pub read_made : OfRequest (List Read.ReadRecord)
-read_made form limit s l h body room = kept (shortened_from Read.encode (Read.recordFor form s h) room (head_size h) [] (Read.idsFrom body 0))
+read_made form limit s l h body room = kept (shortened_from Read.encode (Read.recordFor form s h) room 3 [] (Read.idsFrom body 0))
 
 abbrev pub settings_made : OfRequest (List Configuration.SettingRecord)
 settings_made form limit s l h body room =
-    kept (shortened_from Configuration.encode (λ fit. Configuration.recordFor form s l h) room (head_size h) [] (asked_from body 0))
+    kept (shortened_from Configuration.encode (λ fit. Configuration.recordFor form s l h) room 3 [] (asked_from body 0))
 
 abbrev pub write_made : OfRequest (List Write.Failure)
-write_made form limit s l h body room = (reached (pass (writing form h) (fits Write.encode room (head_size h)) (records body) s)).failures
+write_made form limit s l h body room = (reached (pass (writing form h) (fits Write.encode room 3) (records body) s)).failures
 
 -- nothing fails behind the first pass
 abbrev pub undivided_made : OfRequest (List Write.Failure)
-undivided_made form limit s l h body room = (reached (pass (checking form h) (fits Write.encode room (head_size h)) (records body) s)).failures
+undivided_made form limit s l h body room = (reached (pass (checking form h) (fits Write.encode room 3) (records body) s)).failures
 
 abbrev pub configure_made : OfRequest (List Configure.Failure)
 configure_made form limit s l h body room =
-    (reached (pass (Configure.configuring form limit s h) (fits Configure.encode room (head_size h)) (configures body) l)).failures
+    (reached (pass (Configure.configuring form limit s h) (fits Configure.encode room 3) (configures body) l)).failures
 
 abbrev pub discovery_made : OfRequest Discovery
 discovery_made form limit s l h body room =
-    let asked : List Attribute = at_or_after (unsigned_at body 0 2) (of_code h.manufacturer_code.0 (attributes_of form s)) in
-    let some : List Attribute = listed 3 (room - (head_size h + 1)) (get_or body 2 0) asked in
+    let asked : List Attribute = at_or_after (name_of h.manufacturer_code.0 (unsigned_at body 0 2)) (attributes_of form s) in
+    let some : List Attribute = listed 3 (room - 4) (get_or body 2 0) asked in
     discovery (complete_byte asked some) (discovered_all some)
 
 abbrev pub response_made : OfRequest Response
@@ -141,9 +141,9 @@ UnsupportedClusterServed =
     → (size : ℕ) (reply : List ℕ) → seen (Reply size) reply no_state ≡ unsupported_cluster served cluster unicast frame room
     → default_response_of (take size reply) ≡ read (record { command = h.command_identifier.0; status = status_code UnsupportedCluster })
 
--- a report's records are made one by one from its list of ids, which are all of one code
+-- a report's records are made one by one from its list of ids
 abbrev pub ReportSent : Type 0
 ReportSent =
-    (form : ℕ) (s : List ℕ) (code sequence : ℕ) (ids : List ℕ) (room : ℕ) → All (λ (id : ℕ). id < 2 ^ 16) ids
-    → (size : ℕ) (reply : List ℕ) → seen (Reply size) reply no_state ≡ report_of form s code sequence ids room
-    → (rs : List ReportRecord) × (report_from form s code room (head_size (unasked code sequence)) [] ids ≡ all rs) × (report_frame_of (take size reply) ≡ read rs)
+    (form : ℕ) (s : List ℕ) (sequence : ℕ) (ids : List ℕ) (room : ℕ) → All (λ (id : ℕ). id < 2 ^ 16) ids
+    → (size : ℕ) (reply : List ℕ) → seen (Reply size) reply no_state ≡ report_of form s sequence ids room
+    → (rs : List ReportRecord) × (report_from form s room 3 [] ids ≡ all rs) × (report_frame_of (take size reply) ≡ read rs)

@@ -2,9 +2,9 @@
 -- store of each and marked by them alone, demand 3's yes to an ask reads 'found due', the yes it is timed from the last report, and reports
 -- stand at least m and, on the terms above, at most M+nG-1 seconds apart."
 -- Asks may still come between, also of the attribute.
-use Rattle.std.specs.Prelude.{◌≡◌, ◌↔◌, ℕ, ◌+◌, ◌-◌, ◌*◌, ◌≤◌, ◌<◌, Bool, true, false, not, ◌&&◌, List, [], ◌∷◌, ◌++◌, eqb, ℤ}
+use Rattle.std.specs.Prelude.{◌≡◌, ◌↔◌, ℕ, ◌+◌, ◌-◌, ◌*◌, ◌≤◌, ◌<◌, Bool, true, false, ◌&&◌, List, [], ◌∷◌, ◌++◌, ℤ}
 use Rattle.std.proofs.Math.Option.{some}
-use Rattle.store.specs.Contents.{cluster_of, attributes_of, reportable, id_of, of_code}
+use Rattle.store.specs.Contents.{attributes_of, reportable}
 use Rattle.reporting.specs.declared.entry.Key.{Key}
 use Rattle.reporting.specs.declared.entry.ReportingConfig.{ReportingConfig}
 use Rattle.reporting.specs.declared.entry.Entry.{Entry}
@@ -12,11 +12,11 @@ use Rattle.reporting.specs.Entries.{same, accepts_l, lookup_l, Distinct, fresh}
 use Rattle.reporting.specs.Claims.Events.{configured, cleared, asked, marked}
 use Rattle.reporting.specs.Demand3.{AcceptedRecord, Moved}
 use Rattle.report.specs.Round.{keep}
-use Rattle.report.specs.Turn.{Turn, key_of}
+use Rattle.report.specs.Turn.{key_of, id_of}
 use Rattle.report.specs.Claims.Words.{names, Each}
 use Rattle.report.specs.Claims.Turns.{value_at, begins}
 use Rattle.report.specs.Claims.History.{Happening, turn, event, left_by, Met, turns_of, Handed}
-use Rattle.report.specs.Claims.Fairness.{count, of_cluster, Standing, EachAlone, found, reported}
+use Rattle.report.specs.Claims.Fairness.{count, of_cluster, Standing, StoresOfBytes, EachAlone, found, reported}
 
 -- ---- what a turn is to one attribute
 
@@ -26,18 +26,18 @@ pub record Look : Type 0 where
   pub found : Bool  -- due: demand 3's yes
   pub reported : Bool  -- and in the frame
 
-abbrev pub look_of : ℕ → Met → Look
-look_of id m =
+abbrev pub look_of : ℕ → ℕ → Met → Look
+look_of form id m =
     record {
       time = m.turn.now;
-      value = value_at m.turn.store id (of_code m.turn.code (attributes_of m.turn.form m.turn.store));
-      found = found id m;
-      reported = reported id m;
+      value = value_at m.turn.store id (attributes_of form m.turn.store);
+      found = found form id m;
+      reported = reported form id m;
     }
 
-abbrev pub looks_of : ℕ → List Met → List Look
-looks_of id [] = []
-looks_of id (m ∷ ms) = look_of id m ∷ looks_of id ms
+abbrev pub looks_of : ℕ → ℕ → List Met → List Look
+looks_of form id [] = []
+looks_of form id (m ∷ ms) = look_of form id m ∷ looks_of form id ms
 
 -- ---- what is supposed
 
@@ -51,8 +51,8 @@ LeftAlone k (event (asked j now v a) ∷ hs) = LeftAlone k hs
 LeftAlone k (event (marked j now v) ∷ hs) = (same j k ≡ false) × LeftAlone k hs
 
 -- "none refused by 7, 8 or 5 for the header" (these entries are a table), "the attribute present and reportable in the store of each"
-abbrev pub Present : ℕ → Met → Bool
-Present id m = begins m.turn && names id_of id (keep reportable (of_code m.turn.code (attributes_of m.turn.form m.turn.store)))
+abbrev pub Present : ℕ → ℕ → Met → Bool
+Present form id m = begins form m.turn && names id_of id (keep reportable (attributes_of form m.turn.store))
 
 -- "on a clock that never goes back, at most G seconds apart"
 abbrev pub Paced : ℕ → List Look → Type 0
@@ -60,10 +60,10 @@ Paced G [] = Unit
 Paced G (a ∷ []) = Unit
 Paced G (a ∷ (b ∷ qs)) = (a.time ≤ b.time) × (b.time ≤ a.time + G) × Paced G (b ∷ qs)
 
-pub record Supposed (limit cluster code id G : ℕ) (later : List Happening) (l : List Entry) : Type 0 where
-  pub left_alone : LeftAlone (key_of cluster code id) later
-  pub present : Each (Present id) (turns_of limit cluster code later l)
-  pub paced : Paced G (looks_of id (turns_of limit cluster code later l))
+pub record Supposed (form limit cluster id G : ℕ) (later : List Happening) (l : List Entry) : Type 0 where
+  pub left_alone : LeftAlone (key_of cluster id) later
+  pub present : Each (Present form id) (turns_of form limit cluster later l)
+  pub paced : Paced G (looks_of form id (turns_of form limit cluster later l))
 
 -- ---- what is promised
 
@@ -98,33 +98,34 @@ pub record Promised (g : ReportingConfig) (qs : List Look) : Type 0 where
 -- From any entries with distinct keys in which the attribute's is just configured.
 abbrev pub TurnsStanding : Type 0
 TurnsStanding =
-    (limit cluster code id G : ℕ) (start : List Entry) (g : ReportingConfig) (later : List Happening)
+    (form limit cluster id G : ℕ) (start : List Entry) (g : ReportingConfig) (later : List Happening)
     → Distinct start
-    → lookup_l (key_of cluster code id) start ≡ some (fresh (key_of cluster code id) g)
+    → lookup_l (key_of cluster id) start ≡ some (fresh (key_of cluster id) g)
     → AcceptedRecord g
-    → Supposed limit cluster code id G later start
-    → Promised g (looks_of id (turns_of limit cluster code later start))
+    → Supposed form limit cluster id G later start
+    → Promised g (looks_of form id (turns_of form limit cluster later start))
 
 -- "on the terms above, at most M+nG-1 seconds apart": so far after a report no turn comes without a report between, whether it is one or
 -- not. The terms need hold from the report on, for `start` is any entries in which the attribute's has this configuration.
 abbrev pub MostApart : Type 0
 MostApart =
-    (limit cluster code id G : ℕ) (start : List Entry) (e : Entry) (later : List Happening)
+    (form limit cluster id G : ℕ) (start : List Entry) (e : Entry) (later : List Happening)
     → Distinct start
-    → lookup_l (key_of cluster code id) start ≡ some e
+    → lookup_l (key_of cluster id) start ≡ some e
     → AcceptedRecord e.config
-    → Supposed limit cluster code id G later start
-    → Standing cluster code later
-    → Handed (turns_of limit cluster code later start)
-    → EachAlone (turns_of limit cluster code later start)
-    → (y z : Look) → SinceReport (looks_of id (turns_of limit cluster code later start)) y z
-    → z.time ≤ y.time + (e.config.max_interval + count (of_cluster cluster code) start * G - 1)
+    → Supposed form limit cluster id G later start
+    → Standing cluster later
+    → StoresOfBytes (turns_of form limit cluster later start)
+    → Handed form (turns_of form limit cluster later start)
+    → EachAlone form (turns_of form limit cluster later start)
+    → (y z : Look) → SinceReport (looks_of form id (turns_of form limit cluster later start)) y z
+    → z.time ≤ y.time + (e.config.max_interval + count (of_cluster cluster) start * G - 1)
 
 -- "Start from an empty reporting table", with anything before.
 abbrev pub Demand3OfTurns : Type 0
 Demand3OfTurns =
-    (limit cluster code id G : ℕ) (earlier : List Happening) (g : ReportingConfig) (later : List Happening)
-    → accepts_l limit (key_of cluster code id) (left_by limit earlier []) ≡ true
+    (form limit cluster id G : ℕ) (earlier : List Happening) (g : ReportingConfig) (later : List Happening)
+    → accepts_l limit (key_of cluster id) (left_by form limit earlier []) ≡ true
     → AcceptedRecord g
-    → Supposed limit cluster code id G later (left_by limit (earlier ++ (event (configured (key_of cluster code id) g) ∷ [])) [])
-    → Promised g (looks_of id (turns_of limit cluster code later (left_by limit (earlier ++ (event (configured (key_of cluster code id) g) ∷ [])) [])))
+    → Supposed form limit cluster id G later (left_by form limit (earlier ++ (event (configured (key_of cluster id) g) ∷ [])) [])
+    → Promised g (looks_of form id (turns_of form limit cluster later (left_by form limit (earlier ++ (event (configured (key_of cluster id) g) ∷ [])) [])))

@@ -3,8 +3,6 @@
 use Rattle.std.specs.Prelude.{◌≡◌, List, ℕ, length}
 use Rattle.frame.specs.declared.answer.Answer.{Answer}
 use Rattle.frame.specs.Answer.{no_state, seen}
-use Rattle.store.specs.declared.form.Form.{Form}
-use Rattle.store.specs.Contents.{entry_size}
 use Rattle.report.specs.declared.turn.Turned.{Turned}
 use Rattle.report.specs.Report.{report_of}
 use Rattle.report.specs.Turn.{turn_for, after_turn, turn_of}
@@ -12,15 +10,15 @@ use Rattle.report.specs.Turn.{turn_for, after_turn, turn_of}
 -- src/report.rt
 abbrev pub ReportOnce : Type 0
 ReportOnce =
-    (store : List ℕ) (form : Form) (code sequence : ℕ) (ids frame : List ℕ) (r q : Answer) (x y : List ℕ)
-    → seen r x no_state ≡ report_of (entry_size form) store code sequence ids (length frame)
-    → seen q y no_state ≡ report_of (entry_size form) store code sequence ids (length frame)
+    (store : List ℕ) (sequence : ℕ) (ids frame : List ℕ) (r q : Answer) (x y : List ℕ)
+    → seen r x no_state ≡ report_of 8 store sequence ids (length frame)
+    → seen q y no_state ≡ report_of 8 store sequence ids (length frame)
     → (r ≡ q) × (x ≡ y)
 
 -- src/turn.rt
 abbrev pub ReportTurnOnce : Type 0
 ReportTurnOnce =
-    (store : List ℕ) (form : Form) (table : List ℕ) (code sequence time last : ℕ) (frame : List ℕ) (r q : Turned) (x y bs cs : List ℕ)
-    → seen r.answer x (after_turn bs r.last) ≡ turn_of (turn_for (entry_size form) store code sequence last time (length frame)) table
-    → seen q.answer y (after_turn cs q.last) ≡ turn_of (turn_for (entry_size form) store code sequence last time (length frame)) table
+    (store table : List ℕ) (sequence time last : ℕ) (frame : List ℕ) (r q : Turned) (x y bs cs : List ℕ)
+    → seen r.answer x (after_turn bs r.last) ≡ turn_of 8 (turn_for store sequence last time (length frame)) table
+    → seen q.answer y (after_turn cs q.last) ≡ turn_of 8 (turn_for store sequence last time (length frame)) table
     → (r ≡ q) × ((x ≡ y) × (bs ≡ cs))

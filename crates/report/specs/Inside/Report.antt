@@ -26,12 +26,12 @@ Shown head capacity y (Reply o) after = More head capacity y o after
 Shown head capacity y (Refused why) after = Over capacity y why after
 
 -- one id was reported, whatever records the buffer showed before it, and behind whatever head
-abbrev pub Reports : ℕ → List ℕ → ℕ → ℕ → List ℕ → ℕ → Answer → List ℕ → Type 0
-Reports form s code id d out r after =
+abbrev pub Reports : List ℕ → ℕ → List ℕ → ℕ → Answer → List ℕ → Type 0
+Reports s id d out r after =
     (head : List ℕ) (rs : List ReportRecord) → Shows d out (head ++ encode_all encode rs)
-    → Shown head (length d) (report_one form s code (length d) (length head) (all rs) id) r after
+    → Shown head (length d) (report_one 8 s (length d) (length head) (all rs) id) r after
 
 -- every id was reported, behind whatever head the buffer showed
-abbrev pub ReportsAll : ℕ → List ℕ → ℕ → List ℕ → List ℕ → ℕ → Answer → List ℕ → Type 0
-ReportsAll form s code ids d from r after =
-    (head : List ℕ) → Shows d from head → seen r after no_state ≡ report_reply (length d) head (report_from form s code (length d) (length head) [] ids)
+abbrev pub ReportsAll : List ℕ → List ℕ → List ℕ → ℕ → Answer → List ℕ → Type 0
+ReportsAll s ids d from r after =
+    (head : List ℕ) → Shows d from head → seen r after no_state ≡ report_reply (length d) head (report_from 8 s (length d) (length head) [] ids)

@@ -52,10 +52,10 @@ LimitsAgree =
 abbrev pub SixteenAsBefore : Type 0
 SixteenAsBefore = (cs : List Call) → Within 16 capacity cs [] → (all_say 16 cs [] ≡ all_say capacity cs []) × (calls 16 cs [] ≡ calls capacity cs [])
 
--- n keys configured one after the other, from attribute i of cluster 0 on, without a code
+-- n keys configured one after the other, from attribute i of cluster 0 on
 abbrev pub in_row : ℕ → ℕ → List Call
 in_row zero i = []
-in_row (suc n) i = configure (record { cluster = record { 0 = 0 }; code = record { 0 = 0 }; attribute = record { 0 = i } }) zero_config ∷ in_row n (suc i)
+in_row (suc n) i = configure (record { cluster = record { 0 = 0 }; attribute = record { 0 = i } }) zero_config ∷ in_row n (suc i)
 
 -- the last of n + 1 such calls
 abbrev pub last_of : ℕ → ℕ → Said

@@ -18,12 +18,12 @@ use Rattle.reporting.specs.Claims.Log.{Made, configure, clear, mark, ask, config
 
 -- ---- tables
 
-abbrev pub key_at : ℕ → ℕ → ℕ → Key
-key_at cluster code attribute = record { cluster = record { 0 = cluster }; code = record { 0 = code }; attribute = record { 0 = attribute } }
+abbrev pub key_at : ℕ → ℕ → Key
+key_at cluster attribute = record { cluster = record { 0 = cluster }; attribute = record { 0 = attribute } }
 
 -- these entries, and slots of zeros behind them
 abbrev pub table_with : List Entry → ReportingTable
-table_with l = record { entries = l ++ replicate (capacity - length l) (fresh (key_at 0 0 0) zero_config); count = length l }
+table_with l = record { entries = l ++ replicate (capacity - length l) (fresh (key_at 0 0) zero_config); count = length l }
 
 -- an operation was done, and left these entries
 abbrev pub done_with : List Entry → Changed
@@ -32,11 +32,10 @@ done_with l = record { table = table_with l; answer = Done }
 -- ---- the log
 
 abbrev pub k : Key
-k = key_at 0x402 0 0
+k = key_at 0x402 0
 
--- the same attribute number of a maker
 abbrev pub j : Key
-j = key_at 0x402 0x115f 0
+j = key_at 0x402 3
 
 abbrev pub g : ReportingConfig
 g = record { min_interval = 5; max_interval = 30; reportable_change = 25; unsigned = false }

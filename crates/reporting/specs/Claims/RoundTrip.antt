@@ -9,7 +9,6 @@ use Rattle.reporting.specs.Carried.{table_bytes, table_in, is_table}
 -- an entry that has one form: every field within its width, and without a report no time and no value
 pub record Clean (e : Entry) : Type 0 where
   pub cluster : e.key.cluster.0 < 2 ^ 16
-  pub code : e.key.code.0 < 2 ^ 16
   pub attribute : e.key.attribute.0 < 2 ^ 16
   pub minimum : e.config.min_interval < 2 ^ 16
   pub maximum : e.config.max_interval < 2 ^ 16

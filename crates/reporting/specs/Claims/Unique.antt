@@ -18,14 +18,11 @@ use Rattle.reporting.specs.Table.{capacity, table_of, Alike, report_told, settin
 use Rattle.reporting.specs.Entries.{same, matches, find_l, fresh, clear_l, mark_e, mark_l}
 use Rattle.reporting.specs.Due.{dist, dist_by, moved_by, ripe, due_e, due_l}
 use Rattle.reporting.specs.Wish.{wish}
-use Rattle.reporting.specs.Carried.{widths, laid, numbers_in, if_marked, numbers_of, entry_of, table_in, is_table, table_read, reading, read_t, written, write_t}
+use Rattle.reporting.specs.Carried.{widths, laid, numbers_in, numbers_of, entry_of, table_in, is_table, table_read, reading, read_t, written, write_t}
 use Rattle.reporting.specs.Lent.{ask_lent, configuration_lent, mark_lent, clear_lent, left_as, configure_lent}
 use Rattle.reporting.specs.Inside.{kept_as, configure_in}
 
 -- src/carried.rt
-abbrev pub ToldIfOnce : Type 0
-ToldIfOnce = (told : Bool) (n r q : ℕ) → r ≡ if_marked told n → q ≡ if_marked told n → r ≡ q
-
 abbrev pub IsTableOnce : Type 0
 IsTableOnce = (bytes : List ℕ) (r q : Bool) → r ≡ is_table capacity bytes → q ≡ is_table capacity bytes → r ≡ q
 
@@ -165,6 +162,19 @@ ClearInOnce =
     → read_t capacity x ≡ table_read true (clear_l key (table_in bytes))
     → read_t capacity y ≡ table_read true (clear_l key (table_in bytes))
     → x ≡ y
+
+-- src/numbers.rt
+abbrev pub U16InOnce : Type 0
+U16InOnce = (bytes : List ℕ) (at r q : ℕ) → r ≡ unsigned_at bytes at 2 → q ≡ unsigned_at bytes at 2 → r ≡ q
+
+abbrev pub U64InOnce : Type 0
+U64InOnce = (bytes : List ℕ) (at r q : ℕ) → r ≡ unsigned_at bytes at 8 → q ≡ unsigned_at bytes at 8 → r ≡ q
+
+abbrev pub PutU16InOnce : Type 0
+PutU16InOnce = (bytes : List ℕ) (at n : ℕ) (x y : List ℕ) → x ≡ sets bytes at (bytes_of 2 n) → y ≡ sets bytes at (bytes_of 2 n) → x ≡ y
+
+abbrev pub PutU64InOnce : Type 0
+PutU64InOnce = (bytes : List ℕ) (at n : ℕ) (x y : List ℕ) → x ≡ sets bytes at (bytes_of 8 n) → y ≡ sets bytes at (bytes_of 8 n) → x ≡ y
 
 -- src/table.rt
 abbrev pub NewOnce : Type 0

@@ -94,7 +94,7 @@ FromNothingToTheTop = (dist_by false (pos 0) (negsuc 0) ≡ 1) × (dist_by true 
 abbrev pub meter : Bool → Entry
 meter unsigned =
     mark_e 100 (pos 0)
-    (fresh (record { cluster = record { 0 = 0x0702 }; code = record { 0 = 0 }; attribute = record { 0 = 0x0000 } })
+    (fresh (record { cluster = record { 0 = 0x0702 }; attribute = record { 0 = 0x0000 } })
     (record { min_interval = 10; max_interval = 300; reportable_change = 2; unsigned = unsigned }))
 
 abbrev pub top : List ℕ

@@ -9,8 +9,7 @@ use Rattle.reporting.specs.Entries.{fresh}
 use Rattle.reporting.specs.Table.{capacity, zero_config}
 use Rattle.reporting.specs.Carried.{count_in, size_ok, table_size, table_bytes}
 use Rattle.reporting.specs.Lent.{left_as}
-use Rattle.saved.specs.declared.form.Layout.{Layout}
-use Rattle.saved.specs.Saved.{Form, form_of, coded, saved_bytes, saved_in, is_saved}
+use Rattle.saved.specs.Saved.{Form, marked, saved_bytes, saved_in, is_saved}
 use Rattle.saved.specs.Lent.{restore_under}
 
 -- ---- any two limits
@@ -25,23 +24,19 @@ FormAboveLimit = (limit : ℕ) (form bs : List ℕ) → limit < count_in form �
 
 -- ---- document 01's sixteen, and a table now
 
--- what an old box saved is a saved form now, whatever its layout, and laid out so its entries are the same bytes: those of the newest layout are what is written
+-- what an old box saved is a saved form now, and its entries are written as the same bytes
 abbrev pub SixteenKeepBytes : Type 0
-SixteenKeepBytes =
-    (layout : Layout) (bs : List ℕ)
-    → AllBytes bs
-    → is_saved (form_of layout) 16 bs ≡ true
-    → (is_saved (form_of layout) capacity bs ≡ true) × (saved_bytes (form_of layout) (saved_in (form_of layout) bs) ≡ bs)
+SixteenKeepBytes = (bs : List ℕ) → AllBytes bs → is_saved marked 16 bs ≡ true → (is_saved marked capacity bs ≡ true) × (saved_bytes marked (saved_in marked bs) ≡ bs)
 
--- n entries, from attribute i of cluster 0 on, without a code
+-- n entries, from attribute i of cluster 0 on, and what a box with so much room leaves of their form over a blank table
 abbrev pub in_row : ℕ → ℕ → List Entry
 in_row zero i = []
-in_row (suc n) i = fresh (record { cluster = record { 0 = 0 }; code = record { 0 = 0 }; attribute = record { 0 = i } }) zero_config ∷ in_row n (suc i)
+in_row (suc n) i = fresh (record { cluster = record { 0 = 0 }; attribute = record { 0 = i } }) zero_config ∷ in_row n (suc i)
 
--- what a box with so much room leaves of their form over a blank table: sixteen entries are read by both, seventeen by a table now alone, and 129 by neither
+-- sixteen entries are read by both, seventeen and 128 by a table now alone, and 129 by neither
 pub record OldBox : Type 0 where
-  pub sixteen_then : restore_under 16 (saved_bytes coded (in_row 16 0)) (zeros (table_size 16)) ≡ left_as Done (table_bytes 16 (in_row 16 0))
-  pub sixteen_now : restore_under capacity (saved_bytes coded (in_row 16 0)) (zeros (table_size capacity)) ≡ left_as Done (table_bytes capacity (in_row 16 0))
-  pub seventeen_then : restore_under 16 (saved_bytes coded (in_row 17 0)) (zeros (table_size 16)) ≡ left_as (Refused NotASavedForm) (table_bytes 16 [])
-  pub seventeen_now : restore_under capacity (saved_bytes coded (in_row 17 0)) (zeros (table_size capacity)) ≡ left_as Done (table_bytes capacity (in_row 17 0))
-  pub past_now : restore_under capacity (saved_bytes coded (in_row 129 0)) (zeros (table_size capacity)) ≡ left_as (Refused NotASavedForm) (table_bytes capacity [])
+  pub sixteen_then : restore_under 16 (saved_bytes marked (in_row 16 0)) (zeros (table_size 16)) ≡ left_as Done (table_bytes 16 (in_row 16 0))
+  pub sixteen_now : restore_under capacity (saved_bytes marked (in_row 16 0)) (zeros (table_size capacity)) ≡ left_as Done (table_bytes capacity (in_row 16 0))
+  pub seventeen_then : restore_under 16 (saved_bytes marked (in_row 17 0)) (zeros (table_size 16)) ≡ left_as (Refused NotASavedForm) (table_bytes 16 [])
+  pub seventeen_now : restore_under capacity (saved_bytes marked (in_row 17 0)) (zeros (table_size capacity)) ≡ left_as Done (table_bytes capacity (in_row 17 0))
+  pub past_now : restore_under capacity (saved_bytes marked (in_row 129 0)) (zeros (table_size capacity)) ≡ left_as (Refused NotASavedForm) (table_bytes capacity [])

@@ -15,7 +15,6 @@ use Rattle.configure.specs.Claims.History.{done_events}
 use Rattle.server.specs.Serve.{State, serve}
 use Rattle.server.specs.Claims.Asks.{Asks}
 use Rattle.server.specs.Claims.History.{Request, request_events}
-use Rattle.store.specs.Contents.{entry_size}
 
 -- ---- the frame
 
@@ -26,7 +25,7 @@ records_of frame h = (configures (drop h.body frame)).list
 -- ---- the reply
 
 abbrev pub answer_to : ℕ → Request → List Entry → Outcome State
-answer_to limit r l = serve (entry_size r.form) limit r.store (holding l) r.cluster r.unicast r.frame r.room
+answer_to limit r l = serve 8 limit r.store (holding l) r.cluster r.unicast r.frame r.room
 
 -- number 0, and a Configure Reporting Response with these bytes behind its header
 pub record Says (limit : ℕ) (r : Request) (l : List Entry) (h : ZclHeader) (body : List ℕ) : Type 0 where

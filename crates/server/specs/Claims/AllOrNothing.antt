@@ -4,18 +4,17 @@
 -- their order, and whether the body ended there (`done`) or with one that cannot be read (`cut`); `failing` are the failures of those that do not pass the check
 -- of request 2 over the store as it came, in the records' order (write, specs/Claims/Undivided.antt). `replied room out ..` is the reply `out`, then zeros to the
 -- end of the buffer; `refused room ..` is a number, length 0, and zeros (frame, specs/Answer.antt).
-use Rattle.std.specs.Prelude.{◌≡◌, ℕ, ◌+◌, ◌≤◌, Bool, true, cond, List, [], ◌∷◌, ◌++◌, length, drop}
+use Rattle.std.specs.Prelude.{◌≡◌, ℕ, ◌≤◌, Bool, true, cond, List, [], ◌∷◌, ◌++◌, length, drop}
 use Rattle.types.specs.declared.ids.ClusterId.{ClusterId}
 use Rattle.frame.specs.declared.header.ZclHeader.{ZclHeader}
 use Rattle.frame.specs.declared.command_identifier.CommandIdentifier.TheVariants.{WriteAttributesUndivided, WriteAttributesResponse}
 use Rattle.frame.specs.declared.answer.Refusal.TheVariants.{RecordCut, ReplyTooLong}
-use Rattle.frame.specs.Header.{reply_head, head_size}
+use Rattle.frame.specs.Header.{reply_head}
 use Rattle.frame.specs.Answer.{Outcome, within, seen, replied, refused}
 use Rattle.frame.specs.Walk.{done, cut}
 use Rattle.frame.specs.Encoded.{encode_all, fits}
 use Rattle.frame.specs.Failures.{answered}
-use Rattle.store.specs.declared.form.Form.{Form}
-use Rattle.store.specs.Contents.{entry_size, cluster_of}
+use Rattle.store.specs.Contents.{cluster_of}
 use Rattle.store.specs.Layout.{is_store}
 use Rattle.reporting.specs.declared.entry.Entry.{Entry}
 use Rattle.reporting.specs.declared.table.ReportingTable.{ReportingTable}
@@ -54,7 +53,7 @@ pub record AllOrNothing (form : ℕ) (s : List ℕ) (h : ZclHeader) (body : List
   pub lists : Readable body → (failures_over form s h body ≡ [] → ⊥)
       → o ≡ answered room (reply_head h WriteAttributesResponse ++ encode_all encode (failures_over form s h body)) s
   -- where one cannot be read, it is 4, or 5 where the failures before it do not fit
-  pub unread : Unreadable body → o ≡ refused room (cond (fits encode room (head_size h) (failures_over form s h body)) RecordCut ReplyTooLong) s
+  pub unread : Unreadable body → o ≡ refused room (cond (fits encode room 3 (failures_over form s h body)) RecordCut ReplyTooLong) s
 
 -- ---- of every served undivided write; "The reporting table is unchanged"
 
@@ -68,18 +67,18 @@ AllOrNothingServed =
     → is_store form s ≡ true
     → cluster ≡ cluster_of s
     → Asks WriteAttributesUndivided frame h
-    → head_size h + 1 ≤ room
+    → 4 ≤ room
     → AllOrNothing form s h (drop h.body frame) room (store_of (serve form limit s (holding l) cluster unicast frame room))
     × ((serve form limit s (holding l) cluster unicast frame room).state.table ≡ holding l)
 
 -- the same of what `handle_request` answered, by its contract: s, r and x are the store, the answer and the reply buffer afterwards
 abbrev pub AllOrNothingHandled : Type 0
 AllOrNothingHandled =
-    (store : List ℕ) (form : Form) (table : ReportingTable) (l : List Entry) (cluster : ClusterId) (unicast : Bool) (request reply : List ℕ) (h : ZclHeader) (r : Served) (x s : List ℕ)
-    → is_store (entry_size form) store ≡ true
+    (store : List ℕ) (table : ReportingTable) (l : List Entry) (cluster : ClusterId) (unicast : Bool) (request reply : List ℕ) (h : ZclHeader) (r : Served) (x s : List ℕ)
+    → is_store 8 store ≡ true
     → quieted_t (table_of table) ≡ holding l
     → cluster.0 ≡ cluster_of store
     → Asks WriteAttributesUndivided request h
-    → head_size h + 1 ≤ length reply
-    → seen r.answer x (state s (table_of r.table)) ≡ serve (entry_size form) capacity store (quieted_t (table_of table)) cluster.0 unicast request (length reply)
-    → AllOrNothing (entry_size form) store h (drop h.body request) (length reply) (seen r.answer x s) × (table_of r.table ≡ holding l)
+    → 4 ≤ length reply
+    → seen r.answer x (state s (table_of r.table)) ≡ serve 8 capacity store (quieted_t (table_of table)) cluster.0 unicast request (length reply)
+    → AllOrNothing 8 store h (drop h.body request) (length reply) (seen r.answer x s) × (table_of r.table ≡ holding l)

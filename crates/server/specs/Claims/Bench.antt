@@ -51,7 +51,7 @@ abbrev pub bench_answer : List ℕ → ℕ → Outcome State
 bench_answer frame room = serve 8 capacity (T 0x07) (holding []) cluster true frame room
 
 abbrev pub key : Key
-key = record { cluster = record { 0 = cluster }; code = record { 0 = 0 }; attribute = record { 0 = 5 } }
+key = record { cluster = record { 0 = cluster }; attribute = record { 0 = 5 } }
 
 -- attribute 5's entry with a configuration, not marked
 abbrev pub unmarked : ReportingConfig → Entry

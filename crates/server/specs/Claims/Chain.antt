@@ -70,8 +70,8 @@ AnswerToAnswer = (a b : Box) (frame reply next : List ℕ) → answer_of a frame
 -- and so is the answer to a report frame
 abbrev pub AnswerToReport : Type 0
 AnswerToReport =
-    (form : ℕ) (s : List ℕ) (code sequence : ℕ) (ids : List ℕ) (room : ℕ) (b : Box) (frame next : List ℕ)
-    → sent (report_of form s code sequence ids room) ≡ some frame → answer_of b frame ≡ some next → IsDefaultResponse next
+    (form : ℕ) (s : List ℕ) (sequence : ℕ) (ids : List ℕ) (room : ℕ) (b : Box) (frame next : List ℕ)
+    → sent (report_of form s sequence ids room) ≡ some frame → answer_of b frame ≡ some next → IsDefaultResponse next
 
 -- A CHAIN ENDS: no more than two replies are sent, whatever the first frame and the boxes are
 abbrev pub ChainEnds : Type 0
@@ -80,5 +80,5 @@ ChainEnds = (boxes : List Box) (frame : List ℕ) → length (chain boxes frame)
 -- and to a report frame no more than one
 abbrev pub ReportChainEnds : Type 0
 ReportChainEnds =
-    (form : ℕ) (s : List ℕ) (code sequence : ℕ) (ids : List ℕ) (room : ℕ) (boxes : List Box) (frame : List ℕ)
-    → sent (report_of form s code sequence ids room) ≡ some frame → length (chain boxes frame) ≤ 1
+    (form : ℕ) (s : List ℕ) (sequence : ℕ) (ids : List ℕ) (room : ℕ) (boxes : List Box) (frame : List ℕ)
+    → sent (report_of form s sequence ids room) ≡ some frame → length (chain boxes frame) ≤ 1

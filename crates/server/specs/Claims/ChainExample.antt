@@ -39,5 +39,5 @@ pub record ChainsAre : Type 0 where
   -- a cluster command of its number is answered, and that answer is not
   pub clusters : chain (box ∷ box ∷ []) (0x01 ∷ 0x00 ∷ 0x0b ∷ []) ≡ (0x18 ∷ 0x00 ∷ 0x0b ∷ 0x0b ∷ 0x81 ∷ []) ∷ []
   -- a report frame gets a Default Response, and that nothing
-  pub reported : sent (report_of 8 (T 0x07) 0 0x07 (5 ∷ []) 64) ≡ some reporting
+  pub reported : sent (report_of 8 (T 0x07) 0x07 (5 ∷ []) 64) ≡ some reporting
   pub one : chain (box ∷ box ∷ []) reporting ≡ (0x18 ∷ 0x07 ∷ 0x0b ∷ 0x0a ∷ 0x81 ∷ []) ∷ []

@@ -4,8 +4,7 @@ use Rattle.frame.specs.declared.header.HeaderRead.{HeaderRead}
 use Rattle.frame.specs.declared.header.HeaderRead.TheVariants.{Header, Short}
 use Rattle.frame.specs.declared.command_identifier.CommandIdentifier.TheVariants.{ConfigureReporting}
 use Rattle.frame.specs.Header.{header_of, is_command}
-use Rattle.store.specs.declared.form.Form.{Form}
-use Rattle.store.specs.Contents.{entry_size, cluster_of}
+use Rattle.store.specs.Contents.{cluster_of}
 use Rattle.store.specs.Layout.{is_store}
 use Rattle.reporting.specs.declared.entry.Entry.{Entry}
 use Rattle.reporting.specs.Table.{holding, entries_of}
@@ -18,10 +17,9 @@ use Rattle.server.specs.Serve.{serve}
 
 -- ---- a request
 
--- any frame, for any cluster, unicast or not, over any store in either form, with any room
+-- any frame, for any cluster, unicast or not, over any store, with any room
 pub record Request : Type 0 where
   pub store : List ℕ
-  pub form : Form
   pub cluster : ℕ
   pub unicast : Bool
   pub frame : List ℕ
@@ -29,19 +27,19 @@ pub record Request : Type 0 where
 
 -- the entries after a request
 unfoldable pub requested : ℕ → Request → List Entry → List Entry
-requested limit r l = entries_of (serve (entry_size r.form) limit r.store (holding l) r.cluster r.unicast r.frame r.room).state.table
+requested limit r l = entries_of (serve 8 limit r.store (holding l) r.cluster r.unicast r.frame r.room).state.table
 
 -- the events of a request: those of a Configure Reporting frame over a store of its cluster; no other request has any
 abbrev pub headed_events : ℕ → Request → List Entry → HeaderRead → List Event
 headed_events limit r l Short = []
 headed_events limit r l (Header h) =
     cond (is_command ConfigureReporting h)
-    (configure_events (entry_size r.form) limit r.store l h (drop h.body r.frame) r.room)
+    (configure_events 8 limit r.store l h (drop h.body r.frame) r.room)
     []
 
 unfoldable pub request_events : ℕ → Request → List Entry → List Event
 request_events limit r l =
-    cond (is_store (entry_size r.form) r.store && eqb r.cluster (cluster_of r.store)) (headed_events limit r l (header_of r.frame)) []
+    cond (is_store 8 r.store && eqb r.cluster (cluster_of r.store)) (headed_events limit r l (header_of r.frame)) []
 
 -- ---- uses of a table: requests, direct calls, and report turns
 
@@ -53,12 +51,12 @@ pub data Use : Type 0 where
 abbrev pub used : ℕ → Use → List Entry → List Entry
 used limit (request r) l = requested limit r l
 used limit (direct c) l = call limit c l
-used limit (turn u) l = turned u l
+used limit (turn u) l = turned 8 u l
 
 abbrev pub use_events : ℕ → Use → List Entry → List Event
 use_events limit (request r) l = request_events limit r l
 use_events limit (direct c) l = events limit c l
-use_events limit (turn u) l = marking u.store u.now (frame_of u l)
+use_events limit (turn u) l = marking u.store u.now (frame_of 8 u l)
 
 -- the entries after uses, and all their events
 abbrev pub uses : ℕ → List Use → List Entry → List Entry

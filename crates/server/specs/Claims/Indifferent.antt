@@ -1,5 +1,4 @@
--- Claims. What does not affect an answer: direction and the other control bits (document 01, "Frames and values", Header), and a manufacturer code of 0000
--- (document 02, request 8: "a header without a code, or with code 0000, means none").
+-- Claims. What does not affect an answer: direction and the other control bits, and the manufacturer code (document 01, "Frames and values", Header).
 use Rattle.std.specs.Prelude.{◌≡◌, ℕ, ◌+◌, ◌/◌, ◌%◌, Bool, List, ◌∷◌}
 use Rattle.reporting.specs.Table.{Table}
 use Rattle.server.specs.Serve.{serve}
@@ -11,11 +10,11 @@ ControlBitsDoNotMatter =
     (form limit : ℕ) (s : List ℕ) (t : Table) (cluster : ℕ) (unicast : Bool) (room control other : ℕ) (rest : List ℕ) → control % 8 ≡ other % 8
     → serve form limit s t cluster unicast (control ∷ rest) room ≡ serve form limit s t cluster unicast (other ∷ rest) room
 
--- nor does a manufacturer code of 0000: a frame with it answers as it does without bit 2 and the two bytes
-abbrev pub CodeZeroIsNone : Type 0
-CodeZeroIsNone =
-    (form limit : ℕ) (s : List ℕ) (t : Table) (cluster : ℕ) (unicast : Bool) (room control : ℕ) (rest : List ℕ) → control / 4 % 2 ≡ 0
-    → serve form limit s t cluster unicast ((control + 4) ∷ 0 ∷ 0 ∷ rest) room ≡ serve form limit s t cluster unicast (control ∷ rest) room
+-- nor does the manufacturer code: a frame answers as it does without bit 2 and the two bytes
+abbrev pub ManufacturerCodeDoesNotMatter : Type 0
+ManufacturerCodeDoesNotMatter =
+    (form limit : ℕ) (s : List ℕ) (t : Table) (cluster : ℕ) (unicast : Bool) (room control a b : ℕ) (rest : List ℕ) → control / 4 % 2 ≡ 0
+    → serve form limit s t cluster unicast ((control + 4) ∷ a ∷ b ∷ rest) room ≡ serve form limit s t cluster unicast (control ∷ rest) room
 
 -- control bits 3 to 7 do not affect the responder's answer
 abbrev pub ResponderControlBitsDoNotMatter : Type 0
@@ -23,8 +22,8 @@ ResponderControlBitsDoNotMatter =
     (served : List ℕ) (cluster : ℕ) (unicast : Bool) (room control other : ℕ) (rest : List ℕ) → control % 8 ≡ other % 8
     → unsupported_cluster served cluster unicast (control ∷ rest) room ≡ unsupported_cluster served cluster unicast (other ∷ rest) room
 
--- nor does a manufacturer code of 0000: a frame with it answers as it does without bit 2 and the two bytes
-abbrev pub ResponderCodeZeroIsNone : Type 0
-ResponderCodeZeroIsNone =
-    (served : List ℕ) (cluster : ℕ) (unicast : Bool) (room control : ℕ) (rest : List ℕ) → control / 4 % 2 ≡ 0
-    → unsupported_cluster served cluster unicast ((control + 4) ∷ 0 ∷ 0 ∷ rest) room ≡ unsupported_cluster served cluster unicast (control ∷ rest) room
+-- nor does the manufacturer code: a frame answers as it does without bit 2 and the two bytes
+abbrev pub ResponderManufacturerCodeDoesNotMatter : Type 0
+ResponderManufacturerCodeDoesNotMatter =
+    (served : List ℕ) (cluster : ℕ) (unicast : Bool) (room control a b : ℕ) (rest : List ℕ) → control / 4 % 2 ≡ 0
+    → unsupported_cluster served cluster unicast ((control + 4) ∷ a ∷ b ∷ rest) room ≡ unsupported_cluster served cluster unicast (control ∷ rest) room

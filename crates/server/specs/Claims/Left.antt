@@ -3,7 +3,7 @@
 use Rattle.std.specs.Prelude.{◌≡◌, Bool, true, List, ℕ, ◌≤◌, length, take}
 use Rattle.types.specs.Number.{zeros}
 use Rattle.frame.specs.declared.answer.Refusal.{Refusal}
-use Rattle.frame.specs.declared.answer.Refusal.TheVariants.{OtherCluster, HeaderShort, ReservedFrameType, RecordCut, ReplyTooLong, NothingToSend, NotAStore, NotATable, NoNumber, NotSuchAReply, EmptyReport, NotReportable, NotASavedForm, CannotGoBack}
+use Rattle.frame.specs.declared.answer.Refusal.TheVariants.{OtherCluster, HeaderShort, ReservedFrameType, RecordCut, ReplyTooLong, NothingToSend, NotAStore, NotATable, NoNumber, NotSuchAReply, EmptyReport, NotReportable, NotASavedForm}
 use Rattle.frame.specs.Reply.{padded}
 use Rattle.frame.specs.Answer.{refusal_number, Outcome}
 use Rattle.store.specs.Layout.{is_store}
@@ -64,7 +64,6 @@ when NotSuchAReply = never
 when EmptyReport = never
 when NotReportable = never
 when NotASavedForm = never
-when CannotGoBack = never
 
 abbrev pub Early : Refusal → Type 0
 Early why = when why ≡ before
@@ -97,9 +96,9 @@ ResponderThenZeros = OfEveryResponse (λ room o. ThenZeros room o)
 abbrev pub ResponderLength : Type 0
 ResponderLength = OfEveryResponse (λ room o. AsLong room o)
 
--- for every form, store, code, sequence number, list of ids and room
+-- for every form, store, sequence number, list of ids and room
 abbrev pub OfEveryReport : (ℕ → Outcome (Unit {0}) → Type 0) → Type 0
-OfEveryReport P = (form : ℕ) (s : List ℕ) (code sequence : ℕ) (ids : List ℕ) (room : ℕ) → P room (report_of form s code sequence ids room)
+OfEveryReport P = (form : ℕ) (s : List ℕ) (sequence : ℕ) (ids : List ℕ) (room : ℕ) → P room (report_of form s sequence ids room)
 
 abbrev pub ReportClears : Type 0
 ReportClears = OfEveryReport (λ room o. Clears room o)
@@ -112,9 +111,9 @@ ReportLength = OfEveryReport (λ room o. AsLong room o)
 
 -- ---- of a report turn, which may change the table's bytes and the last id
 
--- for every turn and bytes: P of the room, of bytes and last id as they came, and of the answer
+-- for every form, turn and bytes: P of the room, of bytes and last id as they came, and of the answer
 abbrev pub OfEveryTurn : (ℕ → After → Outcome After → Type 0) → Type 0
-OfEveryTurn P = (u : Turn) (bs : List ℕ) → P u.room (after_turn bs u.last) (turn_of u bs)
+OfEveryTurn P = (form : ℕ) (u : Turn) (bs : List ℕ) → P u.room (after_turn bs u.last) (turn_of form u bs)
 
 abbrev pub TurnClears : Type 0
 TurnClears = OfEveryTurn (λ room came o. Clears room o)

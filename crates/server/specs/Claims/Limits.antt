@@ -4,7 +4,6 @@ use Rattle.frame.specs.declared.header.ZclHeader.{ZclHeader}
 use Rattle.frame.specs.declared.command_identifier.CommandIdentifier.TheVariants.{ConfigureReporting}
 use Rattle.frame.specs.Answer.{Outcome}
 use Rattle.store.specs.declared.lookup.Attribute.{Attribute}
-use Rattle.store.specs.Contents.{entry_size}
 use Rattle.reporting.specs.declared.entry.Entry.{Entry}
 use Rattle.reporting.specs.Table.{capacity, holding}
 use Rattle.reporting.specs.Claims.Limits.{Said, says}
@@ -17,11 +16,11 @@ use Rattle.server.specs.Claims.History.{Request, Use, request, direct, turn, use
 -- ---- a request
 
 abbrev pub served : ℕ → Request → List Entry → Outcome State
-served limit r l = serve (entry_size r.form) limit r.store (holding l) r.cluster r.unicast r.frame r.room
+served limit r l = serve 8 limit r.store (holding l) r.cluster r.unicast r.frame r.room
 
 -- under the larger limit no record of a Configure Reporting frame meets or leaves more entries than the smaller one has room for; no other request changes the table
 abbrev pub RequestWithin : ℕ → ℕ → Request → List Entry → Type 0
-RequestWithin small large r l = (h : ZclHeader) → Asks ConfigureReporting r.frame h → FrameWithin (entry_size r.form) small large r.store l h (drop h.body r.frame) r.room
+RequestWithin small large r l = (h : ZclHeader) → Asks ConfigureReporting r.frame h → FrameWithin 8 small large r.store l h (drop h.body r.frame) r.room
 
 abbrev pub ServeLimitsAgree : Type 0
 ServeLimitsAgree = (small large : ℕ) (r : Request) (l : List Entry) → small ≤ large → RequestWithin small large r l → served small r l ≡ served large r l
@@ -37,7 +36,7 @@ pub data Given : Type 0 where
 abbrev pub given : ℕ → Use → List Entry → Given
 given limit (request r) l = outcome (served limit r l)
 given limit (direct c) l = said (says limit c l)
-given limit (turn u) l = sent (frame_of u l) (given_back u l)
+given limit (turn u) l = sent (frame_of 8 u l) (given_back 8 u l)
 
 abbrev pub all_given : ℕ → List Use → List Entry → List Given
 all_given limit [] l = []

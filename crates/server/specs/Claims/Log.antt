@@ -15,7 +15,6 @@ use Rattle.reporting.specs.Claims.Log as Method
 use Rattle.server.specs.declared.serve.Served.{Served}
 use Rattle.server.specs.Serve.{state, serve}
 use Rattle.server.specs.Claims.History.{Request, request_events}
-use Rattle.store.specs.Contents.{entry_size}
 
 -- a request, with what `handle_request` gave back, the reply buffer afterwards and the store afterwards; or a call of a method of the table
 pub data Made : Type 0 where
@@ -25,7 +24,7 @@ pub data Made : Type 0 where
 -- what the contract says of it, for the table that it was called on: the `ensures` of src/serve.rt, or that of the method
 abbrev pub Contract : Made → ReportingTable → Type 0
 Contract (request q r reply store) t =
-    seen r.answer reply (state store (table_of r.table)) ≡ serve (entry_size q.form) capacity q.store (quieted_t (table_of t)) q.cluster q.unicast q.frame q.room
+    seen r.answer reply (state store (table_of r.table)) ≡ serve 8 capacity q.store (quieted_t (table_of t)) q.cluster q.unicast q.frame q.room
 Contract (method c) t = Method.Contract c t
 
 -- the table that the caller has then

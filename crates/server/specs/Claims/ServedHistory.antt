@@ -3,7 +3,6 @@
 use Rattle.std.specs.Prelude.{◌≡◌, true, false, List, [], ◌∷◌, ◌++◌, ℕ, pos, negsuc}
 use Rattle.reporting.specs.declared.entry.Key.{Key}
 use Rattle.reporting.specs.declared.entry.ReportingConfig.{ReportingConfig}
-use Rattle.store.specs.declared.form.Form.TheVariants.{First}
 use Rattle.reporting.specs.declared.entry.Entry.{Entry}
 use Rattle.reporting.specs.Table.{capacity}
 use Rattle.reporting.specs.Claims.Events.{Event, configured, cleared, asked, marked, ask, mark, configure}
@@ -14,14 +13,14 @@ use Rattle.server.specs.Claims.Demand3.{later_of}
 
 -- a request over store T
 abbrev pub over : ℕ → List ℕ → Request
-over c frame = record { store = T 0x07; form = First; cluster = c; unicast = true; frame = frame; room = 64 }
+over c frame = record { store = T 0x07; cluster = c; unicast = true; frame = frame; room = 64 }
 
 -- attribute 0, and an attribute of another cluster
 abbrev pub zeroth : Key
-zeroth = record { cluster = record { 0 = cluster }; code = record { 0 = 0 }; attribute = record { 0 = 0 } }
+zeroth = record { cluster = record { 0 = cluster }; attribute = record { 0 = 0 } }
 
 abbrev pub elsewhere : Key
-elsewhere = record { cluster = record { 0 = 0x402 }; code = record { 0 = 0 }; attribute = record { 0 = 5 } }
+elsewhere = record { cluster = record { 0 = 0x402 }; attribute = record { 0 = 5 } }
 
 abbrev pub g : ReportingConfig
 g = record { min_interval = 10; max_interval = 60; reportable_change = 50; unsigned = false }

@@ -1,25 +1,23 @@
--- Claims. How every reply starts (document 01, "Frames and values": "Every reply starts 18, sequence, reply command"; document 02, request 8: "replies to
--- coded requests carry the code (control 1c)").
-use Rattle.std.specs.Prelude.{◌≡◌, Bool, List, ℕ, take}
+-- Claims. How every reply starts (document 01, "Frames and values": "Every reply starts 18, sequence, reply command").
+use Rattle.std.specs.Prelude.{◌≡◌, Bool, List, [], ◌∷◌, ℕ, take}
 use Rattle.frame.specs.declared.header.ZclHeader.{ZclHeader}
 use Rattle.frame.specs.declared.header.HeaderRead.TheVariants.{Header}
 use Rattle.frame.specs.declared.header.FrameType.{FrameType}
 use Rattle.frame.specs.declared.header.FrameType.TheVariants.{GlobalCommand, ClusterCommand, Reserved}
 use Rattle.frame.specs.declared.command_identifier.CommandIdentifier.{CommandIdentifier}
 use Rattle.frame.specs.declared.command_identifier.CommandIdentifier.TheVariants.{ReadAttributes, ReadAttributesResponse, WriteAttributes, WriteAttributesUndivided, WriteAttributesResponse, WriteAttributesNoResponse, ConfigureReporting, ConfigureReportingResponse, ReadReportingConfiguration, ReadReportingConfigurationResponse, ReportAttributes, DefaultResponse, DiscoverAttributes, DiscoverAttributesResponse, Other}
-use Rattle.frame.specs.Header.{frame_type_of, header_of, head_size, reply_head}
-use Rattle.frame.specs.CommandIdentifier.{command_of}
+use Rattle.frame.specs.Header.{frame_type_of, header_of}
+use Rattle.frame.specs.CommandIdentifier.{command_code, command_of}
 use Rattle.frame.specs.Answer.{Outcome}
 use Rattle.reporting.specs.Table.{Table}
 use Rattle.server.specs.Serve.{serve}
 use Rattle.server.specs.UnsupportedCluster.{unsupported_cluster}
-use Rattle.report.specs.Report.{unasked, report_of}
+use Rattle.report.specs.Report.{report_of}
 use Rattle.report.specs.Turn.{Turn, turn_of}
 
--- where the number is 0, the first bytes of the reply to a request with this header: 18, its sequence, the command; or 1c, its code, its sequence, the
--- command
-abbrev pub Starts : {S : Type 0} → ZclHeader → CommandIdentifier → Outcome S → Type 0
-Starts h command o = o.number ≡ 0 → take (head_size h) (take o.size o.reply) ≡ reply_head h command
+-- where the number is 0, the first three of the reply's bytes
+abbrev pub Starts : {S : Type 0} → ℕ → CommandIdentifier → Outcome S → Type 0
+Starts sequence command o = o.number ≡ 0 → take 3 (take o.size o.reply) ≡ 0x18 ∷ sequence ∷ command_code command ∷ []
 
 -- the command that answers a global command: 00 by 01, 02 and 03 by 04, 06 by 07, 08 by 09, 0c by 0d, every other by 0b; 05 and 0b get no reply
 abbrev pub reply_to : CommandIdentifier → CommandIdentifier
@@ -50,20 +48,20 @@ abbrev pub RepliesStart : Type 0
 RepliesStart =
     (form limit : ℕ) (s : List ℕ) (t : Table) (cluster : ℕ) (unicast : Bool) (frame : List ℕ) (room : ℕ) (h : ZclHeader)
     → header_of frame ≡ Header h
-    → Starts h (answering (frame_type_of h.frame_control.0) h.command_identifier.0) (serve form limit s t cluster unicast frame room)
+    → Starts h.sequence_number (answering (frame_type_of h.frame_control.0) h.command_identifier.0) (serve form limit s t cluster unicast frame room)
 
 -- the responder's
 abbrev pub ResponsesStart : Type 0
 ResponsesStart =
     (served : List ℕ) (cluster : ℕ) (unicast : Bool) (frame : List ℕ) (room : ℕ) (h : ZclHeader)
     → header_of frame ≡ Header h
-    → Starts h DefaultResponse (unsupported_cluster served cluster unicast frame room)
+    → Starts h.sequence_number DefaultResponse (unsupported_cluster served cluster unicast frame room)
 
--- and a report, with the code and sequence number that it was given
+-- and a report, with the sequence number that it was given
 abbrev pub ReportsStart : Type 0
 ReportsStart =
-    (form : ℕ) (s : List ℕ) (code sequence : ℕ) (ids : List ℕ) (room : ℕ) → Starts (unasked code sequence) ReportAttributes (report_of form s code sequence ids room)
+    (form : ℕ) (s : List ℕ) (sequence : ℕ) (ids : List ℕ) (room : ℕ) → Starts sequence ReportAttributes (report_of form s sequence ids room)
 
 -- and a report turn
 abbrev pub TurnsStart : Type 0
-TurnsStart = (u : Turn) (bs : List ℕ) → Starts (unasked u.code u.sequence) ReportAttributes (turn_of u bs)
+TurnsStart = (form : ℕ) (u : Turn) (bs : List ℕ) → Starts u.sequence ReportAttributes (turn_of form u bs)

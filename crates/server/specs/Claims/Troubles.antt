@@ -1,7 +1,7 @@
 -- Claims. Which trouble counts (document 01, "What a call says back": "Within records the first trouble met counts") in the requests that are answered
 -- with their failures, 02, 03 and 06 (of every such command: `frame`, specs/Claims/Troubles.antt). They tell a frame whose records can all be read from
 -- the same frame with more bytes behind it.
-use Rattle.std.specs.Prelude.{◌≡◌, Bool, List, ◌++◌, ℕ, ◌<◌, drop}
+use Rattle.std.specs.Prelude.{◌≡◌, Bool, List, ◌++◌, ℕ, ◌≤◌, drop}
 use Rattle.frame.specs.declared.header.ZclHeader.{ZclHeader}
 use Rattle.frame.specs.declared.command_identifier.CommandIdentifier.{CommandIdentifier}
 use Rattle.frame.specs.declared.command_identifier.CommandIdentifier.TheVariants.{WriteAttributes, WriteAttributesUndivided, ConfigureReporting}
@@ -14,18 +14,17 @@ use Rattle.write.specs.Request.{records}
 use Rattle.configure.specs.Request.{configures}
 use Rattle.server.specs.Serve.{State, state, serve}
 use Rattle.server.specs.Claims.Asks.{Asks}
-use Rattle.frame.specs.Header.{head_size}
 
 -- ---- frames
 
 -- for every form, limit, store, table, cluster and way of sending, and every frame of this command whose records, by this reading of a body, can all be read: P of what is
 -- answered to a frame in a room, of store and table as they came, and of the frame
-abbrev pub OfEvery : {R : Type 0} → CommandIdentifier → (List ℕ → Records R) → (ℕ → (List ℕ → ℕ → Outcome State) → State → List ℕ → Type 0) → Type 0
+abbrev pub OfEvery : {R : Type 0} → CommandIdentifier → (List ℕ → Records R) → ((List ℕ → ℕ → Outcome State) → State → List ℕ → Type 0) → Type 0
 OfEvery asked reading P =
     (form limit : ℕ) (s : List ℕ) (t : Table) (cluster : ℕ) (unicast : Bool) (frame : List ℕ) (h : ZclHeader)
     → Asks asked frame h
     → (reading (drop h.body frame)).ending ≡ done
-    → P (head_size h) (serve form limit s t cluster unicast) (state s t) frame
+    → P (serve form limit s t cluster unicast) (state s t) frame
 
 -- the first record of these bytes cannot be read
 abbrev pub Unread : {R : Type 0} → (List ℕ → Records R) → List ℕ → Type 0
@@ -37,20 +36,20 @@ Unread reading b = reading b ≡ ended cut
 abbrev pub ServedCutIsFour : {R : Type 0} → CommandIdentifier → (List ℕ → Records R) → Type 0
 ServedCutIsFour asked reading =
     OfEvery asked reading
-    (λ head answer came frame.
+    (λ answer came frame.
     (b : List ℕ) (room : ℕ) → Unread reading b → (answer frame room).number ≡ 0 → answer (frame ++ b) room ≡ refused room RecordCut (answer frame room).state)
 
 -- 5, with room for the header and one byte at least: whatever follows
 abbrev pub ServedFiveStays : {R : Type 0} → CommandIdentifier → (List ℕ → Records R) → Type 0
 ServedFiveStays asked reading =
     OfEvery asked reading
-    (λ head answer came frame. (b : List ℕ) (room : ℕ) → head < room → Is5 (answer frame room) → answer (frame ++ b) room ≡ answer frame room)
+    (λ answer came frame. (b : List ℕ) (room : ℕ) → 4 ≤ room → Is5 (answer frame room) → answer (frame ++ b) room ≡ answer frame room)
 
 -- the record that did not fit is done too
 abbrev pub ServedFiveDone : {R : Type 0} → CommandIdentifier → (List ℕ → Records R) → Type 0
 ServedFiveDone {R} asked reading =
     OfEvery asked reading
-    (λ head answer came frame.
+    (λ answer came frame.
     (b : List ℕ) (r : R) (room more : ℕ)
     → reading b ≡ single r
     → Not5 (answer frame room)
@@ -61,13 +60,13 @@ ServedFiveDone {R} asked reading =
 abbrev pub ServedFiveAtHeader : {R : Type 0} → CommandIdentifier → (List ℕ → Records R) → Type 0
 ServedFiveAtHeader asked reading =
     OfEvery asked reading
-    (λ head answer came frame. (more : ℕ) → NoneFails head (answer frame more) → answer frame head ≡ refused head ReplyTooLong (answer frame more).state)
+    (λ answer came frame. (more : ℕ) → NoneFails (answer frame more) → answer frame 3 ≡ refused 3 ReplyTooLong (answer frame more).state)
 
 abbrev pub ServedCutIsFourAtHeader : {R : Type 0} → CommandIdentifier → (List ℕ → Records R) → Type 0
 ServedCutIsFourAtHeader asked reading =
     OfEvery asked reading
-    (λ head answer came frame.
-    (b : List ℕ) (more : ℕ) → Unread reading b → NoneFails head (answer frame more) → answer (frame ++ b) head ≡ refused head RecordCut (answer frame more).state)
+    (λ answer came frame.
+    (b : List ℕ) (more : ℕ) → Unread reading b → NoneFails (answer frame more) → answer (frame ++ b) 3 ≡ refused 3 RecordCut (answer frame more).state)
 
 -- ---- Write Attributes (02): what is done is the store
 
@@ -108,21 +107,21 @@ ConfigureCutIsFourAtHeader = ServedCutIsFourAtHeader ConfigureReporting configur
 -- where a record cannot be read, store and table are as they came, whatever the answer
 abbrev pub UndividedCutUntouched : Type 0
 UndividedCutUntouched =
-    OfEvery WriteAttributesUndivided records (λ head answer came frame. (b : List ℕ) (room : ℕ) → Unread records b → (answer (frame ++ b) room).state ≡ came)
+    OfEvery WriteAttributesUndivided records (λ answer came frame. (b : List ℕ) (room : ℕ) → Unread records b → (answer (frame ++ b) room).state ≡ came)
 
 -- it is 4 where the frame alone has a reply
 abbrev pub UndividedCutIsFour : Type 0
 UndividedCutIsFour =
     OfEvery WriteAttributesUndivided records
-    (λ head answer came frame. (b : List ℕ) (room : ℕ) → Unread records b → (answer frame room).number ≡ 0 → answer (frame ++ b) room ≡ refused room RecordCut came)
+    (λ answer came frame. (b : List ℕ) (room : ℕ) → Unread records b → (answer frame room).number ≡ 0 → answer (frame ++ b) room ≡ refused room RecordCut came)
 
 -- 5, with room for the header and one byte at least: a failure does not fit, whatever follows; store and table are as they came
 abbrev pub UndividedFiveStays : Type 0
 UndividedFiveStays =
     OfEvery WriteAttributesUndivided records
-    (λ head answer came frame.
+    (λ answer came frame.
     (b : List ℕ) (room : ℕ)
-    → head < room
+    → 4 ≤ room
     → Is5 (answer frame room)
     → (answer frame room ≡ refused room ReplyTooLong came) × (answer (frame ++ b) room ≡ refused room ReplyTooLong came))
 
@@ -133,4 +132,4 @@ UndividedFiveAtHeader = ServedFiveAtHeader WriteAttributesUndivided records
 abbrev pub UndividedCutIsFourAtHeader : Type 0
 UndividedCutIsFourAtHeader =
     OfEvery WriteAttributesUndivided records
-    (λ head answer came frame. (b : List ℕ) (more : ℕ) → Unread records b → NoneFails head (answer frame more) → answer (frame ++ b) head ≡ refused head RecordCut came)
+    (λ answer came frame. (b : List ℕ) (more : ℕ) → Unread records b → NoneFails (answer frame more) → answer (frame ++ b) 3 ≡ refused 3 RecordCut came)

@@ -8,13 +8,13 @@ use Rattle.report.specs.Turn.{Turn, turn_for, key_of, record_in}
 use Rattle.report.specs.Claims.Words.{Each, OneOf}
 use Rattle.report.specs.Claims.Turns.{frame_of, given_back, turned}
 use Rattle.report.specs.Claims.History.{Met, Handed}
-use Rattle.report.specs.Claims.Fairness.{count, of_cluster, found, reported, Standing, EachAlone}
+use Rattle.report.specs.Claims.Fairness.{count, of_cluster, found, reported, StoresOfBytes, Standing, EachAlone}
 use Rattle.server.specs.Claims.Bench.{T}
 use Rattle.server.specs.Claims.History.{Use, turn}
 use Rattle.server.specs.Claims.Turns.{happenings, turns_in}
 
 abbrev pub entry : ℕ → Entry
-entry id = fresh (key_of 0xfc21 0 id) (record { min_interval = 10; max_interval = 60; reportable_change = 50; unsigned = false })
+entry id = fresh (key_of 0xfc21 id) (record { min_interval = 10; max_interval = 60; reportable_change = 50; unsigned = false })
 
 -- attribute 1 is not reportable, and T has no attribute 9; the table's order does not matter
 abbrev pub entries : List Entry
@@ -24,7 +24,7 @@ abbrev pub no_id : ℕ
 no_id = 0x10000
 
 abbrev pub turn_at : ℕ → ℕ → ℕ → Turn
-turn_at last now room = turn_for 8 (T 0x07) 0 0x2e last now room
+turn_at last now room = turn_for (T 0x07) 0x2e last now room
 
 -- ---- what a turn sends behind its header, and the id that it gives back
 
@@ -33,7 +33,7 @@ pub record Shown : Type 0 where
   pub last : ℕ
 
 abbrev pub shows : Turn → List Entry → Shown
-shows u l = record { records = encode_all (record_in u.store) (frame_of u l); last = given_back u l }
+shows u l = record { records = encode_all (record_in u.store) (frame_of 8 u l); last = given_back 8 u l }
 
 abbrev pub these : List ℕ → ℕ → Shown
 these records last = record { records = records; last = last }
@@ -55,7 +55,7 @@ pub record TurnsAre : Type 0 where
   -- the first does not fit: nothing is written, though the second would fit, and the id comes back as it came
   pub full : shows (turn_at 9 100 9) entries ≡ these [] 9
   -- nine seconds after a turn that wrote all nothing is due
-  pub quiet : shows (turn_at 5 109 15) (turned (turn_at no_id 100 15) entries) ≡ these [] 5
+  pub quiet : shows (turn_at 5 109 15) (turned 8 (turn_at no_id 100 15) entries) ≡ these [] 5
 
 -- ---- two entries, room for one record, and two turns that find attribute 5 due
 
@@ -66,13 +66,14 @@ abbrev pub twice : List Use
 twice = turn (turn_at no_id 100 10) ∷ turn (turn_at 0 101 10) ∷ []
 
 abbrev pub met : List Met
-met = turns_in capacity 0xfc21 0 twice pair
+met = turns_in capacity 0xfc21 twice pair
 
 pub record FairnessMet : Type 0 where
-  pub standing : Standing 0xfc21 0 (happenings capacity twice pair)
-  pub handed : Handed met
-  pub alone : EachAlone met
-  pub enough : count (of_cluster 0xfc21 0) pair ≤ length met
-  pub due : Each (found 5) met
+  pub standing : Standing 0xfc21 (happenings capacity twice pair)
+  pub bytes : StoresOfBytes met
+  pub handed : Handed 8 met
+  pub alone : EachAlone 8 met
+  pub enough : count (of_cluster 0xfc21) pair ≤ length met
+  pub due : Each (found 8 5) met
   -- so it is in one of their frames
-  pub reports : OneOf (reported 5) met
+  pub reports : OneOf (reported 8 5) met

@@ -14,8 +14,6 @@ use Rattle.server.specs.DefaultResponse.{default_response}
 use Rattle.server.specs.Serve.{state, serve}
 use Rattle.server.specs.Lent.{lent, serve_lent}
 use Rattle.server.specs.UnsupportedCluster.{unsupported_cluster}
-use Rattle.store.specs.Contents.{entry_size}
-use Rattle.store.specs.declared.form.Form.{Form}
 
 -- src/default_response.rt
 abbrev pub DefaultResponseOnce : Type 0
@@ -28,16 +26,16 @@ DefaultResponseOnce =
 -- src/serve.rt
 abbrev pub HandleRequestLentOnce : Type 0
 HandleRequestLentOnce =
-    (store : List ℕ) (form : Form) (table : List ℕ) (cluster : ClusterId) (unicast : Bool) (request reply : List ℕ) (r q : Answer) (x y s u bs cs : List ℕ)
-    → seen r x (lent s bs) ≡ serve_lent (entry_size form) store table cluster.0 unicast request (length reply)
-    → seen q y (lent u cs) ≡ serve_lent (entry_size form) store table cluster.0 unicast request (length reply)
+    (store table : List ℕ) (cluster : ClusterId) (unicast : Bool) (request reply : List ℕ) (r q : Answer) (x y s u bs cs : List ℕ)
+    → seen r x (lent s bs) ≡ serve_lent store table cluster.0 unicast request (length reply)
+    → seen q y (lent u cs) ≡ serve_lent store table cluster.0 unicast request (length reply)
     → (r ≡ q) × ((x ≡ y) × ((s ≡ u) × (bs ≡ cs)))
 
 abbrev pub HandleRequestOnce : Type 0
 HandleRequestOnce =
-    (store : List ℕ) (form : Form) (table : ReportingTable) (cluster : ClusterId) (unicast : Bool) (request reply : List ℕ) (r q : Served) (x y s u : List ℕ)
-    → seen r.answer x (state s (table_of r.table)) ≡ serve (entry_size form) capacity store (quieted_t (table_of table)) cluster.0 unicast request (length reply)
-    → seen q.answer y (state u (table_of q.table)) ≡ serve (entry_size form) capacity store (quieted_t (table_of table)) cluster.0 unicast request (length reply)
+    (store : List ℕ) (table : ReportingTable) (cluster : ClusterId) (unicast : Bool) (request reply : List ℕ) (r q : Served) (x y s u : List ℕ)
+    → seen r.answer x (state s (table_of r.table)) ≡ serve 8 capacity store (quieted_t (table_of table)) cluster.0 unicast request (length reply)
+    → seen q.answer y (state u (table_of q.table)) ≡ serve 8 capacity store (quieted_t (table_of table)) cluster.0 unicast request (length reply)
     → (r.answer ≡ q.answer) × ((x ≡ y) × ((s ≡ u) × Alike r.table q.table))
 
 -- src/unsupported_cluster.rt

@@ -2,10 +2,9 @@
 -- values.
 use Rattle.std.specs.Prelude.{ℕ, ◌≡◌, Bool, List, take, drop}
 use Rattle.store.specs.Layout.{is_text, text_length, is_store}
-use Rattle.store.specs.Contents.{entry_size, cluster_of, count_of, attribute_at, reportable, name_of, code_of, id_of, find_of}
+use Rattle.store.specs.Contents.{cluster_of, count_of, attribute_at, reportable, name_of, find_of}
 use Rattle.store.specs.Value.{value_of, stored, telling, number_of}
 use Rattle.store.specs.Write.{check_of, wrote, write_of}
-use Rattle.store.specs.declared.form.Form.{Form}
 use Rattle.store.specs.declared.lookup.Name.{Name}
 use Rattle.store.specs.declared.lookup.Attribute.{Attribute}
 use Rattle.store.specs.declared.lookup.Found.{Found}
@@ -16,10 +15,6 @@ use Rattle.types.specs.declared.ids.TypeId.{TypeId}
 use Rattle.store.specs.declared.value.Numbered.{Numbered}
 use Rattle.store.specs.declared.write.Checked.{Checked}
 use Rattle.frame.specs.declared.status.Status.{Status}
-
--- src/form.rt
-abbrev pub EntrySizeOnce : Type 0
-EntrySizeOnce = (self : Form) (r q : ℕ) → r ≡ entry_size self → q ≡ entry_size self → r ≡ q
 
 -- src/layout.rt
 abbrev pub PartOnce : Type 0
@@ -32,17 +27,11 @@ abbrev pub TextLengthOnce : Type 0
 TextLengthOnce = (s : List ℕ) (a : Attribute) (r q : ℕ) → r ≡ text_length s a → q ≡ text_length s a → r ≡ q
 
 abbrev pub IsStoreOnce : Type 0
-IsStoreOnce = (s : List ℕ) (form : Form) (r q : Bool) → r ≡ is_store (entry_size form) s → q ≡ is_store (entry_size form) s → r ≡ q
+IsStoreOnce = (s : List ℕ) (r q : Bool) → r ≡ is_store 8 s → q ≡ is_store 8 s → r ≡ q
 
 -- src/lookup.rt
 abbrev pub NameOfOnce : Type 0
 NameOfOnce = (code : ManufacturerCode) (id : AttributeId) (r q : Name) → r.0 ≡ name_of code.0 id.0 → q.0 ≡ name_of code.0 id.0 → r ≡ q
-
-abbrev pub CodeOfOnce : Type 0
-CodeOfOnce = (a : Attribute) (r q : ManufacturerCode) → r.0 ≡ code_of a → q.0 ≡ code_of a → r ≡ q
-
-abbrev pub IdOfOnce : Type 0
-IdOfOnce = (a : Attribute) (r q : AttributeId) → r.0 ≡ id_of a → q.0 ≡ id_of a → r ≡ q
 
 abbrev pub ClusterOfOnce : Type 0
 ClusterOfOnce = (s : List ℕ) (r q : ClusterId) → r.0 ≡ cluster_of s → q.0 ≡ cluster_of s → r ≡ q
@@ -51,13 +40,13 @@ abbrev pub CountOfOnce : Type 0
 CountOfOnce = (s : List ℕ) (r q : ℕ) → r ≡ count_of s → q ≡ count_of s → r ≡ q
 
 abbrev pub AttributeAtOnce : Type 0
-AttributeAtOnce = (s : List ℕ) (form : Form) (i : ℕ) (r q : Attribute) → r ≡ attribute_at (entry_size form) s i → q ≡ attribute_at (entry_size form) s i → r ≡ q
+AttributeAtOnce = (s : List ℕ) (i : ℕ) (r q : Attribute) → r ≡ attribute_at 8 s i → q ≡ attribute_at 8 s i → r ≡ q
 
 abbrev pub IsReportableOnce : Type 0
 IsReportableOnce = (a : Attribute) (r q : Bool) → r ≡ reportable a → q ≡ reportable a → r ≡ q
 
 abbrev pub FindOnce : Type 0
-FindOnce = (s : List ℕ) (form : Form) (name : Name) (r q : Found) → r ≡ find_of (entry_size form) s name.0 → q ≡ find_of (entry_size form) s name.0 → r ≡ q
+FindOnce = (s : List ℕ) (name : Name) (r q : Found) → r ≡ find_of 8 s name.0 → q ≡ find_of 8 s name.0 → r ≡ q
 
 -- src/value.rt
 abbrev pub ValueOfOnce : Type 0
@@ -68,22 +57,22 @@ WriteValueOnce = (s : List ℕ) (a : Attribute) (value : List ℕ) (x y : List �
 
 abbrev pub NumberOfOnce : Type 0
 NumberOfOnce =
-    (s : List ℕ) (form : Form) (name : Name) (r q : Numbered)
-    → telling r ≡ telling (number_of (entry_size form) s name.0)
-    → telling q ≡ telling (number_of (entry_size form) s name.0)
+    (s : List ℕ) (name : Name) (r q : Numbered)
+    → telling r ≡ telling (number_of 8 s name.0)
+    → telling q ≡ telling (number_of 8 s name.0)
     → r ≡ q
 
 -- src/write.rt
 abbrev pub CheckWriteOnce : Type 0
 CheckWriteOnce =
-    (s : List ℕ) (form : Form) (name : Name) (type_id : TypeId) (value : List ℕ) (r q : Checked)
-    → r ≡ check_of (find_of (entry_size form) s name.0) type_id.0 value
-    → q ≡ check_of (find_of (entry_size form) s name.0) type_id.0 value
+    (s : List ℕ) (name : Name) (type_id : TypeId) (value : List ℕ) (r q : Checked)
+    → r ≡ check_of (find_of 8 s name.0) type_id.0 value
+    → q ≡ check_of (find_of 8 s name.0) type_id.0 value
     → r ≡ q
 
 abbrev pub WriteOnce : Type 0
 WriteOnce =
-    (s : List ℕ) (form : Form) (name : Name) (type_id : TypeId) (value : List ℕ) (r q : Status) (x y : List ℕ)
-    → wrote r x ≡ write_of (entry_size form) s name.0 type_id.0 value
-    → wrote q y ≡ write_of (entry_size form) s name.0 type_id.0 value
+    (s : List ℕ) (name : Name) (type_id : TypeId) (value : List ℕ) (r q : Status) (x y : List ℕ)
+    → wrote r x ≡ write_of 8 s name.0 type_id.0 value
+    → wrote q y ≡ write_of 8 s name.0 type_id.0 value
     → (r ≡ q) × (x ≡ y)

@@ -69,22 +69,3 @@ NumberAtOnce = (s : List ℕ) (at : ℕ) (type_id : TypeId) (r q : Number) → r
 
 abbrev pub ChangeAtOnce : Type 0
 ChangeAtOnce = (s : List ℕ) (at : ℕ) (type_id : TypeId) (r q : ℕ) → r ≡ change_at s at type_id.0 → q ≡ change_at s at type_id.0 → r ≡ q
-
--- src/within.rt
-abbrev pub U16InOnce : Type 0
-U16InOnce = (bytes : List ℕ) (at r q : ℕ) → r ≡ unsigned_at bytes at 2 → q ≡ unsigned_at bytes at 2 → r ≡ q
-
-abbrev pub U32InOnce : Type 0
-U32InOnce = (bytes : List ℕ) (at r q : ℕ) → r ≡ unsigned_at bytes at 4 → q ≡ unsigned_at bytes at 4 → r ≡ q
-
-abbrev pub U64InOnce : Type 0
-U64InOnce = (bytes : List ℕ) (at r q : ℕ) → r ≡ unsigned_at bytes at 8 → q ≡ unsigned_at bytes at 8 → r ≡ q
-
-abbrev pub PutU16InOnce : Type 0
-PutU16InOnce = (bytes : List ℕ) (at n : ℕ) (x y : List ℕ) → x ≡ sets bytes at (bytes_of 2 n) → y ≡ sets bytes at (bytes_of 2 n) → x ≡ y
-
-abbrev pub PutU32InOnce : Type 0
-PutU32InOnce = (bytes : List ℕ) (at n : ℕ) (x y : List ℕ) → x ≡ sets bytes at (bytes_of 4 n) → y ≡ sets bytes at (bytes_of 4 n) → x ≡ y
-
-abbrev pub PutU64InOnce : Type 0
-PutU64InOnce = (bytes : List ℕ) (at n : ℕ) (x y : List ℕ) → x ≡ sets bytes at (bytes_of 8 n) → y ≡ sets bytes at (bytes_of 8 n) → x ≡ y

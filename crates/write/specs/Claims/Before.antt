@@ -1,5 +1,5 @@
 -- Claims. What document 02, request 2 moved: the three commands as document 01 has them, and that Write and Write without response keep their results,
--- and Undivided its own where no record is too long. Names and the head of a reply are those of request 8 on both sides.
+-- and Undivided its own where no record is too long.
 use Rattle.std.specs.Prelude.{◌≡◌, ℕ, ◌≤◌, true, cond, List, length, eqb}
 use Rattle.frame.specs.declared.header.ZclHeader.{ZclHeader}
 use Rattle.frame.specs.declared.command_identifier.CommandIdentifier.TheVariants.{WriteAttributesResponse}

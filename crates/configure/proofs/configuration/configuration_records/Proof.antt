@@ -7,7 +7,6 @@ use lib.ListN.{length}
 use Rattle.frame.specs.Inside.Buffer.{Shows}
 use Rattle.frame.specs.Walk.{item}
 use Rattle.frame.proofs.Shortened.{Going, going_first, going_more, going_stop, going_cut, going_done}
-use Rattle.store.specs.Contents.{entry_size}
 use Rattle.reporting.specs.Carried.{table_in}
 use Rattle.configure.specs.Request.{asked, asked_at}
 use Rattle.configure.specs.Configuration.{encode, record_for}
@@ -18,12 +17,12 @@ use Rattle.configure.proofs.configuration.configuration_records.Statement.{state
 use Rattle.configure.proofs.configuration.configuration_records.Tie as tie
 
 abbrev invariant-loop : tie.invariant-loop
-invariant-loop store form table request body reply₀ from at₀ out₀ reply at out =
+invariant-loop store table request body reply₀ from at₀ out₀ reply at out =
     (length reply ≡ length reply₀) × ((head : List ℕ) → Shows reply₀ from head
-    → Going encode (λ fit. record_for (entry_size form) store (table_in table) request) (asked_at body) (length body) (length reply₀) head reply at out)
+    → Going encode (λ fit. record_for 8 store (table_in table) request) (asked_at body) (length body) (length reply₀) head reply at out)
 
 abbrev decreases-loop : tie.decreases-loop
-decreases-loop store form table request body reply₀ from at₀ out₀ reply at out = length body - at
+decreases-loop store table request body reply₀ from at₀ out₀ reply at out = length body - at
 
 -- what was read is what is asked there
 read_asked : (c : tie.After-direction invariant-loop decreases-loop) → item (asked c.direction.given.0.0 c.direction.given.0.1.0.0) c.direction.given.0.1.1.0 ≡ asked_at c.before.before.before.before.before.before.before.before.before.args.body.now c.before.before.before.before.loop.at
@@ -61,7 +60,7 @@ enum-told-2 : tie.Need-enum-told-2 invariant-loop decreases-loop
 enum-told-2 c = search rules
 
 same-length-2 : tie.Need-same-length-2 invariant-loop decreases-loop
-same-length-2 c = c.before.before.before.before.configuration-turn.auto.1.1.1.1.1.1.0 ∙ c.before.before.before.before.before.before.before.before.before.before.before.loop.invariant.0
+same-length-2 c = c.before.before.before.before.configuration-turn.auto.1.1.1.1.1.0 ∙ c.before.before.before.before.before.before.before.before.before.before.before.loop.invariant.0
 
 returns-2 : tie.Need-returns-2 invariant-loop decreases-loop
 returns-2 c =
@@ -74,7 +73,7 @@ loop-less c =
 
 loop-again : tie.Need-loop-preserved invariant-loop decreases-loop
 loop-again c = (
-  c.before.before.before.before.before.configuration-turn.auto.1.1.1.1.1.1.0 ∙ c.before.before.before.before.before.before.before.before.before.before.before.before.loop.invariant.0,
+  c.before.before.before.before.before.configuration-turn.auto.1.1.1.1.1.0 ∙ c.before.before.before.before.before.before.before.before.before.before.before.before.loop.invariant.0,
   λ head w. going_more _ _ _ _ _ _ _ _ _ (c.before.before.before.before.before.before.before.before.before.before.before.before.loop.invariant.1 head w) c.before.before.before.before.before.before.before.before.before.before.before.before.loop.invariant.0 (asked_ahead _) c.before.before.before.before.before.before.before.before.before.before.before.loop-test.true _ _ (read_asked c.before.before.before.before.before.before.before.before) _ _ c.before.before.before.before.before.configuration-turn.ensures _ c.before.put.given.1,
 )
 

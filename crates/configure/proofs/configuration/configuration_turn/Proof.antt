@@ -28,14 +28,14 @@ same_length : tie.Need-same-length
 same_length c = search rules
 
 returns : tie.Need-returns
-returns c = answered _ _ _ _ _ _ _ _ c.before.before.before.before.before.before.before.seek.ensures c.before.before.before.before.before.sought.given.1 _ _ _ _ c.before.before.put-failure.ensures
+returns c = answered _ _ _ _ _ _ _ c.before.before.before.before.before.before.before.seek.ensures c.before.before.before.before.before.sought.given.1 _ _ _ _ c.before.before.put-failure.ensures
 
 same-length-2 : tie.Need-same-length-2
 same-length-2 c = search rules
 
 returns-2 : tie.Need-returns-2
 returns-2 c =
-    answered _ _ _ _ _ _ _ _ c.before.before.before.before.before.before.before.before.seek.ensures c.before.before.before.before.before.before.sought2.given.1 _ _ _ _
+    answered _ _ _ _ _ _ _ c.before.before.before.before.before.before.before.before.seek.ensures c.before.before.before.before.before.before.sought2.given.1 _ _ _ _
     (c.before.before.put-found.ensures (lookup_l c.before.before.before.before.before.before.sought2.given.0.0 (table_in c.before.before.before.before.before.before.before.before.before.before.before.before.args.table.now)) c.before.before.before.before.configuration-in.ensures)
 
 pub configuration-turn-spec : {M : Type 1} → statement M

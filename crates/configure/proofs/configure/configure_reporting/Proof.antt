@@ -1,7 +1,6 @@
 -- The header, and the records behind it; the bytes are a table by the requirement. Assumes nothing.
 use borrow.Author.Rules.{rules}
 use lib.ListN.{length}
-use Rattle.store.specs.Contents.{entry_size}
 use Rattle.configure.proofs.Turns.{command_full, command_run}
 use Rattle.configure.proofs.configure.configure_reporting.Statement.{statement}
 use Rattle.configure.proofs.configure.configure_reporting.Tie as tie
@@ -27,7 +26,7 @@ returns c =
     let bs = c.before.before.before.before.before.before.before.before.before.before.before.before.before.before.args.table.now in
     let b = c.before.before.before.before.before.before.before.before.begin-reply in
     let x = c.before.before.refuse in
-    command_full (entry_size a.form) a.store.now a.request a.body.now (length a.reply.now) x.result x.new.0 bs b.result b.new.0 b.ensures c.before.before.before.before.before.before.before.before.before.before.before.before.before.before.requires c.before.before.before.before.enum_told.given.1 x.ensures
+    command_full a.store.now a.request a.body.now (length a.reply.now) x.result x.new.0 bs b.result b.new.0 b.ensures c.before.before.before.before.before.before.before.before.before.before.before.before.before.before.requires c.before.before.before.before.enum_told.given.1 x.ensures
 
 configure-records-requires : tie.Need-configure-records-requires
 configure-records-requires c κs = search rules
@@ -49,7 +48,7 @@ returns-2 c =
     let f = c.before.before.before.before.before.before.before.before.before.before.before.before.begun.given in
     let y = c.before.before.before.before.before.before.before.before.configure-records in
     let x = c.before.before.conclude in
-    command_run (entry_size a.form) a.store.now a.request a.body.now (length a.reply.now) x.result x.new.0 bs b.result b.new.0 b.ensures f.0.0 f.1 y.result y.new.1.1.0 y.new.1.1.1.1.1.0 y.ensures y.auto.1.1.1.1.1.0 x.ensures
+    command_run a.store.now a.request a.body.now (length a.reply.now) x.result x.new.0 bs b.result b.new.0 b.ensures f.0.0 f.1 y.result y.new.1.0 y.new.1.1.1.1.0 y.ensures y.auto.1.1.1.1.0 x.ensures
 
 pub configure-reporting-spec : {M : Type 1} → statement M
 configure-reporting-spec =

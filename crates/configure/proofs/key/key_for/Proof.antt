@@ -1,4 +1,4 @@
--- The cluster is the store's, the code the request's. Assumes nothing.
+-- The cluster is the store's. Assumes nothing.
 use mathlib.Core.Path.{ap}
 use Prim.Native.Nat.{ℕ}
 use borrow.Author.Rules.{rules}
@@ -9,7 +9,7 @@ cluster-of-requires : tie.Need-cluster-of-requires
 cluster-of-requires c κs = search rules
 
 returns : tie.Need-returns
-returns c = ap (λ (n : ℕ). record { cluster = record { 0 = n }; code = c.before.before.before.args.request.manufacturer_code; attribute = c.before.before.before.args.id }) c.cluster-of.ensures
+returns c = ap (λ (n : ℕ). record { cluster = record { 0 = n }; attribute = c.before.before.args.id }) c.cluster-of.ensures
 
 pub key-for-spec : {M : Type 1} → statement M
 key-for-spec = tie.close (tie.spec cluster-of-requires returns)

@@ -4,7 +4,6 @@ use mathlib.Core.Path.{◌≡◌, sym, subst, ◌∙◌}
 use Prim.Native.Nat.{◌-◌}
 use native.Mathlib.Omega.{arith}
 use lib.ListN.{length}
-use Rattle.store.specs.Contents.{entry_size}
 use Rattle.reporting.proofs.CarriageLoops.{known_size}
 use Rattle.configure.specs.declared.pass.Turn.{Turn}
 use Rattle.configure.specs.Inside.{Took, Turns}
@@ -14,27 +13,27 @@ use Rattle.configure.proofs.pass.configure_records.Statement.{statement}
 use Rattle.configure.proofs.pass.configure_records.Tie as tie
 
 abbrev invariant-loop : tie.invariant-loop
-invariant-loop store form table₀ request body reply₀ start at₀ out₀ table reply at out = Goes (entry_size form) store request body start table₀ reply₀ table reply at out
+invariant-loop store table₀ request body reply₀ start at₀ out₀ table reply at out = Goes store request body start table₀ reply₀ table reply at out
 
 abbrev decreases-loop : tie.decreases-loop
-decreases-loop store form table₀ request body reply₀ start at₀ out₀ table reply at out = length body - at
+decreases-loop store table₀ request body reply₀ start at₀ out₀ table reply at out = length body - at
 
 -- the bytes are a table in every turn, and so keep their length
 size-kept : (c : tie.At-loop invariant-loop decreases-loop) → length c.loop.table ≡ length c.before.before.before.before.before.args.table.now
 size-kept c = known_size c.loop.table c.loop.invariant.table ∙ sym (known_size c.before.before.before.before.before.args.table.now c.before.before.before.before.before.requires)
 
 -- what the loop's turn says of an answer
-did : (c : tie.After-configure-turn invariant-loop decreases-loop) (r : Turn) → c.configure-turn.result ≡ r → Turns (entry_size c.before.before.before.before.before.before.before.args.form) c.before.before.before.before.before.before.before.args.store.now c.before.before.before.before.before.before.before.args.request c.before.before.before.before.before.before.before.args.body.now c.before.before.loop.at r
-did c r e = subst (Turns (entry_size c.before.before.before.before.before.before.before.args.form) c.before.before.before.before.before.before.before.args.store.now c.before.before.before.before.before.before.before.args.request c.before.before.before.before.before.before.before.args.body.now c.before.before.loop.at) e c.configure-turn.ensures
+did : (c : tie.After-configure-turn invariant-loop decreases-loop) (r : Turn) → c.configure-turn.result ≡ r → Turns c.before.before.before.before.before.before.before.args.store.now c.before.before.before.before.before.before.before.args.request c.before.before.before.before.before.before.before.args.body.now c.before.before.loop.at r
+did c r e = subst (Turns c.before.before.before.before.before.before.before.args.store.now c.before.before.before.before.before.before.before.args.request c.before.before.before.before.before.before.before.args.body.now c.before.before.loop.at) e c.configure-turn.ensures
 
 -- the record that was read: its end, direction, id and deed
-took : (c : tie.After-turn invariant-loop decreases-loop) → Took (entry_size c.before.before.before.before.before.before.before.before.before.args.form) c.before.before.before.before.before.before.before.before.before.args.store.now c.before.before.before.before.before.before.before.before.before.args.request c.before.before.before.before.before.before.before.before.before.args.body.now c.before.before.before.before.loop.at c.turn.given.0.0 c.turn.given.0.1.0 c.turn.given.0.1.1.0.0 c.turn.given.0.1.1.1.0
+took : (c : tie.After-turn invariant-loop decreases-loop) → Took c.before.before.before.before.before.before.before.before.before.args.store.now c.before.before.before.before.before.before.before.before.before.args.request c.before.before.before.before.before.before.before.before.before.args.body.now c.before.before.before.before.loop.at c.turn.given.0.0 c.turn.given.0.1.0 c.turn.given.0.1.1.0.0 c.turn.given.0.1.1.1.0
 took c = did c.before.before _ c.turn.given.1
 
 loop-holds : tie.Need-loop-init invariant-loop decreases-loop
 loop-holds c =
     let a = c.before.before.before.before.args in
-    goes_first (entry_size a.form) a.store.now a.request a.body.now a.start a.table.now a.reply.now c.before.before.before.before.requires
+    goes_first a.store.now a.request a.body.now a.start a.table.now a.reply.now c.before.before.before.before.requires
 
 configure-turn-requires : tie.Need-configure-turn-requires invariant-loop decreases-loop
 configure-turn-requires c κs = search rules

@@ -1,6 +1,5 @@
 -- The record that was read is the one that is judged. Assumes nothing.
 use mathlib.Core.Path.{◌≡◌, sym, ap, ◌∙◌}
-use Rattle.store.specs.Contents.{entry_size}
 use Rattle.configure.specs.declared.record.Next.{Next}
 use Rattle.configure.specs.Request.{configure_at}
 use Rattle.configure.specs.Inside.{item_of}
@@ -32,13 +31,13 @@ returns : tie.Need-returns
 returns c =
     let a = c.before.before.before.before.before.before.args in
     let x = c.before.next.given.0 in
-    took_received (entry_size a.form) a.store.now a.request a.body.now a.at x.1.1.0 x.1.0.0 x.0 (is c.before.before.before _ c.before.next.given.1)
+    took_received a.store.now a.request a.body.now a.at x.1.1.0 x.1.0.0 x.0 (is c.before.before.before _ c.before.next.given.1)
 
 returns-2 : tie.Need-returns-2
 returns-2 c =
     let a = c.before.before.before.before.before.before.before.args in
     let x = c.before.before.next2.given.0 in
-    took_reported (entry_size a.form) a.store.now a.request a.body.now a.at x.1.1.1.0 x.0.0 x.1.0.0 x.1.1.0 c.judge.result (is c.before.before.before.before _ c.before.before.next2.given.1) c.judge.ensures
+    took_reported a.store.now a.request a.body.now a.at x.1.1.1.0 x.0.0 x.1.0.0 x.1.1.0 c.judge.result (is c.before.before.before.before _ c.before.before.next2.given.1) c.judge.ensures
 
 returns-3 : tie.Need-returns-3
 returns-3 c = is c.before.before _ c.enum_told.given.1

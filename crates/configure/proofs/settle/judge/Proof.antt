@@ -6,7 +6,7 @@ use borrow.Author.Tests.{not-true, not-false}
 use Rattle.frame.specs.Failures.{Did}
 use Rattle.store.specs.declared.lookup.Found.{Found}
 use Rattle.store.specs.declared.lookup.Found.TheVariants.{At}
-use Rattle.store.specs.Contents.{entry_size, name_of, find_of, reportable}
+use Rattle.store.specs.Contents.{name_of, find_of, reportable}
 use Rattle.reporting.specs.declared.entry.Key.{Key}
 use Rattle.reporting.specs.declared.entry.Entry.{Entry}
 use Rattle.reporting.specs.Table.{capacity}
@@ -18,10 +18,10 @@ use Rattle.configure.proofs.settle.judge.Statement.{statement}
 use Rattle.configure.proofs.settle.judge.Tie as tie
 
 -- the attribute of the name
-is : (c : tie.After-find) (x : Found) → c.find.result ≡ x → find_of (entry_size c.before.before.before.args.form) c.before.before.before.args.store.now (name_of c.before.before.before.args.request.manufacturer_code.0 c.before.before.before.args.id.0) ≡ x
-is c x e = sym (c.find.ensures ∙ ap (find_of (entry_size c.before.before.before.args.form) c.before.before.before.args.store.now) c.before.name_of.ensures) ∙ e
+is : (c : tie.After-find) (x : Found) → c.find.result ≡ x → find_of 8 c.before.before.before.args.store.now (name_of c.before.before.before.args.request.manufacturer_code.0 c.before.before.before.args.id.0) ≡ x
+is c x e = sym (c.find.ensures ∙ ap (find_of 8 c.before.before.before.args.store.now) c.before.name_of.ensures) ∙ e
 
-found : (c : tie.After-a) → find_of (entry_size c.before.before.before.before.before.args.form) c.before.before.before.before.before.args.store.now (name_of c.before.before.before.before.before.args.request.manufacturer_code.0 c.before.before.before.before.before.args.id.0) ≡ At c.a.given.0.0
+found : (c : tie.After-a) → find_of 8 c.before.before.before.before.before.args.store.now (name_of c.before.before.before.before.before.args.request.manufacturer_code.0 c.before.before.before.before.before.args.id.0) ≡ At c.a.given.0.0
 found c = is c.before.before (At c.a.given.0.0) c.a.given.1
 
 may : (c : tie.Else1) → reportable c.before.before.before.a.given.0.0 ≡ true

@@ -4,8 +4,8 @@ use borrow.Author.Rules.{rules}
 use Rattle.hingedrift.proofs.serving.hd_handle_request.Statement.{statement}
 use Rattle.hingedrift.proofs.serving.hd_handle_request.Tie as tie
 
-handle-requires : tie.Need-handle-requires
-handle-requires c κs = search rules
+handle-request-lent-requires : tie.Need-handle-request-lent-requires
+handle-request-lent-requires c κs = search rules
 
 reply-len-requires : tie.Need-reply-len-requires
 reply-len-requires c κs = search rules
@@ -23,13 +23,13 @@ same-length-3 : tie.Need-same-length-3
 same-length-3 c = search rules
 
 returns : tie.Need-returns
-returns c = hand c.before.before.before.before.before.before.before.before.handle.result _ _ _ _ _ c.number.ensures c.before.reply-len.ensures c.before.before.before.before.before.before.before.before.handle.ensures
+returns c = hand c.before.before.before.before.before.before.before.before.handle-request-lent.result _ _ _ _ _ c.number.ensures c.before.reply-len.ensures c.before.before.before.before.before.before.before.before.handle-request-lent.ensures
 
 pub hd-handle-request-spec : {M : Type 1} → statement M
 hd-handle-request-spec =
     tie.close
     (tie.spec
-    handle-requires
+    handle-request-lent-requires
     reply-len-requires
     number-requires
     same_length

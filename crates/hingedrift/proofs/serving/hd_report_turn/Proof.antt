@@ -1,11 +1,11 @@
 -- The answer's number and length are handed on, and the last id. Assumes nothing.
-use Rattle.hingedrift.proofs.Handed.{hand}
 use borrow.Author.Rules.{rules}
+use Rattle.hingedrift.proofs.Handed.{hand}
 use Rattle.hingedrift.proofs.serving.hd_report_turn.Statement.{statement}
 use Rattle.hingedrift.proofs.serving.hd_report_turn.Tie as tie
 
-turn-of-requires : tie.Need-turn-of-requires
-turn-of-requires c κs = search rules
+report-turn-requires : tie.Need-report-turn-requires
+report-turn-requires c κs = search rules
 
 reply-len-requires : tie.Need-reply-len-requires
 reply-len-requires c κs = search rules
@@ -21,16 +21,9 @@ same-length-2 c = search rules
 
 returns : tie.Need-returns
 returns c =
-    let a = c.before.before.before.before.before.before.turn-of in
+    let a = c.before.before.before.before.before.before.report-turn in
     hand a.result.answer _ _ _ _ _ c.number.ensures c.before.reply-len.ensures a.ensures
 
 pub hd-report-turn-spec : {M : Type 1} → statement M
 hd-report-turn-spec =
-    tie.close
-    (tie.spec
-    turn-of-requires
-    reply-len-requires
-    number-requires
-    same_length
-    same-length-2
-    returns)
+    tie.close (tie.spec report-turn-requires reply-len-requires number-requires same_length same-length-2 returns)

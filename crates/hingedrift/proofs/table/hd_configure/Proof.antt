@@ -25,7 +25,7 @@ same_length : tie.Need-same-length
 same_length c = search rules
 
 returns : tie.Need-returns
-returns c = configure_no_table c.before.before.before.before.before.args.table.now (key_as c.before.before.before.before.before.args.cluster c.before.before.before.before.before.args.code c.before.before.before.before.before.args.attribute) (config_of c.before.before.before.before.before.args.minimum c.before.before.before.before.before.args.maximum c.before.before.before.before.before.args.change c.before.before.before.before.before.args.mark) c.before.before.before.before.before.args.mark _ (sym c.before.before.is-table.ensures ∙ not-true _ c.before.if1.true) c.number.ensures
+returns c = configure_no_table c.before.before.before.before.before.args.table.now (key_as c.before.before.before.before.before.args.cluster c.before.before.before.before.before.args.attribute) (config_of c.before.before.before.before.before.args.minimum c.before.before.before.before.before.args.maximum c.before.before.before.before.before.args.change c.before.before.before.before.before.args.mark) c.before.before.before.before.before.args.mark _ (sym c.before.before.is-table.ensures ∙ not-true _ c.before.if1.true) c.number.ensures
 
 number-requires-2 : tie.Need-number-requires-2
 number-requires-2 c κs = search rules
@@ -34,7 +34,7 @@ same-length-2 : tie.Need-same-length-2
 same-length-2 c = search rules
 
 returns-2 : tie.Need-returns-2
-returns-2 c = configure_no_mark c.before.before.before.before.before.before.args.table.now (key_as c.before.before.before.before.before.before.args.cluster c.before.before.before.before.before.before.args.code c.before.before.before.before.before.before.args.attribute) (config_of c.before.before.before.before.before.before.args.minimum c.before.before.before.before.before.before.args.maximum c.before.before.before.before.before.before.args.change c.before.before.before.before.before.before.args.mark) c.before.before.before.before.before.before.args.mark _ (known c.before.before) c.before.if2.true c.number2.ensures
+returns-2 c = configure_no_mark c.before.before.before.before.before.before.args.table.now (key_as c.before.before.before.before.before.before.args.cluster c.before.before.before.before.before.before.args.attribute) (config_of c.before.before.before.before.before.before.args.minimum c.before.before.before.before.before.before.args.maximum c.before.before.before.before.before.before.args.change c.before.before.before.before.before.before.args.mark) c.before.before.before.before.before.before.args.mark _ (known c.before.before) c.before.if2.true c.number2.ensures
 
 key-of-requires : tie.Need-key-of-requires
 key-of-requires c κs = search rules
@@ -62,7 +62,7 @@ abbrev Told : tie.After-slice-known2 → Change → Type 0
 Told c a =
     let s = c.before.before.before.before.before.before.before.before.before.before.args in
     left (change_told a).number c.before.before.configure-in.new.0 (bit (change_told a).accepted)
-    ≡ configure_left s.table.now (key_as s.cluster s.code s.attribute) (config_of s.minimum s.maximum s.change s.mark) s.mark
+    ≡ configure_left s.table.now (key_as s.cluster s.attribute) (config_of s.minimum s.maximum s.change s.mark) s.mark
 
 so : (c : tie.After-slice-known2) {a : Change} → c.before.before.configure-in.result ≡ a → Told c a
 so c e =

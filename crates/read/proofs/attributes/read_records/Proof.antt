@@ -7,7 +7,6 @@ use lib.ListN.{length}
 use Rattle.frame.specs.Inside.Buffer.{Shows}
 use Rattle.frame.specs.Walk.{item}
 use Rattle.frame.proofs.Shortened.{Going, going_first, going_more, going_stop, going_cut, going_done}
-use Rattle.store.specs.Contents.{entry_size}
 use Rattle.read.specs.Read.{id_at, encode, record_for}
 use Rattle.read.specs.Inside.{item_of}
 use Rattle.read.proofs.Ids.{id_ahead}
@@ -16,11 +15,11 @@ use Rattle.read.proofs.attributes.read_records.Statement.{statement}
 use Rattle.read.proofs.attributes.read_records.Tie as tie
 
 abbrev invariant-loop : tie.invariant-loop
-invariant-loop store form request body reply₀ from at₀ out₀ reply at out =
-    (length reply ≡ length reply₀) × ((head : List ℕ) → Shows reply₀ from head → Going encode (record_for (entry_size form) store request) (id_at body) (length body) (length reply₀) head reply at out)
+invariant-loop store request body reply₀ from at₀ out₀ reply at out =
+    (length reply ≡ length reply₀) × ((head : List ℕ) → Shows reply₀ from head → Going encode (record_for 8 store request) (id_at body) (length body) (length reply₀) head reply at out)
 
 abbrev decreases-loop : tie.decreases-loop
-decreases-loop store form request body reply₀ from at₀ out₀ reply at out = length body - at
+decreases-loop store request body reply₀ from at₀ out₀ reply at out = length body - at
 
 -- the id that was read is the one that stands there
 read-id : (c : tie.After-id invariant-loop decreases-loop) → item c.id.given.0.0.0 c.id.given.0.1.0 ≡ id_at c.before.before.before.before.before.before.before.before.args.body.now c.before.before.before.before.loop.at
@@ -59,7 +58,7 @@ enum-told-2 : tie.Need-enum-told-2 invariant-loop decreases-loop
 enum-told-2 c = search rules
 
 same-length-2 : tie.Need-same-length-2 invariant-loop decreases-loop
-same-length-2 c = c.before.before.before.before.read-turn.auto.1.1.1.1.0 ∙ c.before.before.before.before.before.before.before.before.before.before.before.loop.invariant.0
+same-length-2 c = c.before.before.before.before.read-turn.auto.1.1.1.0 ∙ c.before.before.before.before.before.before.before.before.before.before.before.loop.invariant.0
 
 returns-2 : tie.Need-returns-2 invariant-loop decreases-loop
 returns-2 c =
@@ -72,7 +71,7 @@ loop-less c =
 
 loop-again : tie.Need-loop-preserved invariant-loop decreases-loop
 loop-again c =
-    (c.before.before.before.before.before.read-turn.auto.1.1.1.1.0 ∙ c.before.before.before.before.before.before.before.before.before.before.before.before.loop.invariant.0, λ head w. going_more _ _ _ _ _ _ _ _ _ (c.before.before.before.before.before.before.before.before.before.before.before.before.loop.invariant.1 head w) c.before.before.before.before.before.before.before.before.before.before.before.before.loop.invariant.0 (id_ahead _) c.before.before.before.before.before.before.before.before.before.before.before.loop-test.true _ _ (read-id c.before.before.before.before.before.before.before.before) _ _ c.before.before.before.before.before.read-turn.ensures _ c.before.o.given.1)
+    (c.before.before.before.before.before.read-turn.auto.1.1.1.0 ∙ c.before.before.before.before.before.before.before.before.before.before.before.before.loop.invariant.0, λ head w. going_more _ _ _ _ _ _ _ _ _ (c.before.before.before.before.before.before.before.before.before.before.before.before.loop.invariant.1 head w) c.before.before.before.before.before.before.before.before.before.before.before.before.loop.invariant.0 (id_ahead _) c.before.before.before.before.before.before.before.before.before.before.before.loop-test.true _ _ (read-id c.before.before.before.before.before.before.before.before) _ _ c.before.before.before.before.before.read-turn.ensures _ c.before.o.given.1)
 
 same-length-3 : tie.Need-same-length-3 invariant-loop decreases-loop
 same-length-3 c = c.before.loop.invariant.0

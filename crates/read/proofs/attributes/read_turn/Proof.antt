@@ -4,7 +4,7 @@ use mathlib.Core.List.{List}
 use Prim.Native.Nat.{ℕ}
 use Rattle.frame.specs.Inside.Buffer.{putting, put}
 use Rattle.frame.proofs.Shortened.{turned_put, turned_tried, turned_else}
-use Rattle.store.specs.Contents.{entry_size, name_of, find_of}
+use Rattle.store.specs.Contents.{name_of, find_of}
 use Rattle.store.specs.Value.{value_of}
 use Rattle.read.specs.Read.{value, encode}
 use Rattle.read.proofs.Turns.{made_nothing, made_value}
@@ -13,8 +13,8 @@ use Rattle.read.proofs.attributes.read_turn.Statement.{statement}
 use Rattle.read.proofs.attributes.read_turn.Tie as tie
 
 -- what the scan gave is what the definition finds
-found : (c : tie.After-find) → find_of (entry_size c.before.before.before.before.args.form) c.before.before.before.before.args.store.now (name_of c.before.before.before.before.args.request.manufacturer_code.0 c.before.before.before.before.args.id.0) ≡ c.find.result
-found c = ap (find_of (entry_size c.before.before.before.before.args.form) c.before.before.before.before.args.store.now) (sym c.before.name_of.ensures) ∙ sym c.find.ensures
+found : (c : tie.After-find) → find_of 8 c.before.before.before.before.args.store.now (name_of c.before.before.before.before.args.request.manufacturer_code.0 c.before.before.before.before.args.id.0) ≡ c.find.result
+found c = ap (find_of 8 c.before.before.before.before.args.store.now) (sym c.before.name_of.ensures) ∙ sym c.find.ensures
 
 -- what was put is the attribute's value
 valued : (c : tie.After-put-value) → putting c.put-value.result c.put-value.new.0
@@ -43,7 +43,7 @@ same_length c = search rules
 
 returns : tie.Need-returns
 returns c =
-    turned_put _ _ _ _ _ _ (made_nothing _ _ _ _ (found c.before.before.before.before.before.before ∙ c.before.before.before.before.enum_told.given.1)) _ _ c.before.before.put-failure.ensures
+    turned_put _ _ _ _ _ _ (made_nothing _ _ _ (found c.before.before.before.before.before.before ∙ c.before.before.before.before.enum_told.given.1)) _ _ c.before.before.put-failure.ensures
 
 value-of-requires : tie.Need-value-of-requires
 value-of-requires c κs = search rules
@@ -65,7 +65,7 @@ same-length-2 c = search rules
 
 returns-2 : tie.Need-returns-2
 returns-2 c =
-    turned_else _ _ _ _ _ _ _ (made_value _ _ _ _ _ (found c.before.before.before.before.before.before.before.before.before.before.before.before.before.before.before ∙ c.before.before.before.before.before.before.before.before.before.before.before.before.before.a.given.1)) _ _ (valued c.before.before.before.before.before.before.before.before) c.before.before.before.before.enum-told2.given.1
+    turned_else _ _ _ _ _ _ _ (made_value _ _ _ _ (found c.before.before.before.before.before.before.before.before.before.before.before.before.before.before.before ∙ c.before.before.before.before.before.before.before.before.before.before.before.before.before.a.given.1)) _ _ (valued c.before.before.before.before.before.before.before.before) c.before.before.before.before.enum-told2.given.1
     _ _ c.before.before.put-failure2.ensures
 
 same-length-3 : tie.Need-same-length-3
@@ -73,7 +73,7 @@ same-length-3 c = search rules
 
 returns-3 : tie.Need-returns-3
 returns-3 c =
-    turned_tried _ _ _ _ _ _ _ (made_value _ _ _ _ _ (found c.before.before.before.before.before.before.before.before.before.before.before.before ∙ c.before.before.before.before.before.before.before.before.before.before.a.given.1)) _ _ (valued c.before.before.before.before.before) _ c.before.put.given.1
+    turned_tried _ _ _ _ _ _ _ (made_value _ _ _ _ (found c.before.before.before.before.before.before.before.before.before.before.before.before ∙ c.before.before.before.before.before.before.before.before.before.before.a.given.1)) _ _ (valued c.before.before.before.before.before) _ c.before.put.given.1
 
 pub read-turn-spec : {M : Type 1} → statement M
 read-turn-spec =

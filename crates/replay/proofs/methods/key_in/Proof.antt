@@ -13,7 +13,7 @@ u16-at-requires-2 c κs = search rules
 returns : tie.Need-returns
 unfolding key_in
 returns c =
-    λ i. record { cluster = record { 0 = c.before.u16-at.ensures i }; code = record { 0 = 0 }; attribute = record { 0 = c.u16-at2.ensures i } }
+    λ i. record { cluster = record { 0 = c.before.u16-at.ensures i }; attribute = record { 0 = c.u16-at2.ensures i } }
 
 pub key-in-spec : {M : Type 1} → statement M
 key-in-spec = tie.close (tie.spec u16-at-requires u16-at-requires-2 returns)

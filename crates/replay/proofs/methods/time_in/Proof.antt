@@ -1,7 +1,7 @@
 -- Two halves of two bytes are a number of four. Assumes nothing.
 use mathlib.Core.Path.{◌∙◌}
 use Prim.Native.Nat.{◌+◌, ◌*◌}
-use Rattle.types.proofs.Halves.{unsigned_join}
+use Rattle.reporting.proofs.Carriage.{unsigned_join}
 use borrow.Author.Rules.{rules}
 use Rattle.replay.proofs.methods.time_in.Statement.{statement}
 use Rattle.replay.proofs.methods.time_in.Tie as tie

@@ -3,8 +3,6 @@ use mathlib.Core.Path.{ap, ◌∙◌}
 use mathlib.Core.List.{List}
 use Prim.Native.Nat.{ℕ}
 use lib.ListN.{drop}
-use Rattle.store.specs.declared.form.Form.TheVariants.{First}
-use Rattle.store.specs.Contents.{entry_size}
 use Rattle.store.specs.Value.{telling, number_of}
 use Rattle.replay.proofs.Says.{number_short, number-says}
 use borrow.Author.Rules.{rules}
@@ -32,8 +30,8 @@ returns-2 c =
     c.numbered.ensures
     ∙ number-says c.before.before.before.before.before.before.before.args.input.now c.before.before.before.before.before.before.before.args.held.now _ c.before.before.before.before.if1.false
     (c.before.number-of.ensures
-    ∙ ap (λ (s : List ℕ). telling (number_of (entry_size First) s c.before.before.name-at-start.result.0)) c.before.before.before.rest.ensures
-    ∙ ap (λ (k : ℕ). telling (number_of (entry_size First) (drop 2 c.before.before.before.before.before.before.before.args.input.now) k)) c.before.before.name-at-start.ensures)
+    ∙ ap (λ (s : List ℕ). telling (number_of 8 s c.before.before.name-at-start.result.0)) c.before.before.before.rest.ensures
+    ∙ ap (λ (k : ℕ). telling (number_of 8 (drop 2 c.before.before.before.before.before.before.before.args.input.now) k)) c.before.before.name-at-start.ensures)
 
 pub of-number-spec : {M : Type 1} → statement M
 of-number-spec =

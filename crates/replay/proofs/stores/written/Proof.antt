@@ -2,8 +2,6 @@
 use mathlib.Core.Path.{◌≡◌, sym, ap, ◌∙◌}
 use mathlib.Core.List.{List}
 use Prim.Native.Nat.{ℕ}
-use Rattle.store.specs.declared.form.Form.TheVariants.{First}
-use Rattle.store.specs.Contents.{entry_size}
 use Rattle.store.specs.Write.{wrote, write_of}
 use Rattle.replay.specs.Bytes.{same}
 use Rattle.replay.specs.declared.cases.Agreement.TheVariants.{Is}
@@ -13,10 +11,10 @@ use Rattle.replay.proofs.stores.written.Statement.{statement}
 use Rattle.replay.proofs.stores.written.Tie as tie
 
 -- what was written is the store that was lent
-done : (c : tie.After-write) → wrote c.write.result c.write.new.0 ≡ write_of (entry_size First) c.before.before.before.before.before.before.before.before.before.before.args.store.now c.before.before.before.before.before.before.before.before.before.before.args.name.0 c.before.before.before.before.before.before.before.before.before.before.args.type-id.0 c.before.before.before.before.before.before.before.before.before.before.args.value.now
+done : (c : tie.After-write) → wrote c.write.result c.write.new.0 ≡ write_of 8 c.before.before.before.before.before.before.before.before.before.before.args.store.now c.before.before.before.before.before.before.before.before.before.before.args.name.0 c.before.before.before.before.before.before.before.before.before.before.args.type-id.0 c.before.before.before.before.before.before.before.before.before.before.args.value.now
 done c =
     c.write.ensures
-    ∙ ap (λ (s : List ℕ). write_of (entry_size First) s c.before.before.before.before.before.before.before.before.before.before.args.name.0 c.before.before.before.before.before.before.before.before.before.before.args.type-id.0 c.before.before.before.before.before.before.before.before.before.before.args.value.now) (filled c.before.before.before.before.before.before.before.before.before.before.args.copy.now c.before.before.before.before.before.before.before.before.before.before.args.store.now _ _ c.before.before.before.before.before.before.before.before.before.before.requires c.before.before.before.before.put-run.ensures)
+    ∙ ap (λ (s : List ℕ). write_of 8 s c.before.before.before.before.before.before.before.before.before.before.args.name.0 c.before.before.before.before.before.before.before.before.before.before.args.type-id.0 c.before.before.before.before.before.before.before.before.before.before.args.value.now) (filled c.before.before.before.before.before.before.before.before.before.before.args.copy.now c.before.before.before.before.before.before.before.before.before.before.args.store.now _ _ c.before.before.before.before.before.before.before.before.before.before.requires c.before.before.before.before.put-run.ensures)
 
 put-run-requires : tie.Need-put-run-requires
 put-run-requires c κs = search rules

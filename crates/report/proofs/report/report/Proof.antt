@@ -16,7 +16,7 @@ same_length : tie.Need-same-length
 same_length c = search rules
 
 returns : tie.Need-returns
-returns c = c.before.before.refuse.ensures ∙ report_of_none _ _ _ _ _ _ (sym c.before.before.before.before.before.is-store.ensures ∙ not-true _ c.before.before.before.before.if1.true)
+returns c = c.before.before.refuse.ensures ∙ report_of_none _ _ _ _ (sym c.before.before.before.before.before.is-store.ensures ∙ not-true _ c.before.before.before.before.if1.true)
 
 clear-requires : tie.Need-clear-requires
 clear-requires c κs = search rules
@@ -37,7 +37,7 @@ same-length-2 : tie.Need-same-length-2
 same-length-2 c = search rules
 
 returns-2 : tie.Need-returns-2
-returns-2 c = report_headless _ _ _ _ _ _ (sym c.before.before.before.before.before.before.before.before.before.before.before.before.is-store.ensures ∙ not-false _ c.before.before.before.before.before.before.before.before.before.before.before.if1.false) _ c.before.before.before.before.before.before.before.before.before.clear.ensures _ c.before.before.before.before.before.before.unasked.ensures _ _ c.before.before.before.before.write-response-header.ensures c.enum_told.given.1
+returns-2 c = report_headless _ _ _ _ (sym c.before.before.before.before.before.before.before.before.before.before.before.before.is-store.ensures ∙ not-false _ c.before.before.before.before.before.before.before.before.before.before.before.if1.false) _ c.before.before.before.before.before.before.before.before.before.clear.ensures _ c.before.before.before.before.before.before.unasked.ensures _ _ c.before.before.before.before.write-response-header.ensures c.enum_told.given.1
 
 refuse-requires-2 : tie.Need-refuse-requires-2
 refuse-requires-2 c κs = search rules
@@ -47,7 +47,7 @@ same-length-3 c = search rules
 
 returns-3 : tie.Need-returns-3
 returns-3 c =
-    report_empty _ _ _ _ _ _ (sym c.before.before.before.before.before.before.before.before.before.before.before.before.before.before.before.before.before.before.is-store.ensures ∙ not-false _ c.before.before.before.before.before.before.before.before.before.before.before.before.before.before.before.before.before.if1.false) _ c.before.before.before.before.before.before.before.before.before.before.before.before.before.before.before.clear.ensures _ c.before.before.before.before.before.before.before.before.before.before.before.before.unasked.ensures _ _ c.before.before.before.before.before.before.before.before.before.before.write-response-header.ensures _ c.before.before.before.before.before.before.put.given.1
+    report_empty _ _ _ _ (sym c.before.before.before.before.before.before.before.before.before.before.before.before.before.before.before.before.before.before.is-store.ensures ∙ not-false _ c.before.before.before.before.before.before.before.before.before.before.before.before.before.before.before.before.before.if1.false) _ c.before.before.before.before.before.before.before.before.before.before.before.before.before.before.before.clear.ensures _ c.before.before.before.before.before.before.before.before.before.before.before.before.unasked.ensures _ _ c.before.before.before.before.before.before.before.before.before.before.write-response-header.ensures _ c.before.before.before.before.before.before.put.given.1
     c.before.before.before.before.if2.true c.before.before.refuse2.result _ c.before.before.refuse2.ensures
 
 report-records-requires : tie.Need-report-records-requires
@@ -58,7 +58,7 @@ same-length-4 c = search rules
 
 returns-4 : tie.Need-returns-4
 returns-4 c =
-    report_all _ _ _ _ _ _ (sym c.before.before.before.before.before.before.before.before.before.before.before.before.before.before.before.before.before.before.is-store.ensures ∙ not-false _ c.before.before.before.before.before.before.before.before.before.before.before.before.before.before.before.before.before.if1.false) _ c.before.before.before.before.before.before.before.before.before.before.before.before.before.before.before.clear.ensures _ c.before.before.before.before.before.before.before.before.before.before.before.before.unasked.ensures _ _ c.before.before.before.before.before.before.before.before.before.before.write-response-header.ensures _ c.before.before.before.before.before.before.put.given.1
+    report_all _ _ _ _ (sym c.before.before.before.before.before.before.before.before.before.before.before.before.before.before.before.before.before.before.is-store.ensures ∙ not-false _ c.before.before.before.before.before.before.before.before.before.before.before.before.before.before.before.before.before.if1.false) _ c.before.before.before.before.before.before.before.before.before.before.before.before.before.before.before.clear.ensures _ c.before.before.before.before.before.before.before.before.before.before.before.before.unasked.ensures _ _ c.before.before.before.before.before.before.before.before.before.before.write-response-header.ensures _ c.before.before.before.before.before.before.put.given.1
     c.before.before.before.before.if2.false c.before.before.report-records.result _ c.before.before.report-records.ensures
 
 pub report-spec : {M : Type 1} → statement M

@@ -3,7 +3,6 @@ use mathlib.Core.Path.{◌≡◌, sym, ◌∙◌}
 use mathlib.Core.Bool.{true}
 use lib.ListN.{length}
 use borrow.Author.Tests.{not-true, not-false}
-use Rattle.store.specs.Contents.{entry_size}
 use Rattle.store.specs.Layout.{is_store}
 use Rattle.reporting.specs.Table.{capacity}
 use Rattle.reporting.specs.Carried.{is_table, table_in, table_bytes}
@@ -14,7 +13,7 @@ use Rattle.report.proofs.turn.report_turn.Statement.{statement}
 use Rattle.report.proofs.turn.report_turn.Tie as tie
 
 -- what the two checks tell
-store_is : (c : tie.Else1) → is_store (entry_size c.before.before.before.before.before.args.form) c.before.before.before.before.before.args.store.now ≡ true
+store_is : (c : tie.Else1) → is_store 8 c.before.before.before.before.before.args.store.now ≡ true
 store_is c = sym c.before.is-store.ensures ∙ not-false _ c.if1.false
 
 table_is : (c : tie.Else2) → is_table capacity c.before.before.before.before.before.before.before.before.args.table.now ≡ true
@@ -33,7 +32,7 @@ same_length : tie.Need-same-length
 same_length c = search rules
 
 returns : tie.Need-returns
-returns c = turn_no_store (entry_size c.before.before.before.before.before.before.before.before.before.args.form) c.before.before.before.before.before.before.before.before.before.args.store.now c.before.before.before.before.before.before.before.before.before.args.code.0 c.before.before.before.before.before.before.before.before.before.args.sequence c.before.before.before.before.before.before.before.before.before.args.last c.before.before.before.before.before.before.before.before.before.args.time (length c.before.before.before.before.before.before.before.before.before.args.frame.now) c.before.before.before.before.before.before.before.before.before.args.table.now (sym c.before.before.before.before.before.is-store.ensures ∙ not-true _ c.before.before.before.before.if1.true) c.before.before.refuse.result c.before.before.refuse.new.0 c.before.before.refuse.ensures
+returns c = turn_no_store c.before.before.before.before.before.before.before.before.before.args.store.now c.before.before.before.before.before.before.before.before.before.args.sequence c.before.before.before.before.before.before.before.before.before.args.last c.before.before.before.before.before.before.before.before.before.args.time (length c.before.before.before.before.before.before.before.before.before.args.frame.now) c.before.before.before.before.before.before.before.before.before.args.table.now (sym c.before.before.before.before.before.is-store.ensures ∙ not-true _ c.before.before.before.before.if1.true) c.before.before.refuse.result c.before.before.refuse.new.0 c.before.before.refuse.ensures
 
 is-table-requires : tie.Need-is-table-requires
 is-table-requires c κs = search rules
@@ -48,7 +47,7 @@ same-length-3 : tie.Need-same-length-3
 same-length-3 c = search rules
 
 returns-2 : tie.Need-returns-2
-returns-2 c = turn_no_table (entry_size c.before.before.before.before.before.before.before.before.before.before.before.before.args.form) c.before.before.before.before.before.before.before.before.before.before.before.before.args.store.now c.before.before.before.before.before.before.before.before.before.before.before.before.args.code.0 c.before.before.before.before.before.before.before.before.before.before.before.before.args.sequence c.before.before.before.before.before.before.before.before.before.before.before.before.args.last c.before.before.before.before.before.before.before.before.before.before.before.before.args.time (length c.before.before.before.before.before.before.before.before.before.before.before.before.args.frame.now) c.before.before.before.before.before.before.before.before.before.before.before.before.args.table.now (store_is c.before.before.before.before.before.before.before) (sym c.before.before.before.before.before.is-table.ensures ∙ not-true _ c.before.before.before.before.if2.true) c.before.before.refuse2.result c.before.before.refuse2.new.0 c.before.before.refuse2.ensures
+returns-2 c = turn_no_table c.before.before.before.before.before.before.before.before.before.before.before.before.args.store.now c.before.before.before.before.before.before.before.before.before.before.before.before.args.sequence c.before.before.before.before.before.before.before.before.before.before.before.before.args.last c.before.before.before.before.before.before.before.before.before.before.before.before.args.time (length c.before.before.before.before.before.before.before.before.before.before.before.before.args.frame.now) c.before.before.before.before.before.before.before.before.before.before.before.before.args.table.now (store_is c.before.before.before.before.before.before.before) (sym c.before.before.before.before.before.is-table.ensures ∙ not-true _ c.before.before.before.before.if2.true) c.before.before.refuse2.result c.before.before.refuse2.new.0 c.before.before.refuse2.ensures
 
 clear-requires : tie.Need-clear-requires
 clear-requires c κs = search rules
@@ -73,7 +72,7 @@ same-length-5 c = search rules
 
 returns-3 : tie.Need-returns-3
 returns-3 c =
-    turn_headless (entry_size c.before.before.before.before.before.before.before.before.before.before.before.before.before.before.before.before.before.before.before.args.form) c.before.before.before.before.before.before.before.before.before.before.before.before.before.before.before.before.before.before.before.args.store.now c.before.before.before.before.before.before.before.before.before.before.before.before.before.before.before.before.before.before.before.args.code.0 c.before.before.before.before.before.before.before.before.before.before.before.before.before.before.before.before.before.before.before.args.sequence c.before.before.before.before.before.before.before.before.before.before.before.before.before.before.before.before.before.before.before.args.last c.before.before.before.before.before.before.before.before.before.before.before.before.before.before.before.before.before.before.before.args.time (length c.before.before.before.before.before.before.before.before.before.before.before.before.before.before.before.before.before.before.before.args.frame.now) c.before.before.before.before.before.before.before.before.before.before.before.before.before.before.before.before.before.before.before.args.table.now (store_is c.before.before.before.before.before.before.before.before.before.before.before.before.before.before) (table_is c.before.before.before.before.before.before.before.before.before.before.before) (own c.before.before.before.before.before.before.before.before.before.before.before)
+    turn_headless c.before.before.before.before.before.before.before.before.before.before.before.before.before.before.before.before.before.before.before.args.store.now c.before.before.before.before.before.before.before.before.before.before.before.before.before.before.before.before.before.before.before.args.sequence c.before.before.before.before.before.before.before.before.before.before.before.before.before.before.before.before.before.before.before.args.last c.before.before.before.before.before.before.before.before.before.before.before.before.before.before.before.before.before.before.before.args.time (length c.before.before.before.before.before.before.before.before.before.before.before.before.before.before.before.before.before.before.before.args.frame.now) c.before.before.before.before.before.before.before.before.before.before.before.before.before.before.before.before.before.before.before.args.table.now (store_is c.before.before.before.before.before.before.before.before.before.before.before.before.before.before) (table_is c.before.before.before.before.before.before.before.before.before.before.before) (own c.before.before.before.before.before.before.before.before.before.before.before)
     c.before.before.before.before.before.before.before.before.before.clear.new.0 c.before.before.before.before.before.before.before.before.before.clear.ensures c.before.before.before.before.before.before.unasked.result c.before.before.before.before.before.before.unasked.ensures c.before.before.before.before.write-response-header.result c.before.before.before.before.write-response-header.new.0 c.before.before.before.before.write-response-header.ensures c.enum_told.given.1
 
 sweep-requires : tie.Need-sweep-requires
@@ -89,14 +88,14 @@ same-length-6 : tie.Need-same-length-6
 same-length-6 c = search rules
 
 same-length-7 : tie.Need-same-length-7
-same-length-7 c = c.before.before.finish.auto.0 ∙ c.before.before.before.before.before.before.before.before.sweep2.auto.1.1.1.1.1.1.1.0 ∙ c.before.before.before.before.before.before.before.before.before.before.before.before.before.before.before.sweep.auto.1.1.1.1.1.1.1.0 ∙ c.before.before.before.before.before.before.before.before.before.before.before.before.before.before.before.before.before.before.before.before.before.before.before.write-response-header.auto.0 ∙ c.before.before.before.before.before.before.before.before.before.before.before.before.before.before.before.before.before.before.before.before.before.before.before.before.before.before.before.before.clear.auto.0
+same-length-7 c = c.before.before.finish.auto.0 ∙ c.before.before.before.before.before.before.before.before.sweep2.auto.1.1.1.1.1.0 ∙ c.before.before.before.before.before.before.before.before.before.before.before.before.before.before.before.sweep.auto.1.1.1.1.1.0 ∙ c.before.before.before.before.before.before.before.before.before.before.before.before.before.before.before.before.before.before.before.before.before.before.before.write-response-header.auto.0 ∙ c.before.before.before.before.before.before.before.before.before.before.before.before.before.before.before.before.before.before.before.before.before.before.before.before.before.before.before.before.clear.auto.0
 
 returns-4 : tie.Need-returns-4
 returns-4 c =
-    turn_done (entry_size c.before.before.before.before.before.before.before.before.before.before.before.before.before.before.before.before.before.before.before.before.before.before.before.before.before.before.before.before.before.before.before.before.before.before.before.before.before.before.args.form) c.before.before.before.before.before.before.before.before.before.before.before.before.before.before.before.before.before.before.before.before.before.before.before.before.before.before.before.before.before.before.before.before.before.before.before.before.before.before.args.store.now c.before.before.before.before.before.before.before.before.before.before.before.before.before.before.before.before.before.before.before.before.before.before.before.before.before.before.before.before.before.before.before.before.before.before.before.before.before.before.args.code.0 c.before.before.before.before.before.before.before.before.before.before.before.before.before.before.before.before.before.before.before.before.before.before.before.before.before.before.before.before.before.before.before.before.before.before.before.before.before.before.args.sequence c.before.before.before.before.before.before.before.before.before.before.before.before.before.before.before.before.before.before.before.before.before.before.before.before.before.before.before.before.before.before.before.before.before.before.before.before.before.before.args.last c.before.before.before.before.before.before.before.before.before.before.before.before.before.before.before.before.before.before.before.before.before.before.before.before.before.before.before.before.before.before.before.before.before.before.before.before.before.before.args.time (length c.before.before.before.before.before.before.before.before.before.before.before.before.before.before.before.before.before.before.before.before.before.before.before.before.before.before.before.before.before.before.before.before.before.before.before.before.before.before.args.frame.now) c.before.before.before.before.before.before.before.before.before.before.before.before.before.before.before.before.before.before.before.before.before.before.before.before.before.before.before.before.before.before.before.before.before.before.before.before.before.before.args.table.now (store_is c.before.before.before.before.before.before.before.before.before.before.before.before.before.before.before.before.before.before.before.before.before.before.before.before.before.before.before.before.before.before.before.before.before) (table_is c.before.before.before.before.before.before.before.before.before.before.before.before.before.before.before.before.before.before.before.before.before.before.before.before.before.before.before.before.before.before) (own c.before.before.before.before.before.before.before.before.before.before.before.before.before.before.before.before.before.before.before.before.before.before.before.before.before.before.before.before.before.before)
+    turn_done c.before.before.before.before.before.before.before.before.before.before.before.before.before.before.before.before.before.before.before.before.before.before.before.before.before.before.before.before.before.before.before.before.before.before.before.before.before.before.args.store.now c.before.before.before.before.before.before.before.before.before.before.before.before.before.before.before.before.before.before.before.before.before.before.before.before.before.before.before.before.before.before.before.before.before.before.before.before.before.before.args.sequence c.before.before.before.before.before.before.before.before.before.before.before.before.before.before.before.before.before.before.before.before.before.before.before.before.before.before.before.before.before.before.before.before.before.before.before.before.before.before.args.last c.before.before.before.before.before.before.before.before.before.before.before.before.before.before.before.before.before.before.before.before.before.before.before.before.before.before.before.before.before.before.before.before.before.before.before.before.before.before.args.time (length c.before.before.before.before.before.before.before.before.before.before.before.before.before.before.before.before.before.before.before.before.before.before.before.before.before.before.before.before.before.before.before.before.before.before.before.before.before.before.args.frame.now) c.before.before.before.before.before.before.before.before.before.before.before.before.before.before.before.before.before.before.before.before.before.before.before.before.before.before.before.before.before.before.before.before.before.before.before.before.before.before.args.table.now (store_is c.before.before.before.before.before.before.before.before.before.before.before.before.before.before.before.before.before.before.before.before.before.before.before.before.before.before.before.before.before.before.before.before.before) (table_is c.before.before.before.before.before.before.before.before.before.before.before.before.before.before.before.before.before.before.before.before.before.before.before.before.before.before.before.before.before.before) (own c.before.before.before.before.before.before.before.before.before.before.before.before.before.before.before.before.before.before.before.before.before.before.before.before.before.before.before.before.before.before)
     c.before.before.before.before.before.before.before.before.before.before.before.before.before.before.before.before.before.before.before.before.before.before.before.before.before.before.before.before.clear.new.0 c.before.before.before.before.before.before.before.before.before.before.before.before.before.before.before.before.before.before.before.before.before.before.before.before.before.before.before.before.clear.ensures c.before.before.before.before.before.before.before.before.before.before.before.before.before.before.before.before.before.before.before.before.before.before.before.before.before.unasked.result c.before.before.before.before.before.before.before.before.before.before.before.before.before.before.before.before.before.before.before.before.before.before.before.before.before.unasked.ensures c.before.before.before.before.before.before.before.before.before.before.before.before.before.before.before.before.before.before.before.before.before.before.before.write-response-header.result c.before.before.before.before.before.before.before.before.before.before.before.before.before.before.before.before.before.before.before.before.before.before.before.write-response-header.new.0 c.before.before.before.before.before.before.before.before.before.before.before.before.before.before.before.before.before.before.before.before.before.before.before.write-response-header.ensures _ c.before.before.before.before.before.before.before.before.before.before.before.before.before.before.before.before.before.before.before.put.given.1
-    c.before.before.before.before.before.before.before.before.before.before.before.before.before.before.before.sweep.result c.before.before.before.before.before.before.before.before.sweep2.result c.before.before.before.before.before.before.before.before.before.before.before.before.before.before.before.sweep.new.1.1.1.1.1.0 c.before.before.before.before.before.before.before.before.sweep2.new.1.1.1.1.1.0 c.before.before.before.before.before.before.before.before.before.before.before.before.before.before.before.sweep.new.1.1.1.1.1.1.1.0 c.before.before.before.before.before.before.before.before.sweep2.new.1.1.1.1.1.1.1.0 c.before.before.finish.new.0 c.before.before.finish.result
-    c.before.before.before.before.before.before.before.before.before.before.before.before.before.before.before.sweep.auto.1.1.1.1.1.1.1.0 c.before.before.before.before.before.before.before.before.sweep2.auto.1.1.1.1.1.1.1.0 (λ i. (c.before.before.before.before.before.before.slice-known9.given i).fits) c.before.before.before.before.before.before.before.before.before.before.before.before.before.before.before.sweep.ensures c.before.before.before.before.before.before.before.before.sweep2.ensures c.before.before.finish.ensures
+    c.before.before.before.before.before.before.before.before.before.before.before.before.before.before.before.sweep.result c.before.before.before.before.before.before.before.before.sweep2.result c.before.before.before.before.before.before.before.before.before.before.before.before.before.before.before.sweep.new.1.1.1.0 c.before.before.before.before.before.before.before.before.sweep2.new.1.1.1.0 c.before.before.before.before.before.before.before.before.before.before.before.before.before.before.before.sweep.new.1.1.1.1.1.0 c.before.before.before.before.before.before.before.before.sweep2.new.1.1.1.1.1.0 c.before.before.finish.new.0 c.before.before.finish.result
+    c.before.before.before.before.before.before.before.before.before.before.before.before.before.before.before.sweep.auto.1.1.1.1.1.0 c.before.before.before.before.before.before.before.before.sweep2.auto.1.1.1.1.1.0 (λ i. (c.before.before.before.before.before.before.slice-known9.given i).fits) c.before.before.before.before.before.before.before.before.before.before.before.before.before.before.before.sweep.ensures c.before.before.before.before.before.before.before.before.sweep2.ensures c.before.before.finish.ensures
 
 pub report-turn-spec : {M : Type 1} → statement M
 report-turn-spec =

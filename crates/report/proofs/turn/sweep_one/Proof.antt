@@ -6,10 +6,10 @@ use Rattle.report.proofs.turn.sweep_one.Statement.{statement}
 use Rattle.report.proofs.turn.sweep_one.Tie as tie
 
 returns : tie.Need-returns
-returns c = step_full c.before.before.before.before.args.store.now c.before.before.before.before.args.a c.before.before.before.before.args.time c.before.before.before.before.args.table.now c.before.before.before.before.args.frame.now c.before.before.before.before.args.c c.before.before.before.before.args.mine c.before.before.before.before.requires c.if1.true
+returns c = step_full c.before.before.before.before.args.store.now c.before.before.before.before.args.a c.before.before.before.before.args.time c.before.before.before.before.args.table.now c.before.before.before.before.args.frame.now c.before.before.before.before.args.c c.before.before.before.before.args.mine c.before.before.before.before.requires.0 c.if1.true
 
 returns-2 : tie.Need-returns-2
-returns-2 c = step_other c.before.before.before.before.before.args.store.now c.before.before.before.before.before.args.a c.before.before.before.before.before.args.time c.before.before.before.before.before.args.table.now c.before.before.before.before.before.args.frame.now c.before.before.before.before.before.args.c c.before.before.before.before.before.args.mine c.before.before.before.before.before.requires (not-true _ c.if2.true)
+returns-2 c = step_other c.before.before.before.before.before.args.store.now c.before.before.before.before.before.args.a c.before.before.before.before.before.args.time c.before.before.before.before.before.args.table.now c.before.before.before.before.before.args.frame.now c.before.before.before.before.before.args.c c.before.before.before.before.before.args.mine c.before.before.before.before.before.requires.0 (not-true _ c.if2.true)
 
 try-attribute-requires : tie.Need-try-attribute-requires
 try-attribute-requires c κs = search rules
@@ -32,12 +32,6 @@ same-length-2 c = search rules
 returns-3 : tie.Need-returns-3
 returns-3 c = step_passed c.before.before.before.before.before.before.before.before.before.before.before.before.before.before.args.store.now c.before.before.before.before.before.before.before.before.before.before.before.before.before.before.args.a c.before.before.before.before.before.before.before.before.before.before.before.before.before.before.args.time c.before.before.before.before.before.before.before.before.before.before.before.before.before.before.args.table.now c.before.before.before.before.before.before.before.before.before.before.before.before.before.before.args.frame.now c.before.before.before.before.before.before.before.before.before.before.before.before.before.before.args.c c.before.before.before.before.before.before.before.before.before.before.before.before.before.before.args.mine (not-false _ c.before.before.before.before.before.before.before.before.before.if2.false) c.before.before.before.before.before.before.before.before.before.before.if1.false c.before.before.before.before.before.before.try-attribute.result c.before.before.before.before.before.before.try-attribute.new.1.1.0 c.before.before.before.before.before.before.try-attribute.new.1.1.1.1.0 c.before.before.before.before.before.before.try-attribute.ensures c.enum_told.given.1
 
-id-of-requires : tie.Need-id-of-requires
-id-of-requires c κs = search rules
-
-cast-t17 : tie.Need-overflow-cast-t17
-cast-t17 c = search rules
-
 same-length-3 : tie.Need-same-length-3
 same-length-3 c = search rules
 
@@ -45,7 +39,7 @@ same-length-4 : tie.Need-same-length-4
 same-length-4 c = search rules
 
 returns-4 : tie.Need-returns-4
-returns-4 c = step_longer c.before.before.before.before.before.before.before.before.before.before.before.before.before.before.before.before.before.args.store.now c.before.before.before.before.before.before.before.before.before.before.before.before.before.before.before.before.before.args.a c.before.before.before.before.before.before.before.before.before.before.before.before.before.before.before.before.before.args.time c.before.before.before.before.before.before.before.before.before.before.before.before.before.before.before.before.before.args.table.now c.before.before.before.before.before.before.before.before.before.before.before.before.before.before.before.before.before.args.frame.now c.before.before.before.before.before.before.before.before.before.before.before.before.before.before.before.before.before.args.c c.before.before.before.before.before.before.before.before.before.before.before.before.before.before.before.before.before.args.mine (not-false _ c.before.before.before.before.before.before.before.before.before.before.before.before.if2.false) c.before.before.before.before.before.before.before.before.before.before.before.before.before.if1.false c.before.before.before.before.before.before.before.before.before.try-attribute.result c.before.before.before.before.before.before.before.before.before.try-attribute.new.1.1.0 c.before.before.before.before.before.before.before.before.before.try-attribute.new.1.1.1.1.0 c.before.before.before.before.before.before.before.before.before.try-attribute.ensures _ _ c.before.before.before.tried.given.1 c.before.id-of.ensures
+returns-4 c = step_longer c.before.before.before.before.before.before.before.before.before.before.before.before.before.before.before.args.store.now c.before.before.before.before.before.before.before.before.before.before.before.before.before.before.before.args.a c.before.before.before.before.before.before.before.before.before.before.before.before.before.before.before.args.time c.before.before.before.before.before.before.before.before.before.before.before.before.before.before.before.args.table.now c.before.before.before.before.before.before.before.before.before.before.before.before.before.before.before.args.frame.now c.before.before.before.before.before.before.before.before.before.before.before.before.before.before.before.args.c c.before.before.before.before.before.before.before.before.before.before.before.before.before.before.before.args.mine (not-false _ c.before.before.before.before.before.before.before.before.before.before.if2.false) c.before.before.before.before.before.before.before.before.before.before.before.if1.false c.before.before.before.before.before.before.before.try-attribute.result c.before.before.before.before.before.before.before.try-attribute.new.1.1.0 c.before.before.before.before.before.before.before.try-attribute.new.1.1.1.1.0 c.before.before.before.before.before.before.before.try-attribute.ensures _ c.before.tried.given.1
 
 same-length-5 : tie.Need-same-length-5
 same-length-5 c = search rules
@@ -65,8 +59,6 @@ sweep-one-spec =
     try-attribute-requires
     enum_told
     enum-known-tried
-    id-of-requires
-    cast-t17
     enum-told-2
     same_length
     same-length-2

@@ -15,7 +15,7 @@ is-reportable-requires : tie.Need-is-reportable-requires
 is-reportable-requires c κs = search rules
 
 returns : tie.Need-returns
-returns c = tried_unreportable c.before.before.before.before.before.args.store.now c.before.before.before.before.before.args.a c.before.before.before.before.before.args.time c.before.before.before.before.before.args.table.now c.before.before.before.before.before.args.frame.now c.before.before.before.before.before.args.out c.before.before.before.before.before.requires (sym c.before.is-reportable.ensures ∙ not-true _ c.if1.true)
+returns c = tried_unreportable c.before.before.before.before.before.args.store.now c.before.before.before.before.before.args.a c.before.before.before.before.before.args.time c.before.before.before.before.before.args.table.now c.before.before.before.before.before.args.frame.now c.before.before.before.before.before.args.out c.before.before.before.before.before.requires.0 (sym c.before.is-reportable.ensures ∙ not-true _ c.if1.true)
 
 value-in-requires : tie.Need-value-in-requires
 value-in-requires c κs = search rules
@@ -31,7 +31,7 @@ same_length c = search rules
 
 returns-2 : tie.Need-returns-2
 returns-2 c =
-    tried_not_due c.before.before.before.before.before.before.before.before.before.before.args.store.now c.before.before.before.before.before.before.before.before.before.before.args.a c.before.before.before.before.before.before.before.before.before.before.args.time c.before.before.before.before.before.before.before.before.before.before.args.table.now c.before.before.before.before.before.before.before.before.before.before.args.frame.now c.before.before.before.before.before.before.before.before.before.before.args.out c.before.before.before.before.before.before.before.before.before.before.requires
+    tried_not_due c.before.before.before.before.before.before.before.before.before.before.args.store.now c.before.before.before.before.before.before.before.before.before.before.args.a c.before.before.before.before.before.before.before.before.before.before.args.time c.before.before.before.before.before.before.before.before.before.before.args.table.now c.before.before.before.before.before.before.before.before.before.before.args.frame.now c.before.before.before.before.before.before.before.before.before.before.args.out c.before.before.before.before.before.before.before.before.before.before.requires.0
     (sym c.before.before.before.before.before.before.is-reportable.ensures ∙ not-false _ c.before.before.before.before.before.if1.false) c.before.before.before.key_of.result c.before.before.before.before.value_in.result c.before.before.before.key_of.ensures c.before.before.before.before.value_in.ensures c.before.due_in.result
     (c.before.due_in.ensures ∙ ap (λ v. due_l c.before.before.before.key_of.result c.before.before.before.before.before.before.before.before.before.before.args.time v (table_in c.before.before.before.before.before.before.before.before.before.before.args.table.now)) (came_back _ c.before.before.before.before.value_in.type-inv))
     (not-true _ c.if2.true)
@@ -53,7 +53,7 @@ same-length-3 c = search rules
 
 returns-3 : tie.Need-returns-3
 returns-3 c =
-    tried_full c.before.before.before.before.before.before.before.before.before.before.before.before.before.before.before.before.args.store.now c.before.before.before.before.before.before.before.before.before.before.before.before.before.before.before.before.args.a c.before.before.before.before.before.before.before.before.before.before.before.before.before.before.before.before.args.time c.before.before.before.before.before.before.before.before.before.before.before.before.before.before.before.before.args.table.now c.before.before.before.before.before.before.before.before.before.before.before.before.before.before.before.before.args.frame.now c.before.before.before.before.before.before.before.before.before.before.before.before.before.before.before.before.args.out c.before.before.before.before.before.before.before.before.before.before.before.before.before.before.before.before.requires
+    tried_full c.before.before.before.before.before.before.before.before.before.before.before.before.before.before.before.before.args.store.now c.before.before.before.before.before.before.before.before.before.before.before.before.before.before.before.before.args.a c.before.before.before.before.before.before.before.before.before.before.before.before.before.before.before.before.args.time c.before.before.before.before.before.before.before.before.before.before.before.before.before.before.before.before.args.table.now c.before.before.before.before.before.before.before.before.before.before.before.before.before.before.before.before.args.frame.now c.before.before.before.before.before.before.before.before.before.before.before.before.before.before.before.before.args.out c.before.before.before.before.before.before.before.before.before.before.before.before.before.before.before.before.requires.0
     (sym c.before.before.before.before.before.before.before.before.before.before.before.before.is-reportable.ensures ∙ not-false _ c.before.before.before.before.before.before.before.before.before.before.before.if1.false) c.before.before.before.before.before.before.before.before.before.key_of.result c.before.before.before.before.before.before.before.before.before.before.value_in.result c.before.before.before.before.before.before.before.before.before.key_of.ensures c.before.before.before.before.before.before.before.before.before.before.value_in.ensures c.before.before.before.before.before.before.before.due_in.result
     (c.before.before.before.before.before.before.before.due_in.ensures ∙ ap (λ v. due_l c.before.before.before.before.before.before.before.before.before.key_of.result c.before.before.before.before.before.before.before.before.before.before.before.before.before.before.before.before.args.time v (table_in c.before.before.before.before.before.before.before.before.before.before.before.before.before.before.before.before.args.table.now)) (came_back _ c.before.before.before.before.before.before.before.before.before.before.value_in.type-inv))
     (not-false _ c.before.before.before.before.before.before.if2.false) c.before.before.before.before.put-attribute.result c.before.before.before.before.put-attribute.new.0 c.before.before.before.before.put-attribute.ensures c.enum_told.given.1
@@ -69,7 +69,7 @@ same-length-5 c = search rules
 
 returns-4 : tie.Need-returns-4
 returns-4 c =
-    tried_longer c.before.before.before.before.before.before.before.before.before.before.before.before.before.before.before.before.before.before.before.before.before.args.store.now c.before.before.before.before.before.before.before.before.before.before.before.before.before.before.before.before.before.before.before.before.before.args.a c.before.before.before.before.before.before.before.before.before.before.before.before.before.before.before.before.before.before.before.before.before.args.time c.before.before.before.before.before.before.before.before.before.before.before.before.before.before.before.before.before.before.before.before.before.args.table.now c.before.before.before.before.before.before.before.before.before.before.before.before.before.before.before.before.before.before.before.before.before.args.frame.now c.before.before.before.before.before.before.before.before.before.before.before.before.before.before.before.before.before.before.before.before.before.args.out c.before.before.before.before.before.before.before.before.before.before.before.before.before.before.before.before.before.before.before.before.before.requires
+    tried_longer c.before.before.before.before.before.before.before.before.before.before.before.before.before.before.before.before.before.before.before.before.before.args.store.now c.before.before.before.before.before.before.before.before.before.before.before.before.before.before.before.before.before.before.before.before.before.args.a c.before.before.before.before.before.before.before.before.before.before.before.before.before.before.before.before.before.before.before.before.before.args.time c.before.before.before.before.before.before.before.before.before.before.before.before.before.before.before.before.before.before.before.before.before.args.table.now c.before.before.before.before.before.before.before.before.before.before.before.before.before.before.before.before.before.before.before.before.before.args.frame.now c.before.before.before.before.before.before.before.before.before.before.before.before.before.before.before.before.before.before.before.before.before.args.out c.before.before.before.before.before.before.before.before.before.before.before.before.before.before.before.before.before.before.before.before.before.requires.0
     (sym c.before.before.before.before.before.before.before.before.before.before.before.before.before.before.before.before.before.is-reportable.ensures ∙ not-false _ c.before.before.before.before.before.before.before.before.before.before.before.before.before.before.before.before.if1.false) c.before.before.before.before.before.before.before.before.before.before.before.before.before.before.key_of.result c.before.before.before.before.before.before.before.before.before.before.before.before.before.before.before.value_in.result c.before.before.before.before.before.before.before.before.before.before.before.before.before.before.key_of.ensures c.before.before.before.before.before.before.before.before.before.before.before.before.before.before.before.value_in.ensures c.before.before.before.before.before.before.before.before.before.before.before.before.due_in.result
     (c.before.before.before.before.before.before.before.before.before.before.before.before.due_in.ensures ∙ ap (λ v. due_l c.before.before.before.before.before.before.before.before.before.before.before.before.before.before.key_of.result c.before.before.before.before.before.before.before.before.before.before.before.before.before.before.before.before.before.before.before.before.before.args.time v (table_in c.before.before.before.before.before.before.before.before.before.before.before.before.before.before.before.before.before.before.before.before.before.args.table.now)) (came_back _ c.before.before.before.before.before.before.before.before.before.before.before.before.before.before.before.value_in.type-inv))
     (not-false _ c.before.before.before.before.before.before.before.before.before.before.before.if2.false) c.before.before.before.before.before.before.before.before.before.put-attribute.result c.before.before.before.before.before.before.before.before.before.put-attribute.new.0 c.before.before.before.before.before.before.before.before.before.put-attribute.ensures _ c.before.before.mark-in.new.0 c.before.before.before.before.before.put.given.1

@@ -1,9 +1,12 @@
--- The ten readings at their places are the entry of the slot's numbers. Assumes nothing.
+-- The nine readings at their places are the entry of the slot's numbers. Assumes nothing.
 use borrow.Author.Rules.{rules}
-use mathlib.Core.Path.{ap, ◌∙◌}
+use mathlib.Core.Path.{ap, sym, ◌∙◌}
+use Prim.Native.Nat.{◌+◌}
+use lib.ListN.{get_or}
+use lib.Dec.{eqb}
 use Rattle.types.specs.Number.{signed_of, signed_at}
 use Rattle.types.proofs.Machine.{came_back}
-use Rattle.reporting.proofs.CarriageCode.{entry_read}
+use Rattle.reporting.proofs.CarriageCode.{entry_at}
 use Rattle.reporting.proofs.carried.read_slot.Statement.{statement}
 use Rattle.reporting.proofs.carried.read_slot.Tie as tie
 
@@ -27,12 +30,6 @@ add-u16-in-3 c = search rules
 
 u16-in-requires-4 : tie.Need-u16-in-requires-4
 u16-in-requires-4 c κs = search rules
-
-add-u16-in-4 : tie.Need-overflow-add-u16-in-4
-add-u16-in-4 c = search rules
-
-u16-in-requires-5 : tie.Need-u16-in-requires-5
-u16-in-requires-5 c κs = search rules
 
 add-u64-in : tie.Need-overflow-add-u64-in
 add-u64-in c = search rules
@@ -70,8 +67,16 @@ bits-i64-requires c κs = search rules
 returns : tie.Need-returns
 unfolding signed_at
 returns c =
-    let a = c.before.before.before.before.before.before.before.before.before.before.before.before.args in
-    entry_read a.bytes.now a.at _ _ _ _ _ _ _ _ c.before.before.before.before.before.before.before.before.before.before.u16-in.ensures c.before.before.before.before.before.before.before.before.before.u16-in2.ensures c.before.before.before.before.before.before.before.before.u16-in3.ensures c.before.before.before.before.before.before.before.u16-in4.ensures c.before.before.before.before.before.before.u16-in5.ensures c.before.before.before.before.before.u64-in.ensures c.before.before.u32-in.ensures (came_back _ c.bits-i64.type-inv ∙ c.bits-i64.ensures ∙ ap (signed_of 8) c.before.u64-in2.ensures)
+    let bs = c.before.before.before.before.before.before.before.before.before.before.before.args.bytes.now in
+    let at = c.before.before.before.before.before.before.before.before.before.before.before.args.at in
+    (λ i. record {
+      key = record { cluster = record { 0 = c.before.before.before.before.before.before.before.before.before.u16-in.ensures i }; attribute = record { 0 = c.before.before.before.before.before.before.before.before.u16-in2.ensures i } };
+      config = record { min_interval = c.before.before.before.before.before.before.before.u16-in3.ensures i; max_interval = c.before.before.before.before.before.before.u16-in4.ensures i; reportable_change = c.before.before.before.before.before.u64-in.ensures i; unsigned = eqb (get_or bs (at + 16) 0) 1 };
+      marked = eqb (get_or bs (at + 17) 0) 1;
+      last_time = c.before.before.u32-in.ensures i;
+      last_value = (came_back _ c.bits-i64.type-inv ∙ c.bits-i64.ensures ∙ ap (signed_of 8) c.before.u64-in2.ensures) i;
+    })
+    ∙ sym (entry_at bs at)
 
 pub read-slot-spec : {M : Type 1} → statement M
 read-slot-spec =
@@ -84,8 +89,6 @@ read-slot-spec =
     u16-in-requires-3
     add-u16-in-3
     u16-in-requires-4
-    add-u16-in-4
-    u16-in-requires-5
     add-u64-in
     u64-in-requires
     add-mark

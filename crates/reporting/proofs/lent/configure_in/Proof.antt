@@ -21,7 +21,7 @@ all-bytes c i = (c.slice-known.given i).fits
 
 -- what is written has one form, for the key and the configuration are within their types
 clean : (c : tie.Start) → Clean (fresh c.args.key c.args.config)
-clean c = fresh_clean c.args.key c.args.config (omega (arith, c.well-formed)) (omega (arith, c.well-formed)) (omega (arith, c.well-formed)) (omega (arith, c.well-formed)) (omega (arith, c.well-formed)) (omega (arith, c.well-formed))
+clean c = fresh_clean c.args.key c.args.config (omega (arith, c.well-formed)) (omega (arith, c.well-formed)) (omega (arith, c.well-formed)) (omega (arith, c.well-formed)) (omega (arith, c.well-formed))
 
 slice-read-n : tie.Need-slice-read-n
 slice-read-n c = omega (arith, known_size c.before.before.args.bytes.now c.before.before.requires)

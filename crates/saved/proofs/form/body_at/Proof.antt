@@ -1,26 +1,62 @@
--- Behind the contents and the bodies before it. Assumes nothing.
+-- In either form, by the sizes of a row and of a body. Assumes nothing.
 use borrow.Author.Rules.{rules}
 use native.Mathlib.Omega.{arith}
-use Rattle.saved.specs.Saved.{form_of, row_bytes}
-use Rattle.saved.proofs.Places.{rows_small, bodies_small}
-use mathlib.Core.Path.{refl}
+use Prim.Native.Nat.{◌+◌, ◌*◌}
+use mathlib.Core.Path.{◌≡◌, sym, ap, ◌∙◌}
+use mathlib.Core.Bool.{Bool}
+use Rattle.saved.specs.Saved.{form_of, marked, plain, offset_at}
 use Rattle.saved.proofs.form.body_at.Statement.{statement}
 use Rattle.saved.proofs.form.body_at.Tie as tie
 
-row-at-requires : tie.Need-row-at-requires
-row-at-requires c κs = search rules
-
-body-bytes-requires : tie.Need-body-bytes-requires
-body-bytes-requires c κs = search rules
-
 mul-result : tie.Need-overflow-mul-result
-mul-result c = omega (arith, (bodies_small c.before.before.args.layout c.body_bytes.result c.before.before.args.i c.body_bytes.ensures c.before.before.requires.1).0)
+mul-result c = search rules
 
 add-result : tie.Need-overflow-add-result
-add-result c = omega (arith, (bodies_small c.before.before.args.layout c.body_bytes.result c.before.before.args.i c.body_bytes.ensures c.before.before.requires.1).0, c.before.row_at.ensures, (rows_small c.before.before.args.layout (row_bytes (form_of c.before.before.args.layout)) c.before.before.args.n refl c.before.before.requires.0).0, (rows_small c.before.before.args.layout (row_bytes (form_of c.before.before.args.layout)) c.before.before.args.n refl c.before.before.requires.0).1)
+add-result c = search rules
+
+mul-result-2 : tie.Need-overflow-mul-result-2
+mul-result-2 c = search rules
+
+add-result-2 : tie.Need-overflow-add-result-2
+add-result-2 c = search rules
 
 returns : tie.Need-returns
-returns c = omega (arith, c.before.row_at.ensures, (bodies_small c.before.before.args.layout c.body_bytes.result c.before.before.args.i c.body_bytes.ensures c.before.before.requires.1).1)
+returns c =
+    let n = c.before.args.n in
+    let i = c.before.args.i in
+    let p : 1 + 6 * n + 13 * i ≡ offset_at marked n i = omega arith in
+    p ∙ ap (λ (m : Bool). offset_at (form_of m) n i) (sym c.if1.true)
+
+mul-result-3 : tie.Need-overflow-mul-result-3
+mul-result-3 c = search rules
+
+add-result-3 : tie.Need-overflow-add-result-3
+add-result-3 c = search rules
+
+mul-result-4 : tie.Need-overflow-mul-result-4
+mul-result-4 c = search rules
+
+add-result-4 : tie.Need-overflow-add-result-4
+add-result-4 c = search rules
+
+returns-2 : tie.Need-returns-2
+returns-2 c =
+    let n = c.before.args.n in
+    let i = c.before.args.i in
+    let p : 1 + 6 * n + 12 * i ≡ offset_at plain n i = omega arith in
+    p ∙ ap (λ (m : Bool). offset_at (form_of m) n i) (sym c.if1.false)
 
 pub body-at-spec : {M : Type 1} → statement M
-body-at-spec = tie.close (tie.spec row-at-requires body-bytes-requires mul-result add-result returns)
+body-at-spec =
+    tie.close
+    (tie.spec
+    mul-result
+    add-result
+    mul-result-2
+    add-result-2
+    returns
+    mul-result-3
+    add-result-3
+    mul-result-4
+    add-result-4
+    returns-2)

@@ -1,20 +1,20 @@
 -- After i turns the bodies of the first i entries stand behind the contents. Assumes nothing.
 use native.Mathlib.Omega.{arith}
-use Prim.Native.Nat.{◌-◌, ◌≤◌}
+use Prim.Native.Nat.{ℕ, ◌-◌, ◌≤◌}
 use mathlib.Core.Path.{◌≡◌, refl, ap, ◌∙◌}
 use mathlib.Core.List.{List, map}
 use lib.ListN.{length}
 use lib.Seq.{sets}
 use Rattle.reporting.specs.declared.entry.Entry.{Entry}
-use Rattle.reporting.specs.Carried.{rows_laid, count_in}
+use Rattle.reporting.specs.Carried.{laid, rows_laid, count_in}
 use Rattle.reporting.proofs.CarriageLoops.{known_size, known_count}
-use Rattle.saved.specs.Saved.{coded, body_of, offset_at}
+use Rattle.saved.specs.Saved.{marked, body_of, offset_at}
 use Rattle.saved.proofs.Rows.{bodies_to, bodies_none, bodies_turn, all_taken}
 use Rattle.saved.proofs.save.write_bodies.Statement.{statement}
 use Rattle.saved.proofs.save.write_bodies.Tie as tie
 
 abbrev invariant-loop : tie.invariant-loop
-invariant-loop saved₀ table n i₀ saved i = (i ≤ n) × ((length saved ≡ length saved₀) × (saved ≡ sets saved₀ (offset_at coded n 0) (rows_laid coded.bodies (bodies_to table i))))
+invariant-loop saved₀ table n i₀ saved i = (i ≤ n) × ((length saved ≡ length saved₀) × (saved ≡ sets saved₀ (offset_at marked n 0) (rows_laid marked.bodies (bodies_to table i))))
 
 abbrev decreases-loop : tie.decreases-loop
 decreases-loop saved₀ table n i₀ saved i = n - i
@@ -53,12 +53,13 @@ loop-again : tie.Need-loop-preserved invariant-loop decreases-loop
 loop-again c =
     let bs = c.before.before.before.before.before.before.before.before.before.before.before.args.table.now in
     let e = c.before.before.before.before.before.read-slot in
-    let w = c.before.before.write-body in (
+    let w = c.before.before.write-body in
+    let o = c.before.before.before.before.body_at.ensures in (
       omega arith,
       (
         w.auto.0 ∙ c.before.before.before.before.before.before.before.loop.invariant.1.0,
-        bodies_turn bs c.before.before.before.before.before.before.before.loop.i c.before.before.before.before.before.before.before.before.before.before.before.args.saved.now c.before.before.before.before.before.before.before.loop.saved w.new.0 c.before.before.before.before.before.before.loop-test.true e.result e.ensures
-            c.before.before.before.before.body_at.result c.before.before.before.before.body_at.ensures c.before.before.before.before.before.before.before.loop.invariant.1.1 w.ensures,
+        bodies_turn bs c.before.before.before.before.before.before.before.loop.i c.before.before.before.before.before.before.before.before.before.before.before.args.saved.now c.before.before.before.before.before.before.before.loop.saved w.new.0 c.before.before.before.before.before.before.loop-test.true e.result e.ensures c.before.before.before.before.before.before.before.loop.invariant.1.1
+            (w.ensures ∙ ap (λ (x : ℕ). sets c.before.before.before.before.before.before.before.loop.saved x (laid marked.bodies (body_of e.result))) o),
       ),
     )
 
@@ -68,7 +69,7 @@ same_length c = c.before.loop.invariant.1.0
 returns : tie.Need-returns invariant-loop decreases-loop
 returns c =
     let bs = c.before.before.before.before.before.args.table.now in
-    c.before.loop.invariant.1.1 ∙ ap (λ (l : List Entry). sets c.before.before.before.before.before.args.saved.now (offset_at coded (count_in bs) 0) (rows_laid coded.bodies (map body_of l))) (all_taken bs c.before.loop.i c.loop-test.false)
+    c.before.loop.invariant.1.1 ∙ ap (λ (l : List Entry). sets c.before.before.before.before.before.args.saved.now (offset_at marked (count_in bs) 0) (rows_laid marked.bodies (map body_of l))) (all_taken bs c.before.loop.i c.loop-test.false)
 
 pub write-bodies-spec : {M : Type 1} → statement M
 write-bodies-spec =

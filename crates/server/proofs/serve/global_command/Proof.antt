@@ -11,11 +11,10 @@ use Rattle.server.proofs.Commands.{rest_unsupported}
 use borrow.Author.Rules.{rules}
 use Rattle.server.proofs.serve.global_command.Statement.{statement}
 use Rattle.server.proofs.serve.global_command.Tie as tie
-use Rattle.store.specs.Contents.{entry_size}
 
 -- the command that was told is the one of the number
-told : (c : tie.After-from-bits) (k : CommandIdentifier) → c.from-bits.result ≡ k → commanded (entry_size c.before.before.before.before.before.before.args.form) capacity c.before.before.before.before.before.before.args.store.now (holding (table_in c.before.before.before.before.before.before.args.table.now)) c.before.before.before.before.before.before.args.unicast c.before.before.before.before.before.before.args.request c.before.before.before.before.before.before.args.body.now (length c.before.before.before.before.before.before.args.reply.now) k ≡ commanded (entry_size c.before.before.before.before.before.before.args.form) capacity c.before.before.before.before.before.before.args.store.now (holding (table_in c.before.before.before.before.before.before.args.table.now)) c.before.before.before.before.before.before.args.unicast c.before.before.before.before.before.before.args.request c.before.before.before.before.before.before.args.body.now (length c.before.before.before.before.before.before.args.reply.now) (command_of c.before.before.before.before.before.before.args.request.command_identifier.0)
-told c k e = ap (commanded (entry_size c.before.before.before.before.before.before.args.form) capacity c.before.before.before.before.before.before.args.store.now (holding (table_in c.before.before.before.before.before.before.args.table.now)) c.before.before.before.before.before.before.args.unicast c.before.before.before.before.before.before.args.request c.before.before.before.before.before.before.args.body.now (length c.before.before.before.before.before.before.args.reply.now)) (sym e ∙ c.from-bits.ensures)
+told : (c : tie.After-from-bits) (k : CommandIdentifier) → c.from-bits.result ≡ k → commanded 8 capacity c.before.before.before.before.before.before.args.store.now (holding (table_in c.before.before.before.before.before.before.args.table.now)) c.before.before.before.before.before.before.args.unicast c.before.before.before.before.before.before.args.request c.before.before.before.before.before.before.args.body.now (length c.before.before.before.before.before.before.args.reply.now) k ≡ commanded 8 capacity c.before.before.before.before.before.before.args.store.now (holding (table_in c.before.before.before.before.before.before.args.table.now)) c.before.before.before.before.before.before.args.unicast c.before.before.before.before.before.before.args.request c.before.before.before.before.before.before.args.body.now (length c.before.before.before.before.before.before.args.reply.now) (command_of c.before.before.before.before.before.before.args.request.command_identifier.0)
+told c k e = ap (commanded 8 capacity c.before.before.before.before.before.before.args.store.now (holding (table_in c.before.before.before.before.before.before.args.table.now)) c.before.before.before.before.before.before.args.unicast c.before.before.before.before.before.before.args.request c.before.before.before.before.before.before.args.body.now (length c.before.before.before.before.before.before.args.reply.now)) (sym e ∙ c.from-bits.ensures)
 
 from-bits-requires : tie.Need-from-bits-requires
 from-bits-requires c κs = search rules
@@ -161,7 +160,7 @@ returns-9 : tie.Need-returns-9
 returns-9 c = (
   c.before.before.before.before.before.before.before.before.before.before.before.requires,
   ap (within (λ u. state c.before.before.before.before.before.before.before.before.before.before.before.args.store.now (holding (table_in c.before.before.before.before.before.before.before.before.before.before.before.args.table.now)))) c.before.before.default-response.ensures
-      ∙ rest_unsupported (entry_size c.before.before.before.before.before.before.before.before.before.before.before.args.form) capacity c.before.before.before.before.before.before.before.before.before.before.before.args.store.now (holding (table_in c.before.before.before.before.before.before.before.before.before.before.before.args.table.now)) c.before.before.before.before.before.before.before.before.before.before.before.args.unicast c.before.before.before.before.before.before.before.before.before.before.before.args.request c.before.before.before.before.before.before.before.before.before.before.before.args.body.now (length c.before.before.before.before.before.before.before.before.before.before.before.args.reply.now) c.before.before.before.before.before.from-bits.result c.before.before.before.before.match.keys9
+      ∙ rest_unsupported 8 capacity c.before.before.before.before.before.before.before.before.before.before.before.args.store.now (holding (table_in c.before.before.before.before.before.before.before.before.before.before.before.args.table.now)) c.before.before.before.before.before.before.before.before.before.before.before.args.unicast c.before.before.before.before.before.before.before.before.before.before.before.args.request c.before.before.before.before.before.before.before.before.before.before.before.args.body.now (length c.before.before.before.before.before.before.before.before.before.before.before.args.reply.now) c.before.before.before.before.before.from-bits.result c.before.before.before.before.match.keys9
       ∙ told c.before.before.before.before.before c.before.before.before.before.before.from-bits.result refl,
 )
 

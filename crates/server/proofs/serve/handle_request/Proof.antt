@@ -7,7 +7,6 @@ use Rattle.server.proofs.Served.{not_written, was_written, value_refused, value_
 use borrow.Author.Rules.{rules}
 use Rattle.server.proofs.serve.handle_request.Statement.{statement}
 use Rattle.server.proofs.serve.handle_request.Tie as tie
-use Rattle.store.specs.Contents.{entry_size}
 
 slice-aggregate-write-table : tie.Need-slice-aggregate-write-table
 slice-aggregate-write-table c = search rules
@@ -31,7 +30,7 @@ returns : tie.Need-returns
 returns c =
     let g = c.before.before.before.before.before.before.before.before.before.before.before.before.before.before.before.before.args in
     let none = not-true _ c.if1.true in
-    value_refused (entry_size g.form) g.store.now g.table g.cluster.0 g.unicast g.request.now (length g.reply.now) c.before.before.before.before.before.before.serve-known.result _
+    value_refused g.store.now g.table g.cluster.0 g.unicast g.request.now (length g.reply.now) c.before.before.before.before.before.before.serve-known.result _
     (not_written g.table _ (search rules) _ _ c.before.before.before.before.before.before.before.before.before.before.before.write-table.ensures.0 none)
     _ _ _
     (c.before.before.before.before.before.before.serve-known.ensures.fails none)
@@ -52,7 +51,7 @@ returns-2 : tie.Need-returns-2
 returns-2 c =
     let g = c.before.before.before.before.before.before.before.before.before.before.before.before.before.before.before.before.before.before.before.args in
     let one = not-false _ c.before.before.before.if1.false in
-    value_served (entry_size g.form) g.store.now g.table g.cluster.0 g.unicast g.request.now (length g.reply.now) c.before.before.before.before.before.before.before.before.before.serve-known.result _
+    value_served g.store.now g.table g.cluster.0 g.unicast g.request.now (length g.reply.now) c.before.before.before.before.before.before.before.before.before.serve-known.result _
     (was_written g.table _ (search rules) _ _ c.before.before.before.before.before.before.before.before.before.before.before.before.before.before.write-table.ensures.0 one)
     _
     (c.before.before.before.before.before.before.before.before.before.before.before.before.before.before.write-table.ensures.1 one)

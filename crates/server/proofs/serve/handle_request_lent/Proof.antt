@@ -5,7 +5,6 @@ use Rattle.server.proofs.Served.{lent_over}
 use borrow.Author.Rules.{rules}
 use Rattle.server.proofs.serve.handle_request_lent.Statement.{statement}
 use Rattle.server.proofs.serve.handle_request_lent.Tie as tie
-use Rattle.store.specs.Contents.{entry_size}
 
 is-table-requires : tie.Need-is-table-requires
 is-table-requires c κs = search rules
@@ -25,7 +24,7 @@ same-length-3 c = search rules
 returns : tie.Need-returns
 returns c =
     let g = c.before.before.before.before.before.before.before.before.before.before.before.before.before.before.before.before.args in
-    lent_over (entry_size g.form) g.store.now g.table.now g.cluster.0 g.unicast g.request.now (length g.reply.now) c.before.before.before.before.before.before.serve-known.result _ c.before.before.before.before.before.before.before.before.before.before.is-table.result c.before.before.before.before.before.before.before.before.before.before.is-table.ensures _ _
+    lent_over g.store.now g.table.now g.cluster.0 g.unicast g.request.now (length g.reply.now) c.before.before.before.before.before.before.serve-known.result _ c.before.before.before.before.before.before.before.before.before.before.is-table.result c.before.before.before.before.before.before.before.before.before.before.is-table.ensures _ _
     (λ i. (c.before.before.slice-known5.given i).fits)
     c.before.before.before.before.before.before.serve-known.ensures
 

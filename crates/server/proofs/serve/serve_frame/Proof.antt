@@ -15,11 +15,10 @@ use Rattle.server.specs.Serve.{state, typed}
 use borrow.Author.Rules.{rules}
 use Rattle.server.proofs.serve.serve_frame.Statement.{statement}
 use Rattle.server.proofs.serve.serve_frame.Tie as tie
-use Rattle.store.specs.Contents.{entry_size}
 
 -- the type that was told is the one of the control byte
-told : (c : tie.After-frame-type) (k : FrameType) → c.frame-type.result ≡ k → typed (entry_size c.before.before.before.before.before.args.form) capacity c.before.before.before.before.before.args.store.now (holding (table_in c.before.before.before.before.before.args.table.now)) c.before.before.before.before.before.args.unicast c.before.before.before.before.before.args.request c.before.before.before.before.before.args.body.now (length c.before.before.before.before.before.args.reply.now) k ≡ typed (entry_size c.before.before.before.before.before.args.form) capacity c.before.before.before.before.before.args.store.now (holding (table_in c.before.before.before.before.before.args.table.now)) c.before.before.before.before.before.args.unicast c.before.before.before.before.before.args.request c.before.before.before.before.before.args.body.now (length c.before.before.before.before.before.args.reply.now) (frame_type_of c.before.before.before.before.before.args.request.frame_control.0)
-told c k e = ap (typed (entry_size c.before.before.before.before.before.args.form) capacity c.before.before.before.before.before.args.store.now (holding (table_in c.before.before.before.before.before.args.table.now)) c.before.before.before.before.before.args.unicast c.before.before.before.before.before.args.request c.before.before.before.before.before.args.body.now (length c.before.before.before.before.before.args.reply.now)) (sym e ∙ c.frame-type.ensures)
+told : (c : tie.After-frame-type) (k : FrameType) → c.frame-type.result ≡ k → typed 8 capacity c.before.before.before.before.before.args.store.now (holding (table_in c.before.before.before.before.before.args.table.now)) c.before.before.before.before.before.args.unicast c.before.before.before.before.before.args.request c.before.before.before.before.before.args.body.now (length c.before.before.before.before.before.args.reply.now) k ≡ typed 8 capacity c.before.before.before.before.before.args.store.now (holding (table_in c.before.before.before.before.before.args.table.now)) c.before.before.before.before.before.args.unicast c.before.before.before.before.before.args.request c.before.before.before.before.before.args.body.now (length c.before.before.before.before.before.args.reply.now) (frame_type_of c.before.before.before.before.before.args.request.frame_control.0)
+told c k e = ap (typed 8 capacity c.before.before.before.before.before.args.store.now (holding (table_in c.before.before.before.before.before.args.table.now)) c.before.before.before.before.before.args.unicast c.before.before.before.before.before.args.request c.before.before.before.before.before.args.body.now (length c.before.before.before.before.before.args.reply.now)) (sym e ∙ c.frame-type.ensures)
 
 -- neither a global command nor a cluster command
 is-reserved : (k : FrameType) → OneOf (1 ∷ 2 ∷ []) (tag_of frame-type.the_type k) → OneOf (0 ∷ 2 ∷ []) (tag_of frame-type.the_type k) → k ≡ Reserved

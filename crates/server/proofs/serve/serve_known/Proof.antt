@@ -19,9 +19,8 @@ use Rattle.server.proofs.Served.{serve_other, serve_read, over_no_store, over_no
 use borrow.Author.Rules.{rules}
 use Rattle.server.proofs.serve.serve_known.Statement.{statement}
 use Rattle.server.proofs.serve.serve_known.Tie as tie
-use Rattle.store.specs.Contents.{entry_size}
 
-is_one : (c : tie.Else1) → is_store (entry_size c.before.before.before.before.before.before.before.args.form) c.before.before.before.before.before.before.before.args.store.now ≡ true
+is_one : (c : tie.Else1) → is_store 8 c.before.before.before.before.before.before.before.args.store.now ≡ true
 is_one c = sym c.before.is-store.ensures ∙ not-false _ c.if1.false
 
 is_known : (c : tie.Else2) → c.before.before.before.before.before.before.before.before.args.known ≡ true
@@ -49,7 +48,7 @@ same-length-2 c = search rules
 returns : tie.Need-returns
 returns c =
     let g = c.before.before.before.before.before.before.before.before.before.before.before.args in
-    over_no_store (entry_size g.form) g.store.now g.table.now g.cluster.0 g.unicast g.request.now (length g.reply.now) g.known c.before.before.refuse.result _
+    over_no_store g.store.now g.table.now g.cluster.0 g.unicast g.request.now (length g.reply.now) g.known c.before.before.refuse.result _
     (sym c.before.before.before.before.before.is-store.ensures ∙ not-true _ c.before.before.before.before.if1.true)
     c.before.before.before.before.before.before.before.before.before.before.before.requires
     c.before.before.refuse.ensures
@@ -66,7 +65,7 @@ same-length-4 c = search rules
 returns-2 : tie.Need-returns-2
 returns-2 c =
     let g = c.before.before.before.before.before.before.before.before.before.before.before.before.args in
-    over_no_table (entry_size g.form) g.store.now g.table.now g.cluster.0 g.unicast g.request.now (length g.reply.now) g.known c.before.before.refuse2.result _ (is_one c.before.before.before.before.before) (not-true _ c.before.before.before.before.if2.true) c.before.before.refuse2.ensures
+    over_no_table g.store.now g.table.now g.cluster.0 g.unicast g.request.now (length g.reply.now) g.known c.before.before.refuse2.result _ (is_one c.before.before.before.before.before) (not-true _ c.before.before.before.before.if2.true) c.before.before.refuse2.ensures
 
 cluster-of-requires : tie.Need-cluster-of-requires
 cluster-of-requires c κs = search rules
@@ -83,9 +82,9 @@ same-length-6 c = search rules
 returns-3 : tie.Need-returns-3
 returns-3 c =
     let g = c.before.before.before.before.before.before.before.before.before.before.before.before.before.before.before.before.before.args in
-    over_table (entry_size g.form) g.store.now g.table.now g.cluster.0 g.unicast g.request.now (length g.reply.now) g.known c.before.before.refuse3.result _ (is_known c.before.before.before.before.before.before.before.before.before) g.store.now g.table.now (c.before.before.before.before.before.before.before.before.before.before.before.before.before.before.before.before.before.requires (is_known c.before.before.before.before.before.before.before.before.before))
+    over_table g.store.now g.table.now g.cluster.0 g.unicast g.request.now (length g.reply.now) g.known c.before.before.refuse3.result _ (is_known c.before.before.before.before.before.before.before.before.before) g.store.now g.table.now (c.before.before.before.before.before.before.before.before.before.before.before.before.before.before.before.before.before.requires (is_known c.before.before.before.before.before.before.before.before.before))
     (ap (within (λ u. state g.store.now (holding (table_in g.table.now)))) c.before.before.refuse3.ensures
-    ∙ serve_other (entry_size g.form) g.store.now (table_in g.table.now) g.cluster.0 g.unicast g.request.now (length g.reply.now) (is_one c.before.before.before.before.before.before.before.before.before.before) _ c.before.before.before.before.before.before.before.cluster-of.ensures c.before.before.before.before.if3.true)
+    ∙ serve_other g.store.now (table_in g.table.now) g.cluster.0 g.unicast g.request.now (length g.reply.now) (is_one c.before.before.before.before.before.before.before.before.before.before) _ c.before.before.before.before.before.before.before.cluster-of.ensures c.before.before.before.before.if3.true)
 
 read-header-requires : tie.Need-read-header-requires
 read-header-requires c κs = search rules
@@ -109,9 +108,9 @@ returns-4 : tie.Need-returns-4
 unfolding by_header
 returns-4 c =
     let g = c.before.before.before.before.before.before.before.before.before.before.before.before.before.before.before.before.before.before.before.before.args in
-    over_table (entry_size g.form) g.store.now g.table.now g.cluster.0 g.unicast g.request.now (length g.reply.now) g.known c.before.before.refuse4.result _ (is_known c.before.before.before.before.before.before.before.before.before.before.before.before) g.store.now g.table.now (c.before.before.before.before.before.before.before.before.before.before.before.before.before.before.before.before.before.before.before.before.requires (is_known c.before.before.before.before.before.before.before.before.before.before.before.before))
+    over_table g.store.now g.table.now g.cluster.0 g.unicast g.request.now (length g.reply.now) g.known c.before.before.refuse4.result _ (is_known c.before.before.before.before.before.before.before.before.before.before.before.before) g.store.now g.table.now (c.before.before.before.before.before.before.before.before.before.before.before.before.before.before.before.before.before.before.before.before.requires (is_known c.before.before.before.before.before.before.before.before.before.before.before.before))
     (ap (within (λ u. state g.store.now (holding (table_in g.table.now)))) c.before.before.refuse4.ensures
-    ∙ serve_read (entry_size g.form) g.store.now (table_in g.table.now) g.cluster.0 g.unicast g.request.now (length g.reply.now) (is_one c.before.before.before.before.before.before.before.before.before.before.before.before.before) _ c.before.before.before.before.before.before.before.before.before.before.cluster-of.ensures c.before.before.before.before.before.before.before.if3.false Short (sym c.before.before.before.before.enum_told.given.1 ∙ c.before.before.before.before.before.before.read-header.ensures))
+    ∙ serve_read g.store.now (table_in g.table.now) g.cluster.0 g.unicast g.request.now (length g.reply.now) (is_one c.before.before.before.before.before.before.before.before.before.before.before.before.before) _ c.before.before.before.before.before.before.before.before.before.before.cluster-of.ensures c.before.before.before.before.before.before.before.if3.false Short (sym c.before.before.before.before.enum_told.given.1 ∙ c.before.before.before.before.before.before.read-header.ensures))
 
 sub-serve-frame : tie.Need-overflow-sub-serve-frame
 sub-serve-frame c = omega (arith, inside c.before.before.before)
@@ -137,11 +136,11 @@ same-length-11 c = search rules
 returns-5 : tie.Need-returns-5
 unfolding by_header
 returns-5 c =
-    over_table (entry_size c.before.before.before.before.before.before.before.before.before.before.before.before.before.before.before.before.before.before.before.before.before.before.before.before.before.before.before.before.args.form) c.before.before.before.before.before.before.before.before.before.before.before.before.before.before.before.before.before.before.before.before.before.before.before.before.before.before.before.before.args.store.now c.before.before.before.before.before.before.before.before.before.before.before.before.before.before.before.before.before.before.before.before.before.before.before.before.before.before.before.before.args.table.now c.before.before.before.before.before.before.before.before.before.before.before.before.before.before.before.before.before.before.before.before.before.before.before.before.before.before.before.before.args.cluster.0 c.before.before.before.before.before.before.before.before.before.before.before.before.before.before.before.before.before.before.before.before.before.before.before.before.before.before.before.before.args.unicast c.before.before.before.before.before.before.before.before.before.before.before.before.before.before.before.before.before.before.before.before.before.before.before.before.before.before.before.before.args.request.now (length c.before.before.before.before.before.before.before.before.before.before.before.before.before.before.before.before.before.before.before.before.before.before.before.before.before.before.before.before.args.reply.now) c.before.before.before.before.before.before.before.before.before.before.before.before.before.before.before.before.before.before.before.before.before.before.before.before.before.before.before.before.args.known c.before.before.before.before.before.before.serve-frame.result _ (is_known c.before.before.before.before.before.before.before.before.before.before.before.before.before.before.before.before.before.before.before.before) _ _ c.before.before.before.before.before.before.serve-frame.ensures.0
+    over_table c.before.before.before.before.before.before.before.before.before.before.before.before.before.before.before.before.before.before.before.before.before.before.before.before.before.before.before.before.args.store.now c.before.before.before.before.before.before.before.before.before.before.before.before.before.before.before.before.before.before.before.before.before.before.before.before.before.before.before.before.args.table.now c.before.before.before.before.before.before.before.before.before.before.before.before.before.before.before.before.before.before.before.before.before.before.before.before.before.before.before.before.args.cluster.0 c.before.before.before.before.before.before.before.before.before.before.before.before.before.before.before.before.before.before.before.before.before.before.before.before.before.before.before.before.args.unicast c.before.before.before.before.before.before.before.before.before.before.before.before.before.before.before.before.before.before.before.before.before.before.before.before.before.before.before.before.args.request.now (length c.before.before.before.before.before.before.before.before.before.before.before.before.before.before.before.before.before.before.before.before.before.before.before.before.before.before.before.before.args.reply.now) c.before.before.before.before.before.before.before.before.before.before.before.before.before.before.before.before.before.before.before.before.before.before.before.before.before.before.before.before.args.known c.before.before.before.before.before.before.serve-frame.result _ (is_known c.before.before.before.before.before.before.before.before.before.before.before.before.before.before.before.before.before.before.before.before) _ _ c.before.before.before.before.before.before.serve-frame.ensures.0
     (c.before.before.before.before.before.before.serve-frame.ensures.1
-    ∙ ap (λ (l : List ℕ). typed (entry_size c.before.before.before.before.before.before.before.before.before.before.before.before.before.before.before.before.before.before.before.before.before.before.before.before.before.before.before.before.args.form) capacity c.before.before.before.before.before.before.before.before.before.before.before.before.before.before.before.before.before.before.before.before.before.before.before.before.before.before.before.before.args.store.now (holding (table_in c.before.before.before.before.before.before.before.before.before.before.before.before.before.before.before.before.before.before.before.before.before.before.before.before.before.before.before.before.args.table.now)) c.before.before.before.before.before.before.before.before.before.before.before.before.before.before.before.before.before.before.before.before.before.before.before.before.before.before.before.before.args.unicast c.before.before.before.before.before.before.before.before.before.before.before.before.h.given.0.0 l (length c.before.before.before.before.before.before.before.before.before.before.before.before.before.before.before.before.before.before.before.before.before.before.before.before.before.before.before.before.args.reply.now) (frame_type_of c.before.before.before.before.before.before.before.before.before.before.before.before.h.given.0.0.frame_control.0))
+    ∙ ap (λ (l : List ℕ). typed 8 capacity c.before.before.before.before.before.before.before.before.before.before.before.before.before.before.before.before.before.before.before.before.before.before.before.before.before.before.before.before.args.store.now (holding (table_in c.before.before.before.before.before.before.before.before.before.before.before.before.before.before.before.before.before.before.before.before.before.before.before.before.before.before.before.before.args.table.now)) c.before.before.before.before.before.before.before.before.before.before.before.before.before.before.before.before.before.before.before.before.before.before.before.before.before.before.before.before.args.unicast c.before.before.before.before.before.before.before.before.before.before.before.before.h.given.0.0 l (length c.before.before.before.before.before.before.before.before.before.before.before.before.before.before.before.before.before.before.before.before.before.before.before.before.before.before.before.before.args.reply.now) (frame_type_of c.before.before.before.before.before.before.before.before.before.before.before.before.h.given.0.0.frame_control.0))
     (take_all (length c.before.before.before.before.before.before.before.before.before.before.before.before.before.before.before.before.before.before.before.before.before.before.before.before.before.before.before.before.args.request.now - c.before.before.before.before.before.before.before.before.before.before.before.before.h.given.0.0.body) (drop c.before.before.before.before.before.before.before.before.before.before.before.before.h.given.0.0.body c.before.before.before.before.before.before.before.before.before.before.before.before.before.before.before.before.before.before.before.before.before.before.before.before.before.before.before.before.args.request.now) (simp length-drop (omega arith)))
-    ∙ serve_read (entry_size c.before.before.before.before.before.before.before.before.before.before.before.before.before.before.before.before.before.before.before.before.before.before.before.before.before.before.before.before.args.form) c.before.before.before.before.before.before.before.before.before.before.before.before.before.before.before.before.before.before.before.before.before.before.before.before.before.before.before.before.args.store.now (table_in c.before.before.before.before.before.before.before.before.before.before.before.before.before.before.before.before.before.before.before.before.before.before.before.before.before.before.before.before.args.table.now) c.before.before.before.before.before.before.before.before.before.before.before.before.before.before.before.before.before.before.before.before.before.before.before.before.before.before.before.before.args.cluster.0 c.before.before.before.before.before.before.before.before.before.before.before.before.before.before.before.before.before.before.before.before.before.before.before.before.before.before.before.before.args.unicast c.before.before.before.before.before.before.before.before.before.before.before.before.before.before.before.before.before.before.before.before.before.before.before.before.before.before.before.before.args.request.now (length c.before.before.before.before.before.before.before.before.before.before.before.before.before.before.before.before.before.before.before.before.before.before.before.before.before.before.before.before.args.reply.now) (is_one c.before.before.before.before.before.before.before.before.before.before.before.before.before.before.before.before.before.before.before.before.before) _ c.before.before.before.before.before.before.before.before.before.before.before.before.before.before.before.before.before.before.cluster-of.ensures c.before.before.before.before.before.before.before.before.before.before.before.before.before.before.before.if3.false (Header c.before.before.before.before.before.before.before.before.before.before.before.before.h.given.0.0) (sym (header c.before.before.before.before.before.before.before.before.before.before.before.before)))
+    ∙ serve_read c.before.before.before.before.before.before.before.before.before.before.before.before.before.before.before.before.before.before.before.before.before.before.before.before.before.before.before.before.args.store.now (table_in c.before.before.before.before.before.before.before.before.before.before.before.before.before.before.before.before.before.before.before.before.before.before.before.before.before.before.before.before.args.table.now) c.before.before.before.before.before.before.before.before.before.before.before.before.before.before.before.before.before.before.before.before.before.before.before.before.before.before.before.before.args.cluster.0 c.before.before.before.before.before.before.before.before.before.before.before.before.before.before.before.before.before.before.before.before.before.before.before.before.before.before.before.before.args.unicast c.before.before.before.before.before.before.before.before.before.before.before.before.before.before.before.before.before.before.before.before.before.before.before.before.before.before.before.before.args.request.now (length c.before.before.before.before.before.before.before.before.before.before.before.before.before.before.before.before.before.before.before.before.before.before.before.before.before.before.before.before.args.reply.now) (is_one c.before.before.before.before.before.before.before.before.before.before.before.before.before.before.before.before.before.before.before.before.before) _ c.before.before.before.before.before.before.before.before.before.before.before.before.before.before.before.before.before.before.cluster-of.ensures c.before.before.before.before.before.before.before.before.before.before.before.before.before.before.before.if3.false (Header c.before.before.before.before.before.before.before.before.before.before.before.before.h.given.0.0) (sym (header c.before.before.before.before.before.before.before.before.before.before.before.before)))
 
 pub serve-known-spec : {M : Type 1} → statement M
 serve-known-spec =

@@ -8,13 +8,13 @@ place-cut-requires : tie.Need-place-cut-requires
 place-cut-requires c κs = search rules
 
 returns : tie.Need-returns
-returns c = none_there _ _ _ _ _ c.before.before.before.requires c.before.place-cut.ensures c.if1.true
+returns c = none_there _ _ _ _ c.before.before.before.requires c.before.place-cut.ensures c.if1.true
 
 attribute-at-requires : tie.Need-attribute-at-requires
 attribute-at-requires c κs = search rules
 
 returns-2 : tie.Need-returns-2
-returns-2 c = one_there _ _ _ _ _ c.before.before.before.before.requires c.before.before.place-cut.ensures _ c.before.if1.false c.attribute-at.ensures
+returns-2 c = one_there _ _ _ _ c.before.before.before.before.requires c.before.before.place-cut.ensures _ c.before.if1.false c.attribute-at.ensures
 
 pub find-cut-spec : {M : Type 1} → statement M
 find-cut-spec =

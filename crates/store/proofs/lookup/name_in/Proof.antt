@@ -1,22 +1,57 @@
--- The name has its form's bits of the number. Assumes nothing.
-use Prim.Native.Nat.{ℕ}
-use mathlib.Core.Path.{◌∙◌}
-use lib.Bits.{bit_and}
-use Rattle.store.proofs.Contents.{name_bits}
+-- The two bytes are the number that the entry has first. Assumes nothing.
+use Prim.Native.Nat.{◌+◌, ◌*◌}
+use native.Mathlib.Omega.{arith}
+use Rattle.types.proofs.Numbers.{two_bytes}
+use Rattle.store.specs.Contents.{attribute_at}
 use borrow.Author.Rules.{rules}
 use Rattle.store.proofs.lookup.name_in.Statement.{statement}
 use Rattle.store.proofs.lookup.name_in.Tie as tie
 
-u32-in-requires : tie.Need-u32-in-requires
-u32-in-requires c κs = search rules
+mul-p : tie.Need-overflow-mul-p
+mul-p c = search rules
 
-name-bits-requires : tie.Need-name-bits-requires
-name-bits-requires c κs = search rules
+add-p : tie.Need-overflow-add-p
+add-p c = search rules
+
+shared-slice-read-result : tie.Need-shared-slice-read-result
+shared-slice-read-result c = search rules
+
+cast-result : tie.Need-overflow-cast-result
+cast-result c = omega (arith, c.shared-slice-known.given (4 + c.before.args.i * 8))
+
+add-result : tie.Need-overflow-add-result
+add-result c = search rules
+
+shared-slice-read-result-2 : tie.Need-shared-slice-read-result-2
+shared-slice-read-result-2 c = search rules
+
+cast-result-2 : tie.Need-overflow-cast-result-2
+cast-result-2 c = omega (arith, c.before.shared-slice-known.given (4 + c.before.before.args.i * 8 + 1))
+
+mul-result : tie.Need-overflow-mul-result
+mul-result c = omega (arith, c.before.shared-slice-known.given (4 + c.before.before.args.i * 8 + 1))
+
+add-result-2 : tie.Need-overflow-add-result-2
+add-result-2 c =
+    let known = c.before.shared-slice-known.given in
+    let p = 4 + c.before.before.args.i * 8 in
+    omega (arith, known p, known (p + 1))
 
 returns : tie.Need-returns
-returns c =
-    let g = c.before.before.before.args in
-    (λ i. bit_and (c.before.u32-in.ensures i) (c.name-bits.ensures i)) ∙ name_bits g.form g.s.now g.at (λ i. (c.before.before.shared-slice-known.given i).fits)
+unfolding attribute_at
+returns c = two_bytes c.before.before.args.s.now (4 + c.before.before.args.i * 8)
 
 pub name-in-spec : {M : Type 1} → statement M
-name-in-spec = tie.close (tie.spec u32-in-requires name-bits-requires returns)
+name-in-spec =
+    tie.close
+    (tie.spec
+    mul-p
+    add-p
+    shared-slice-read-result
+    cast-result
+    add-result
+    shared-slice-read-result-2
+    cast-result-2
+    mul-result
+    add-result-2
+    returns)

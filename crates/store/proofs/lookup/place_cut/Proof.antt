@@ -1,30 +1,28 @@
 -- The scan from here finds what the scan from the start finds. Assumes nothing.
 use Prim.Native.Nat.{◌-◌, ◌≤◌}
-use mathlib.Core.Path.{◌≡◌, refl, ap}
+use mathlib.Core.Path.{◌≡◌, refl}
 use native.Mathlib.Omega.{arith}
 use borrow.Author.Rules.{rules}
-use Rattle.store.specs.declared.lookup.Attribute.{Attribute}
-use Rattle.store.specs.Contents.{entry_size}
 use Rattle.store.proofs.Scan.{scan, here, further, nowhere}
 use Rattle.store.proofs.lookup.place_cut.Statement.{statement}
 use Rattle.store.proofs.lookup.place_cut.Tie as tie
 
 abbrev invariant-loop : tie.invariant-loop
-invariant-loop s form n wanted i₀ i = (i ≤ n) × (scan (entry_size form) s n i wanted ≡ scan (entry_size form) s n 0 wanted)
+invariant-loop s n wanted i₀ i = (i ≤ n) × (scan 8 s n i wanted ≡ scan 8 s n 0 wanted)
 
 abbrev decreases-loop : tie.decreases-loop
-decreases-loop s form n wanted i₀ i = n - i
+decreases-loop s n wanted i₀ i = n - i
 
 loop-holds : tie.Need-loop-init invariant-loop decreases-loop
 loop-holds c = (omega arith, refl)
 
-attribute-at-requires : tie.Need-attribute-at-requires invariant-loop decreases-loop
-attribute-at-requires c κs = search rules
+name-at-requires : tie.Need-name-at-requires invariant-loop decreases-loop
+name-at-requires c κs = search rules
 
 returns : tie.Need-returns invariant-loop decreases-loop
 returns c =
-    let b = c.before.before.before.before.before in
-    here _ _ _ _ _ b.loop.invariant.1 _ b.before.before.requires c.before.before.before.before.loop-test.true (ap (λ (a : Attribute). a.name.0) c.before.before.before.attribute-at.ensures) c.if1.true
+    let b = c.before.before.before.before in
+    here 8 _ _ _ _ b.loop.invariant.1 _ b.before.before.requires c.before.before.before.loop-test.true c.before.before.name-at.ensures c.if1.true
 
 add-i : tie.Need-overflow-add-i invariant-loop decreases-loop
 add-i c = omega arith
@@ -34,10 +32,10 @@ loop-less c = omega arith
 
 loop-again : tie.Need-loop-preserved invariant-loop decreases-loop
 loop-again c =
-    (omega arith, further _ _ _ _ _ c.before.before.before.before.before.loop.invariant.1 _ c.before.before.before.before.loop-test.true (ap (λ (a : Attribute). a.name.0) c.before.before.before.attribute-at.ensures) c.if1.false)
+    (omega arith, further 8 _ _ _ _ c.before.before.before.before.loop.invariant.1 _ c.before.before.before.loop-test.true c.before.before.name-at.ensures c.if1.false)
 
 returns-2 : tie.Need-returns-2 invariant-loop decreases-loop
-returns-2 c = nowhere _ _ _ _ _ c.before.loop.invariant.1 c.before.before.before.requires c.loop-test.false
+returns-2 c = nowhere 8 _ _ _ _ c.before.loop.invariant.1 c.before.before.before.requires c.loop-test.false
 
 pub place-cut-spec : {M : Type 1} → statement M
 place-cut-spec =
@@ -46,7 +44,7 @@ place-cut-spec =
     invariant-loop
     decreases-loop
     loop-holds
-    attribute-at-requires
+    name-at-requires
     returns
     add-i
     loop-less

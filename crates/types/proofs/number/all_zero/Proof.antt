@@ -1,69 +1,68 @@
--- Walked plainly, or in four strands and the few bytes behind them. Assumes nothing.
-use Prim.Native.Nat.{ℕ, ◌-◌, ◌*◌, ◌/◌}
-use mathlib.Core.Path.{◌≡◌, sym, ap, ◌∙◌}
-use mathlib.Core.Bool.{Bool, true, false, ◌&&◌}
-use mathlib.Core.List.{List}
+-- No bit is set so far exactly where the bytes passed are 0. Assumes nothing.
+use Prim.Native.Nat.{ℕ, zero, suc, ◌+◌, ◌-◌, ◌≤◌, ◌<◌}
+use mathlib.Core.Path.{◌≡◌, refl, sym, ap, ◌∙◌}
+use mathlib.Core.Bool.{Bool, ◌&&◌, and-true, and_assoc}
+use mathlib.Core.List.{List, [], ◌∷◌, ◌++◌}
 use native.Mathlib.Omega.{arith}
-use lib.ListN.{length, take, drop, length-drop, take-append-drop}
-use lib.Seq.{take_all}
-use borrow.Author.Rules.{rules}
+use native.Mathlib.Numerals.{add-one}
+use lib.Bits.{bit_or, or_add_and, and_le_r}
+use lib.ListN.{length, get_or, take}
+use lib.Seq.{take-suc, take_all}
+use lib.Dec.{eqb}
+use borrow.Author.Tests.{ne_eqb}
 use Rattle.types.specs.Number.{all_zero}
-use Rattle.types.proofs.Zeros.{zero_append}
 use Rattle.types.proofs.number.all_zero.Statement.{statement}
 use Rattle.types.proofs.number.all_zero.Tie as tie
 
--- what is found in front and behind
-split : (s : List ℕ) (n : ℕ) (b : Bool) → b ≡ all_zero (take n s) → (b && all_zero (drop n s)) ≡ all_zero s
-split s n b e = ap (λ (t : Bool). t && all_zero (drop n s)) e ∙ sym (zero_append (take n s) (drop n s)) ∙ ap all_zero (take-append-drop n s)
+-- one byte more
+snoc : (l : List ℕ) (b : ℕ) → all_zero (l ++ (b ∷ [])) ≡ (all_zero l && eqb b 0)
+unfolding all_zero
+snoc [] b = and-true (eqb b 0)
+snoc (x ∷ l) b = ap (λ r. eqb x 0 && r) (snoc l b) ∙ sym (and_assoc (eqb x 0) (all_zero l) (eqb b 0))
 
-none-set-requires : tie.Need-none-set-requires
-none-set-requires c κs = search rules
+next : (s : List ℕ) (i : ℕ) → i < length s → all_zero (take (i + 1) s) ≡ (all_zero (take i s) && eqb (get_or s i 0) 0)
+next s i h = rw (add-one i, take-suc s i 0 h) (snoc (take i s) (get_or s i 0))
 
-returns : tie.Need-returns
-returns c = c.none-set.ensures
+-- two numbers have no bit set exactly where each has none
+no-bit : (a b : ℕ) → eqb (bit_or a b) 0 ≡ (eqb a 0 && eqb b 0)
+no-bit zero b = refl
+no-bit (suc a) b =
+    ne_eqb (bit_or (suc a) b) 0 (λ e. omega (arith, e, or_add_and (suc a) b, and_le_r (suc a) b))
+    ∙ sym (ap (λ (t : Bool). t && eqb b 0) (ne_eqb (suc a) 0 (λ e. omega arith)))
 
-none-set-in-four-requires : tie.Need-none-set-in-four-requires
-none-set-in-four-requires c κs = search rules
+more : (s : List ℕ) (i bits : ℕ) → i < length s → eqb bits 0 ≡ all_zero (take i s) → eqb (bit_or bits (get_or s i 0)) 0 ≡ all_zero (take (i + 1) s)
+more s i bits h e = no-bit bits (get_or s i 0) ∙ ap (λ (b : Bool). b && eqb (get_or s i 0) 0) e ∙ sym (next s i h)
 
-mul-none-set : tie.Need-overflow-mul-none-set
-mul-none-set c = search rules
+abbrev invariant-loop : tie.invariant-loop
+invariant-loop s bits₀ i₀ bits i = (i ≤ length s) × (eqb bits 0 ≡ all_zero (take i s))
 
-sub-none-set : tie.Need-overflow-sub-none-set
-sub-none-set c = search rules
+abbrev decreases-loop : tie.decreases-loop
+decreases-loop s bits₀ i₀ bits i = length s - i
 
-part-none-set-start : tie.Need-slice-bounds-none-set-start
-part-none-set-start c = search rules
+loop-holds : tie.Need-loop-init invariant-loop decreases-loop
+unfolding all_zero
+loop-holds c = (omega arith, refl)
 
-part-none-set-end : tie.Need-slice-bounds-none-set-end
-part-none-set-end c = search rules
+shared-slice-read-bits : tie.Need-shared-slice-read-bits invariant-loop decreases-loop
+shared-slice-read-bits c = omega arith
 
-none-set-requires-2 : tie.Need-none-set-requires-2
-none-set-requires-2 c κs = search rules
+add-i : tie.Need-overflow-add-i invariant-loop decreases-loop
+add-i c = omega arith
 
-returns-2 : tie.Need-returns-2
-returns-2 c =
-    let s = c.before.before.before.before.before.before.args.s.now in
-    let n = 4 * (length s / 4) in
-    c.none-set2.ensures
-    ∙ ap all_zero (take_all (length s - n) (drop n s) (simp length-drop (omega arith)))
-    ∙ split s n true (sym c.before.before.if2.true ∙ c.before.before.before.none-set-in-four.ensures)
+loop-less : tie.Need-loop-smaller invariant-loop decreases-loop
+loop-less c = omega arith
 
-returns-3 : tie.Need-returns-3
-returns-3 c =
-    let s = c.before.before.before.before.args.s.now in
-    split s (4 * (length s / 4)) false (sym c.if2.false ∙ c.before.none-set-in-four.ensures)
+loop-again : tie.Need-loop-preserved invariant-loop decreases-loop
+loop-again c =
+    let l = c.before.before.loop in
+    (omega arith, more c.before.before.before.args.s.now l.i l.bits (omega arith) l.invariant.1)
+
+returns : tie.Need-returns invariant-loop decreases-loop
+returns c =
+    let s = c.before.before.args.s.now in
+    c.before.loop.invariant.1 ∙ ap all_zero (take_all c.before.loop.i s (omega arith))
 
 pub all-zero-spec : {M : Type 1} → statement M
 all-zero-spec =
     tie.close
-    (tie.spec
-    none-set-requires
-    returns
-    none-set-in-four-requires
-    mul-none-set
-    sub-none-set
-    part-none-set-start
-    part-none-set-end
-    none-set-requires-2
-    returns-2
-    returns-3)
+    (tie.spec invariant-loop decreases-loop loop-holds shared-slice-read-bits add-i loop-less loop-again returns)

@@ -3,7 +3,6 @@ use lib.ListN.{length}
 use Rattle.frame.specs.declared.command_identifier.CommandIdentifier.TheVariants.{WriteAttributesResponse}
 use Rattle.frame.specs.Failures.{performed}
 use Rattle.frame.proofs.Passes.{headed_past, headed_performs, performs}
-use Rattle.store.specs.Contents.{entry_size}
 use Rattle.write.specs.Request.{records}
 use Rattle.write.specs.Write.{writing, write_attributes}
 use Rattle.write.proofs.Turns.{some}
@@ -33,7 +32,7 @@ returns c =
     let b = c.before.before.before.before.before.before.before.before.begin-reply in
     let y = c.before.before.refuse in
     let n = length a.reply.now in
-    headed_past a.request WriteAttributesResponse a.store.now n b.result b.new.0 b.ensures (performed (writing (entry_size a.form) a.request) (records a.body.now) a.store.now n) c.before.before.before.before.enum_told.given.1 y.result y.new.0 y.ensures
+    headed_past a.request WriteAttributesResponse a.store.now n b.result b.new.0 b.ensures (performed (writing 8 a.request) (records a.body.now) a.store.now n) c.before.before.before.before.enum_told.given.1 y.result y.new.0 y.ensures
 
 pass-records-requires : tie.Need-pass-records-requires
 pass-records-requires c κs = search rules
@@ -55,8 +54,8 @@ returns-2 c =
     let x = c.before.before.before.before.before.before.before.before.before.before.before.before.begun.given in
     let f = c.before.before.before.before.before.before.before.before.pass-records in
     let y = c.before.before.conclude in
-    headed_performs a.request WriteAttributesResponse a.store.now (length a.reply.now) b.result b.new.0 b.ensures (writing (entry_size a.form) a.request) (records a.body.now) x.0.0 x.1 y.result f.new.0 y.new.0
-    (performs (writing (entry_size a.form) a.request) some (records a.body.now) x.0.0 a.store.now b.new.0 f.result f.new.0 f.new.1.1.1.1.1.0 f.ensures f.auto.1.1.1.1.1.0 y.result y.new.0 y.ensures)
+    headed_performs a.request WriteAttributesResponse a.store.now (length a.reply.now) b.result b.new.0 b.ensures (writing 8 a.request) (records a.body.now) x.0.0 x.1 y.result f.new.0 y.new.0
+    (performs (writing 8 a.request) some (records a.body.now) x.0.0 a.store.now b.new.0 f.result f.new.0 f.new.1.1.1.1.0 f.ensures f.auto.1.1.1.1.0 y.result y.new.0 y.ensures)
 
 pub write-attributes-spec : {M : Type 1} → statement M
 write-attributes-spec =

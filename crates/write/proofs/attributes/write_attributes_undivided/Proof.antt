@@ -7,7 +7,6 @@ use mathlib.Core.Logic.{⊎_elim}
 use lib.ListN.{length}
 use Rattle.frame.specs.declared.command_identifier.CommandIdentifier.TheVariants.{WriteAttributesResponse}
 use Rattle.frame.proofs.Passes.{headed_past}
-use Rattle.store.specs.Contents.{entry_size}
 use Rattle.write.specs.Write.{written_all, write_undivided}
 use Rattle.write.proofs.Undivided.{undivided_run}
 use borrow.Author.Rules.{rules}
@@ -15,10 +14,10 @@ use Rattle.write.proofs.attributes.write_attributes_undivided.Statement.{stateme
 use Rattle.write.proofs.attributes.write_attributes_undivided.Tie as tie
 
 -- what stands in the store behind the two passes
-stored : (c : tie.Joined1) → c.if1.store ≡ cond c.before.is-clean.result (written_all (entry_size c.before.before.before.before.before.before.before.before.before.before.before.before.before.before.before.before.before.before.before.args.form) c.before.before.before.before.before.before.before.before.before.before.before.before.before.before.before.before.before.before.before.args.request c.before.before.before.before.before.before.before.before.before.before.before.before.before.before.before.before.before.before.before.args.body.now c.before.before.before.before.before.before.pass-records.new.0) c.before.before.before.before.before.before.pass-records.new.0
+stored : (c : tie.Joined1) → c.if1.store ≡ cond c.before.is-clean.result (written_all 8 c.before.before.before.before.before.before.before.before.before.before.before.before.before.before.before.before.before.before.before.args.request c.before.before.before.before.before.before.before.before.before.before.before.before.before.before.before.before.before.before.before.args.body.now c.before.before.before.before.before.before.pass-records.new.0) c.before.before.before.before.before.before.pass-records.new.0
 stored c =
     let before : List ℕ = c.before.before.before.before.before.before.pass-records.new.0 in
-    let by : Bool → List ℕ = λ b. cond b (written_all (entry_size c.before.before.before.before.before.before.before.before.before.before.before.before.before.before.before.before.before.before.before.args.form) c.before.before.before.before.before.before.before.before.before.before.before.before.before.before.before.before.before.before.before.args.request c.before.before.before.before.before.before.before.before.before.before.before.before.before.before.before.before.before.before.before.args.body.now before) before in
+    let by : Bool → List ℕ = λ b. cond b (written_all 8 c.before.before.before.before.before.before.before.before.before.before.before.before.before.before.before.before.before.before.before.args.request c.before.before.before.before.before.before.before.before.before.before.before.before.before.before.before.before.before.before.before.args.body.now before) before in
     ⊎_elim (λ h. h.5 ∙ h.2.ensures ∙ ap by (sym h.0.taken)) (λ h. h.1 ∙ ap by (sym h.0.left)) c.if1.branch
 
 as_long : (c : tie.Joined1) → length c.if1.store ≡ length c.before.before.before.before.before.before.pass-records.new.0
@@ -72,7 +71,7 @@ returns-2 c =
     let x = c.before.before.before.before.before.before.before.before.before.before.before.before.before.before.begun.given in
     let f = c.before.before.before.before.before.before.before.before.before.before.pass-records in
     let y = c.before.before.conclude in
-    undivided_run (entry_size a.form) a.request a.store.now (length a.reply.now) b.result b.new.0 b.ensures a.body.now x.0.0 x.1 f.result f.new.0 f.new.1.1.1.1.1.0 f.ensures f.auto.1.1.1.1.1.0
+    undivided_run a.request a.store.now (length a.reply.now) b.result b.new.0 b.ensures a.body.now x.0.0 x.1 f.result f.new.0 f.new.1.1.1.1.0 f.ensures f.auto.1.1.1.1.0
     c.before.before.before.before.before.is-clean.result c.before.before.before.before.before.is-clean.ensures c.before.before.before.before.if1.store (stored c.before.before.before.before) y.result y.new.0 y.ensures
 
 pub write-attributes-undivided-spec : {M : Type 1} → statement M

@@ -7,7 +7,6 @@ use borrow.Author.Rules.{rules}
 use Rattle.frame.specs.Status.{status_code}
 use Rattle.frame.specs.Inside.Passes.{TookOne}
 use Rattle.frame.proofs.Passes.{took_ahead}
-use Rattle.store.specs.Contents.{entry_size}
 use Rattle.write.specs.declared.pass.Step.{Step}
 use Rattle.write.specs.Request.{record_at}
 use Rattle.write.specs.Reply.{Failure, failure}
@@ -19,14 +18,14 @@ use Rattle.write.proofs.pass.apply_write_records.Statement.{statement}
 use Rattle.write.proofs.pass.apply_write_records.Tie as tie
 
 abbrev invariant-loop : tie.invariant-loop
-invariant-loop store₀ form request body at₀ store at = Silent (writing (entry_size form) request) body store₀ store at
+invariant-loop store₀ request body at₀ store at = Silent (writing 8 request) body store₀ store at
 
 abbrev decreases-loop : tie.decreases-loop
-decreases-loop store₀ form request body at₀ store at = length body - at
+decreases-loop store₀ request body at₀ store at = length body - at
 
 -- what the loop's turn says of an answer
 abbrev Says : tie.After-slice-known2 invariant-loop decreases-loop → Step → Type 0
-Says c r = Took (writing (entry_size c.before.before.before.before.before.before.before.before.args.form) c.before.before.before.before.before.before.before.before.args.request) c.before.before.before.before.before.loop.store c.before.before.before.before.before.before.before.before.args.body.now c.before.before.before.before.before.loop.at r c.before.before.record-turn.new.0
+Says c r = Took (writing 8 c.before.before.before.before.before.before.before.before.args.request) c.before.before.before.before.before.loop.store c.before.before.before.before.before.before.before.before.args.body.now c.before.before.before.before.before.loop.at r c.before.before.record-turn.new.0
 
 did : (c : tie.After-slice-known2 invariant-loop decreases-loop) → (r : Step) → c.before.before.record-turn.result ≡ r → Says c r
 did c r e = subst (Says c) e c.before.before.record-turn.ensures
@@ -38,11 +37,11 @@ End c = c.end.given.0.0
 abbrev Fails : tie.After-end invariant-loop decreases-loop → Failure
 Fails c = failure (status_code c.end.given.0.1.0) c.end.given.0.1.1.0.0
 
-took : (c : tie.After-end invariant-loop decreases-loop) → TookOne (writing (entry_size c.before.before.before.before.before.before.before.before.before.before.args.form) c.before.before.before.before.before.before.before.before.before.before.args.request) (record_at c.before.before.before.before.before.before.before.before.before.before.args.body.now) c.before.before.before.before.before.before.before.loop.store c.before.before.before.before.before.before.before.loop.at (End c) c.end.given.0.1.0 (Fails c) c.before.before.before.before.record-turn.new.0
+took : (c : tie.After-end invariant-loop decreases-loop) → TookOne (writing 8 c.before.before.before.before.before.before.before.before.before.before.args.request) (record_at c.before.before.before.before.before.before.before.before.before.before.args.body.now) c.before.before.before.before.before.before.before.loop.store c.before.before.before.before.before.before.before.loop.at (End c) c.end.given.0.1.0 (Fails c) c.before.before.before.before.record-turn.new.0
 took c = did c.before.before (Step.Done (End c) c.end.given.0.1.0 c.end.given.0.1.1.0) c.end.given.1
 
 loop-holds : tie.Need-loop-init invariant-loop decreases-loop
-loop-holds c = silent_first (writing (entry_size c.before.before.args.form) c.before.before.args.request) c.before.before.args.body.now c.before.before.args.store.now
+loop-holds c = silent_first (writing 8 c.before.before.args.request) c.before.before.args.body.now c.before.before.args.store.now
 
 record-turn-requires : tie.Need-record-turn-requires invariant-loop decreases-loop
 record-turn-requires c κs = search rules

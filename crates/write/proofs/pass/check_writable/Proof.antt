@@ -3,16 +3,16 @@ use mathlib.Core.Path.{◌≡◌, sym, ap, ◌∙◌}
 use mathlib.Core.List.{List}
 use Prim.Native.Nat.{ℕ}
 use Rattle.store.specs.declared.write.Checked.{Checked}
-use Rattle.store.specs.Contents.{entry_size, find_of}
+use Rattle.store.specs.Contents.{find_of}
 use Rattle.store.specs.Write.{check_of, write_by, write_of}
 use borrow.Author.Rules.{rules}
 use Rattle.write.proofs.pass.check_writable.Statement.{statement}
 use Rattle.write.proofs.pass.check_writable.Tie as tie
 
 -- what a write says is what its checks say
-status-by : (form : ℕ) (s : List ℕ) (name t : ℕ) (v : List ℕ) (x y : Checked) → y ≡ x → y ≡ check_of (find_of form s name) t v → (write_by s x v).status ≡ (write_of form s name t v).status
+status-by : (s : List ℕ) (name t : ℕ) (v : List ℕ) (x : Checked) → x ≡ check_of (find_of 8 s name) t v → (write_by s x v).status ≡ (write_of 8 s name t v).status
 unfolding write_of
-status-by form s name t v x y e f = ap (λ (z : Checked). (write_by s z v).status) (sym e ∙ f)
+status-by s name t v x e = ap (λ (y : Checked). (write_by s y v).status) e
 
 check-write-requires : tie.Need-check-write-requires
 check-write-requires c κs = search rules
@@ -26,12 +26,12 @@ enum_told c = search rules
 returns : tie.Need-returns
 returns c =
     let a = c.before.before.before.before.before.args in
-    status-by (entry_size a.form) a.s.now a.name.0 a.type-id.0 a.value.now _ _ c.enum_told.given.1 c.before.before.check-write.ensures
+    status-by a.s.now a.name.0 a.type-id.0 a.value.now _ (sym c.enum_told.given.1 ∙ c.before.before.check-write.ensures)
 
 returns-2 : tie.Need-returns-2
 returns-2 c =
     let a = c.before.before.before.before.before.before.args in
-    status-by (entry_size a.form) a.s.now a.name.0 a.type-id.0 a.value.now _ _ c.before.why.given.1 c.before.before.before.check-write.ensures
+    status-by a.s.now a.name.0 a.type-id.0 a.value.now _ (sym c.before.why.given.1 ∙ c.before.before.before.check-write.ensures)
 
 pub check-writable-spec : {M : Type 1} → statement M
 check-writable-spec =

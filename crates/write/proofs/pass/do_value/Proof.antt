@@ -1,5 +1,4 @@
 -- The task says which. Assumes nothing.
-use Rattle.store.specs.Contents.{entry_size}
 use Rattle.store.specs.Write.{wrote}
 use Rattle.write.proofs.Turns.{checked_is, written_is}
 use borrow.Author.Rules.{rules}
@@ -24,7 +23,7 @@ same_length c = search rules
 returns : tie.Need-returns
 returns c =
     let a = c.before.before.before.before.before.before.args in
-    checked_is a.task (entry_size a.form) a.s.now a.name.0 a.type-id.0 a.value.now c.before.before.enum_told.given.1 c.check-writable.result c.check-writable.ensures
+    checked_is a.task 8 a.s.now a.name.0 a.type-id.0 a.value.now c.before.before.enum_told.given.1 c.check-writable.result c.check-writable.ensures
 
 same-length-2 : tie.Need-same-length-2
 same-length-2 c = search rules
@@ -32,7 +31,7 @@ same-length-2 c = search rules
 returns-2 : tie.Need-returns-2
 returns-2 c =
     let a = c.before.before.before.before.before.before.before.before.args in
-    written_is a.task (entry_size a.form) a.s.now a.name.0 a.type-id.0 a.value.now c.before.before.before.before.enum-told2.given.1 (wrote c.before.before.write.result c.before.before.write.new.0) c.before.before.write.ensures
+    written_is a.task 8 a.s.now a.name.0 a.type-id.0 a.value.now c.before.before.before.before.enum-told2.given.1 (wrote c.before.before.write.result c.before.before.write.new.0) c.before.before.write.ensures
 
 pub do-value-spec : {M : Type 1} → statement M
 do-value-spec =

@@ -7,7 +7,6 @@ use borrow.Author.Rules.{rules}
 use Rattle.frame.specs.Status.{status_code}
 use Rattle.frame.specs.Inside.Passes.{TookOne}
 use Rattle.frame.proofs.Passes.{Going, going_first, going_done, going_cut, going_more, going_stop, took_ahead}
-use Rattle.store.specs.Contents.{entry_size}
 use Rattle.write.specs.declared.pass.Step.{Step}
 use Rattle.write.specs.Request.{record_at, records_at}
 use Rattle.write.specs.Reply.{Failure, failure}
@@ -17,15 +16,15 @@ use Rattle.write.proofs.pass.pass_records.Statement.{statement}
 use Rattle.write.proofs.pass.pass_records.Tie as tie
 
 abbrev invariant-loop : tie.invariant-loop
-invariant-loop store₀ form task request body reply₀ start at₀ out₀ store reply at out =
-    (length store ≡ length store₀) × Going (doing_of task (entry_size form) request) (record_at body) (length body) start store₀ reply₀ store reply at out
+invariant-loop store₀ task request body reply₀ start at₀ out₀ store reply at out =
+    (length store ≡ length store₀) × Going (doing_of task 8 request) (record_at body) (length body) start store₀ reply₀ store reply at out
 
 abbrev decreases-loop : tie.decreases-loop
-decreases-loop store₀ form task request body reply₀ start at₀ out₀ store reply at out = length body - at
+decreases-loop store₀ task request body reply₀ start at₀ out₀ store reply at out = length body - at
 
 -- what the loop's turn says of an answer
 abbrev Says : tie.After-slice-known3 invariant-loop decreases-loop → Step → Type 0
-Says c r = Took (doing_of c.before.before.before.before.before.before.before.before.before.args.task (entry_size c.before.before.before.before.before.before.before.before.before.args.form) c.before.before.before.before.before.before.before.before.before.args.request) c.before.before.before.before.before.loop.store c.before.before.before.before.before.before.before.before.before.args.body.now c.before.before.before.before.before.loop.at r c.before.before.record-turn.new.0
+Says c r = Took (doing_of c.before.before.before.before.before.before.before.before.before.args.task 8 c.before.before.before.before.before.before.before.before.before.args.request) c.before.before.before.before.before.loop.store c.before.before.before.before.before.before.before.before.before.args.body.now c.before.before.before.before.before.loop.at r c.before.before.record-turn.new.0
 
 did : (c : tie.After-slice-known3 invariant-loop decreases-loop) → (r : Step) → c.before.before.record-turn.result ≡ r → Says c r
 did c r e = subst (Says c) e c.before.before.record-turn.ensures
@@ -37,13 +36,13 @@ End c = c.end.given.0.0
 abbrev Fails : tie.After-end invariant-loop decreases-loop → Failure
 Fails c = failure (status_code c.end.given.0.1.0) c.end.given.0.1.1.0.0
 
-took : (c : tie.After-end invariant-loop decreases-loop) → TookOne (doing_of c.before.before.before.before.before.before.before.before.before.before.before.args.task (entry_size c.before.before.before.before.before.before.before.before.before.before.before.args.form) c.before.before.before.before.before.before.before.before.before.before.before.args.request) (record_at c.before.before.before.before.before.before.before.before.before.before.before.args.body.now) c.before.before.before.before.before.before.before.loop.store c.before.before.before.before.before.before.before.loop.at (End c) c.end.given.0.1.0 (Fails c) c.before.before.before.before.record-turn.new.0
+took : (c : tie.After-end invariant-loop decreases-loop) → TookOne (doing_of c.before.before.before.before.before.before.before.before.before.before.before.args.task 8 c.before.before.before.before.before.before.before.before.before.before.before.args.request) (record_at c.before.before.before.before.before.before.before.before.before.before.before.args.body.now) c.before.before.before.before.before.before.before.loop.store c.before.before.before.before.before.before.before.loop.at (End c) c.end.given.0.1.0 (Fails c) c.before.before.before.before.record-turn.new.0
 took c = did c.before.before (Step.Done (End c) c.end.given.0.1.0 c.end.given.0.1.1.0) c.end.given.1
 
 loop-holds : tie.Need-loop-init invariant-loop decreases-loop
 loop-holds c =
     let a = c.before.before.before.args in
-    (refl, going_first (doing_of a.task (entry_size a.form) a.request) (record_at a.body.now) (length a.body.now) a.start a.store.now a.reply.now)
+    (refl, going_first (doing_of a.task 8 a.request) (record_at a.body.now) (length a.body.now) a.start a.store.now a.reply.now)
 
 record-turn-requires : tie.Need-record-turn-requires invariant-loop decreases-loop
 record-turn-requires c κs = search rules

@@ -4,7 +4,6 @@ use Prim.Native.Nat.{ℕ, ◌+◌, ◌-◌, ◌≤◌}
 use native.Mathlib.Omega.{arith}
 use lib.ListN.{length, take, drop}
 use Rattle.frame.specs.Walk.{item}
-use Rattle.store.specs.Contents.{entry_size}
 use Rattle.write.specs.Request.{WriteRecord, record_at}
 use Rattle.write.specs.Inside.{item_of}
 use Rattle.write.proofs.Items.{record_within}
@@ -66,7 +65,7 @@ returns-2 c =
     let x = c.before.before.before.before.before.before.before in
     let n = c.before.before.before.before.before.name_of in
     let y = c.before.before.do-value in
-    took_one a.task (entry_size a.form) a.request a.store.now a.body.now a.at (End x) (Read x) n.result.0 y.result y.new.0 (is x) n.ensures y.ensures
+    took_one a.task 8 a.request a.store.now a.body.now a.at (End x) (Read x) n.result.0 y.result y.new.0 (is x) n.ensures y.ensures
 
 pub record-turn-spec : {M : Type 1} → statement M
 record-turn-spec =

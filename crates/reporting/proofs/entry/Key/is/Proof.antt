@@ -4,13 +4,10 @@ use Rattle.reporting.proofs.entry.Key.is.Statement.{statement}
 use Rattle.reporting.proofs.entry.Key.is.Tie as tie
 
 returns : tie.Need-returns
-returns c = simp (ne_eqb _ _ c.if1.true)
+returns c = simp (eq-eqb _ _ c.before.before.if1.true)
 
 returns-2 : tie.Need-returns-2
-returns-2 c = simp (eq-eqb _ _ c.before.before.before.before.before.if1.false, eq-eqb _ _ c.before.before.if2.true)
-
-returns-3 : tie.Need-returns-3
-returns-3 c = simp (eq-eqb _ _ c.before.before.before.if1.false, ne_eqb _ _ c.if2.false)
+returns-2 c = simp (ne_eqb _ _ c.if1.false)
 
 pub is-spec : {M : Type 1} → statement M
-is-spec = tie.close (tie.spec returns returns-2 returns-3)
+is-spec = tie.close (tie.spec returns returns-2)

@@ -1,1 +1,0 @@
-// Two stores that have the same attributes of a code answer that code's requests alike: claims and their proofs, without code.

@@ -1,0 +1,44 @@
+-- Two bytes are a number of width 2. Assumes nothing.
+use borrow.Author.Rules.{rules}
+use native.Mathlib.Omega.{arith}
+use Prim.Native.Nat.{◌+◌}
+use Rattle.types.proofs.Numbers.{two_bytes}
+use Rattle.reporting.proofs.numbers.u16_in.Statement.{statement}
+use Rattle.reporting.proofs.numbers.u16_in.Tie as tie
+
+shared-slice-read-low : tie.Need-shared-slice-read-low
+shared-slice-read-low c = search rules
+
+cast-low : tie.Need-overflow-cast-low
+cast-low c = omega (arith, c.shared-slice-known.given c.before.args.at)
+
+add-high : tie.Need-overflow-add-high
+add-high c = search rules
+
+shared-slice-read-high : tie.Need-shared-slice-read-high
+shared-slice-read-high c = search rules
+
+cast-high : tie.Need-overflow-cast-high
+cast-high c = omega (arith, c.shared-slice-known2.given (c.before.before.args.at + 1))
+
+mul-result : tie.Need-overflow-mul-result
+mul-result c = omega (arith, c.shared-slice-known2.given (c.before.before.args.at + 1))
+
+add-result : tie.Need-overflow-add-result
+add-result c = omega (arith, c.before.shared-slice-known.given c.before.before.args.at, c.shared-slice-known2.given (c.before.before.args.at + 1))
+
+returns : tie.Need-returns
+returns c = two_bytes c.before.before.args.bytes.now c.before.before.args.at
+
+pub u16-in-spec : {M : Type 1} → statement M
+u16-in-spec =
+    tie.close
+    (tie.spec
+    shared-slice-read-low
+    cast-low
+    add-high
+    shared-slice-read-high
+    cast-high
+    mul-result
+    add-result
+    returns)
