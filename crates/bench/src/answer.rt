@@ -11,6 +11,13 @@ use store::layout::part;
 use store::lookup::cluster_of;
 use types::number::u16_at;
 
+// Room for the longest store.
+fn space() -> [u8; 4096]
+    ensures { 4096 ≡ length result }
+{
+    [0; 4096]
+}
+
 // Serves the request over a copy of the store: a store is lent to be changed. One of more than 4096 bytes is none.
 fn served(store: &[u8], request: &[u8], out: &mut [u8]) -> usize
     requires { 130 ≤ length out.old }
@@ -20,7 +27,7 @@ fn served(store: &[u8], request: &[u8], out: &mut [u8]) -> usize
     if 4096 < n {
         return put_number(out, Refusal::NotAStore.number());
     }
-    let mut copy = io::buffer();
+    let mut copy = space();
     put_run(&mut copy, 0, store);
     let mut reply = [0u8; 64];
     let after = handle_request(

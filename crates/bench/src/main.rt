@@ -1,12 +1,15 @@
 // Document 01's bench program: reads a two-byte store length, the store and a request from standard input, and writes what the
 // server says to it: number, space, reply hex; of a refusal the number alone. Nothing else, and no newline.
-ghost use Rattle.std.specs.Prelude.{◌≡◌, length};
+#![tactic(auto)]
+
+ghost use Rattle.std.specs.Prelude.{◌≡◌, ◌≤◌, length, IfOk};
+
+use std::io::{self, Print, Read};
 
 mod answer;
 mod text;
 
 use answer::bench;
-use libc::{STDERR_FILENO, STDIN_FILENO, STDOUT_FILENO};
 use store::layout::part;
 
 // The longest input: two bytes, 65,535 of store, 65,535 of request.
@@ -19,17 +22,28 @@ fn space() -> [u8; 131073]
     [0; 131073]
 }
 
-fn main() {
+// Reads until the buffer is full or the input ends, and says how many bytes came.
+fn read_full(input: &mut impl Read, buffer: &mut [u8]) -> io::Result<usize>
+    ensures { IfOk result (λ n. n ≤ length buffer.new) }
+{
+    let mut done = 0;
+    while done < buffer.len() {
+        let n = input.read(&mut buffer[done..])?;
+        if n == 0 {
+            break;
+        }
+        done += n;
+    }
+    Ok(done)
+}
+
+fn main(rt: HostRuntime) -> io::Result<()> {
     let mut input = space();
-    let n = io::read_full(STDIN_FILENO, &mut input);
+    let n = read_full(&mut rt.stdin(), &mut input)?;
     if LONGEST < n {
-        io::write_all(
-            STDERR_FILENO,
-            b"bench: the input has more than 131072 bytes\n",
-        );
-        return;
+        return rt.stderr().write_all(b"bench: the input has more than 131072 bytes\n");
     }
     let mut out = [0u8; 130];
     let len = bench(&input[..n], &mut out);
-    io::write_all(STDOUT_FILENO, part(&out, 0, len));
+    rt.stdout().write_all(part(&out, 0, len))
 }

@@ -25,7 +25,7 @@ use types::ids::{AttributeId, TypeId};
 use types::number::{byte_at, le_bytes, u16_at};
 
 // What is asked, and where the next one starts; or that it is cut.
-#[derive(Drop)]
+#[derive(Clone, Copy)]
 enum NextAsked {
     Asked(u8, AttributeId, usize),
     Cut,

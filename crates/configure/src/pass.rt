@@ -18,7 +18,7 @@ use reporting::lent::{clear_in, configure_in};
 use types::ids::AttributeId;
 
 // A record, where the next one starts, and what is to be done; or none that can be read.
-#[derive(Drop)]
+#[derive(Clone, Copy)]
 enum Turn {
     Read {
         end: usize,

@@ -12,7 +12,7 @@ use types::number::u16_at;
 pub(crate) const DIRECTION_REPORTED: u8 = 0x00;
 
 // A record of the request and where the next one starts, or none that can be read.
-#[derive(Drop)]
+#[derive(Clone, Copy)]
 pub(crate) enum Next {
     // Of what this device receives: the two bytes of timeout are passed over.
     Received {

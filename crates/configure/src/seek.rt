@@ -10,7 +10,7 @@ use store::lookup::{Found, find, is_reportable, name_of};
 use types::ids::{AttributeId, TypeId};
 
 // What is to be looked up in the table, or the failure that is sent without it.
-#[derive(Drop)]
+#[derive(Clone, Copy)]
 pub(crate) enum Sought {
     Fails(Status),
     Entry(Key, TypeId),

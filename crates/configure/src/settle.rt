@@ -17,7 +17,7 @@ use store::lookup::{Found, find, is_reportable, name_of};
 use types::ids::{AttributeId, TypeId};
 
 // What is to be done: a failure leaves the table.
-#[derive(Drop)]
+#[derive(Clone, Copy)]
 pub(crate) enum Deed {
     Fails(Status),
     Clears(Key),

@@ -18,7 +18,7 @@ const RECORD: usize = 3;
 
 // What a scan has put: the records of all attributes at or after a name, or of as many as were wanted where there are more; or they
 // did not fit.
-#[derive(Drop)]
+#[derive(Clone, Copy)]
 enum Listing {
     All(usize),
     Part(usize),

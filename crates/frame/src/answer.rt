@@ -4,7 +4,7 @@ ghost use Rattle.frame.specs.Answer.{refusal_number, answer_number, answer_lengt
 
 use super::reply::clear;
 
-#[derive(Drop)]
+#[derive(Clone, Copy)]
 pub enum Refusal {
     OtherCluster,
     HeaderShort,
@@ -45,7 +45,7 @@ impl Refusal {
 }
 
 // A reply of so many bytes, or a refusal.
-#[derive(Drop)]
+#[derive(Clone, Copy)]
 pub enum Answer {
     Reply(usize),
     Refused(Refusal),

@@ -2,7 +2,7 @@
 ghost use Rattle.std.specs.Prelude.{◌≡◌};
 ghost use Rattle.frame.specs.CommandIdentifier.{command_code, command_of};
 
-#[derive(Drop)]
+#[derive(Clone, Copy)]
 pub enum CommandIdentifier {
     ReadAttributes,
     ReadAttributesResponse,

@@ -11,7 +11,7 @@ use super::status::Status;
 
 // How a pass over the records of a request ended: every record taken, with the reply so far up to a place; a record cut; or a failure
 // that does not fit.
-#[derive(Drop)]
+#[derive(Clone, Copy)]
 pub enum Pass {
     Through(usize),
     Cut,

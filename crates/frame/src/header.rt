@@ -12,13 +12,13 @@ use types::number::u16_at;
 // The control byte of a reply: a global command from server to client that wants no Default Response.
 pub const RESPONSE_FRAME_CONTROL: u8 = 0x18;
 
-#[derive(Drop)]
+#[derive(Clone, Copy)]
 pub struct FrameControl(pub u8);
 
-#[derive(Drop)]
+#[derive(Clone, Copy)]
 pub struct ManufacturerCode(pub u16);
 
-#[derive(Drop)]
+#[derive(Clone, Copy)]
 pub enum FrameType {
     GlobalCommand,
     ClusterCommand,
@@ -46,7 +46,7 @@ impl FrameControl {
     }
 }
 
-#[derive(Drop)]
+#[derive(Clone, Copy)]
 pub struct ZclHeader {
     pub frame_control: FrameControl,
     // 0 where the header has none.
@@ -57,7 +57,7 @@ pub struct ZclHeader {
     pub body: usize,
 }
 
-#[derive(Drop)]
+#[derive(Clone, Copy)]
 pub enum HeaderRead {
     Header(ZclHeader),
     Short,

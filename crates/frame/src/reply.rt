@@ -5,7 +5,7 @@ ghost use Rattle.types.specs.Number.{zeros, bytes_of};
 ghost use Rattle.frame.specs.Inside.Buffer.{putting, put};
 
 // Where the next byte goes, or that the bytes did not fit.
-#[derive(Drop)]
+#[derive(Clone, Copy)]
 pub enum Put {
     At(usize),
     Full,

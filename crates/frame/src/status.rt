@@ -2,7 +2,7 @@
 ghost use Rattle.std.specs.Prelude.{◌≡◌};
 ghost use Rattle.frame.specs.Status.{status_code};
 
-#[derive(Drop)]
+#[derive(Clone, Copy)]
 pub enum Status {
     Success,
     UnsupCommand,

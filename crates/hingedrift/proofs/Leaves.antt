@@ -116,15 +116,15 @@ module _ (s bs : List ℕ) (cluster unicast : ℕ) (frame : List ℕ) (size : �
       subst (Kept capacity) (request_is capacity asked (table_in bs)).table
       (run_keeps capacity (request_events capacity asked (table_in bs)) (table_in bs) (request_fits capacity asked (table_in bs) sb fb) (own_kept bs tb is))
 
-  bytes_after : bytes_after bs (served s bs cluster unicast frame size).state.table ≡ table_bytes capacity after
-  bytes_after = ap (bytes_after bs) (request_holds capacity asked (table_in bs))
+  bytes_after_lem : bytes_after bs (served s bs cluster unicast frame size).state.table ≡ table_bytes capacity after
+  bytes_after_lem = ap (bytes_after bs) (request_holds capacity asked (table_in bs))
 
 pub hd_table_stays : HdTableStays
 hd_table_stays s bs cluster unicast frame size sb tb fb is =
     handled s bs cluster unicast frame size (λ o. (is_table capacity o.state.table ≡ true) × (length o.state.table ≡ length bs))
     (λ e.
     let kept = fits_after s bs cluster unicast frame size sb tb fb is in
-    let same = bytes_after s bs cluster unicast frame size sb tb fb is in
+    let same = bytes_after_lem s bs cluster unicast frame size sb tb fb is in
     (ap (is_table capacity) same ∙ table_is capacity _ kept.small kept.clean, ap length same ∙ length_table capacity _ kept.small ∙ sym (the_conditions capacity bs is).size))
     (λ none. absurd (true≢false (sym is ∙ none)))
 

@@ -56,7 +56,7 @@ unfolding all_zero le bytes_of unsigned_at signed_of signed_at residue size_of s
 log_events = (refl, refl)
 
 pub log_supposed : LogSupposed
-log_supposed = served.log-supposed
+log_supposed = served.log_supposed
 
 pub log_promised : Promised g 59 (asks_of key told)
 log_promised =

@@ -238,7 +238,7 @@ call_is (handle q) bs l h p =
 call_is (save size number used buffer) bs l h p = record { events = refl; table = h.bytes }
 call_is (restore form number table) bs l h p =
     let r = read-in bs form number table p (are_sized bs l h) in
-    let back : taken capacity form ≡ Event.readIn capacity (taken capacity form) = sym (read_is_call capacity form l) in
+    let back : taken capacity form ≡ Event.read_in capacity (taken capacity form) = sym (read_is_call capacity form l) in
     record {
       events = λ i. clearings (are_back bs l h i) ++ settings ((ap (λ (b : Bool). cond b (saved_in (form_in form) form) []) (sym r.saved) ∙ back) i);
       table = r.bytes ∙ ap (table_bytes capacity) back;

@@ -18,7 +18,7 @@ use types::ids::AttributeId;
 use types::number::u16_at;
 
 // An id of the request and where the next one starts, or that it is cut.
-#[derive(Drop)]
+#[derive(Clone, Copy)]
 enum NextId {
     Id(AttributeId, usize),
     Cut,

@@ -10,31 +10,31 @@ use Rattle.readers.proofs.ResponsesServed as Responses
 use Rattle.readers.proofs.ReportsSent as Reports
 
 pub read_served : ReadServed
-read_served = Reads.read-served read_replies
+read_served = Reads.read_served read_replies
 
 pub write_served : WriteServed
-write_served = Writes.write-served write_replies
+write_served = Writes.write_served write_replies
 
 pub undivided_served : UndividedServed
-undivided_served = Writes.undivided-served write_replies
+undivided_served = Writes.undivided_served write_replies
 
 pub configure_served : ConfigureServed
-configure_served = Configures.configure-served configure_replies
+configure_served = Configures.configure_served configure_replies
 
 pub configuration_served : ConfigurationServed
-configuration_served = Settings.configuration-served configuration_replies
+configuration_served = Settings.configuration_served configuration_replies
 
 pub discover_served : DiscoverServed
-discover_served = Discovers.discover-served discover_replies
+discover_served = Discovers.discover_served discover_replies
 
 pub cluster_served : ClusterServed
-cluster_served = Responses.cluster-served default_responses_back
+cluster_served = Responses.cluster_served default_responses_back
 
 pub other_served : OtherServed
-other_served = Responses.other-served default_responses_back
+other_served = Responses.other_served default_responses_back
 
 pub unsupported_cluster_served : UnsupportedClusterServed
-unsupported_cluster_served = Responses.unsupported-cluster-served default_responses_back
+unsupported_cluster_served = Responses.unsupported_cluster_served default_responses_back
 
 pub report_sent : ReportSent
-report_sent = Reports.report-sent report_frames
+report_sent = Reports.report_sent report_frames

@@ -46,10 +46,10 @@ module _ (f : List ℕ) (at size : ℕ) where
     unfolding read_record
     read_failed h = (λ i. held (failure (id_is u i) (status_is s i)) none) ∙ sym (simp (ne_eqb (get_or own 2 0) 0 (λ e. h (status_is s ∙ e))))
 
-    pub read_held : status ≡ 0 → {v : ValueIn} → v ≡ value_in f (span at size) 3
+    pub read_held_lem : status ≡ 0 → {v : ValueIn} → v ≡ value_in f (span at size) 3
         → held (value id v.type_id.0 (take v.len (drop v.start f))) (some v) ≡ read_held f (span at size)
     unfolding read_record value_in
-    read_held h e =
+    read_held_lem h e =
         (λ i. held (value (id_is u i) (e i).type_id.0 (take (e i).len (drop (e i).start f))) (some (e i)))
         ∙ ap (λ (b : List ℕ). held (value (unsigned_at own 0 2) (get_or own 3 0) b) (some (value_in f (span at size) 3))) (behind 4)
         ∙ sym (simp (eq-eqb (get_or own 2 0) 0 (sym (status_is s) ∙ h)))

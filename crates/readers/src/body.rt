@@ -7,7 +7,7 @@ use frame::answer::Refusal;
 use frame::command_identifier::CommandIdentifier;
 use frame::header::{FrameType, HeaderRead, read_header};
 
-#[derive(Drop)]
+#[derive(Clone, Copy)]
 pub(crate) enum Body {
     At(usize),
     Refused(Refusal),

@@ -14,7 +14,7 @@ use reporting::entry::ReportingConfig;
 use types::ids::{AttributeId, TypeId};
 use types::number::{byte_at, u16_at, unsigned_at};
 
-#[derive(Drop)]
+#[derive(Clone, Copy)]
 pub enum ConfigurationReplyRecord {
     Setting {
         direction: u8,

@@ -11,7 +11,7 @@ use frame::command_identifier::CommandIdentifier;
 use types::ids::AttributeId;
 use types::number::{byte_at, u16_at};
 
-#[derive(Drop)]
+#[derive(Clone, Copy)]
 pub enum ConfigureReplyRecord {
     Failure {
         status: u8,

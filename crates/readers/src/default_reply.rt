@@ -8,7 +8,7 @@ use frame::answer::Refusal;
 use frame::command_identifier::CommandIdentifier;
 use types::ids::CommandId;
 
-#[derive(Drop)]
+#[derive(Clone, Copy)]
 pub enum DefaultReply {
     Status { command: CommandId, status: u8 },
     Refused(Refusal),

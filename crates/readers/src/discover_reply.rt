@@ -13,13 +13,13 @@ use frame::command_identifier::CommandIdentifier;
 use types::ids::{AttributeId, TypeId};
 use types::number::{byte_at, u16_at};
 
-#[derive(Drop)]
+#[derive(Clone, Copy)]
 pub enum DiscoverReply {
     Records { complete: u8, count: usize },
     Refused(Refusal),
 }
 
-#[derive(Drop)]
+#[derive(Clone, Copy)]
 pub enum DiscoverReplyRecord {
     Attribute { id: AttributeId, type_id: TypeId },
     // The reply has no record k.

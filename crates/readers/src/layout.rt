@@ -8,7 +8,7 @@ use types::extent::{Extent, extent_at};
 use types::ids::TypeId;
 use types::number::byte_at;
 
-#[derive(Drop)]
+#[derive(Clone, Copy)]
 pub(crate) enum Layout {
     // Id, status, and on success type and value.
     ReadStatus,
@@ -24,7 +24,7 @@ pub(crate) enum Layout {
     Discovered,
 }
 
-#[derive(Drop)]
+#[derive(Clone, Copy)]
 pub(crate) enum Length {
     Bytes(usize),
     Refused(Refusal),

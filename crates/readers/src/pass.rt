@@ -11,14 +11,14 @@ use frame::answer::Refusal;
 use frame::command_identifier::CommandIdentifier;
 
 // How many records a reply has.
-#[derive(Drop)]
+#[derive(Clone, Copy)]
 pub enum Count {
     Records(usize),
     Refused(Refusal),
 }
 
 // The same, with the place and the size of record k: 0 and 0 where there is none.
-#[derive(Drop)]
+#[derive(Clone, Copy)]
 pub(crate) enum Swept {
     Records {
         count: usize,

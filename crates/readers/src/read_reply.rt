@@ -13,7 +13,7 @@ use frame::command_identifier::CommandIdentifier;
 use types::ids::AttributeId;
 use types::number::{byte_at, u16_at};
 
-#[derive(Drop)]
+#[derive(Clone, Copy)]
 pub enum ReadReplyRecord {
     Value { id: AttributeId, value: ValueIn },
     Failure { id: AttributeId, status: u8 },

@@ -13,7 +13,7 @@ use frame::command_identifier::CommandIdentifier;
 use types::ids::AttributeId;
 use types::number::u16_at;
 
-#[derive(Drop)]
+#[derive(Clone, Copy)]
 pub enum ReportFrameRecord {
     Value { id: AttributeId, value: ValueIn },
     // The frame has no record k.

@@ -7,7 +7,7 @@ use types::ids::TypeId;
 use types::number::byte_at;
 use types::value::{Number, number_at};
 
-#[derive(Drop)]
+#[derive(Clone, Copy)]
 pub struct ValueIn {
     pub type_id: TypeId,
     pub start: usize,

@@ -48,15 +48,15 @@ not_global ClusterCommand a o = refl
 not_global Reserved a o = refl
 
 module _ (frame : List ℕ) (h : ZclHeader) (t : FrameType) (e : header_of frame ≡ Header h) (f : t ≡ frame_type_of h.frame_control.0) where
-  asked_by : cond (is_global t) (asked_by h.command_identifier.0 h) Nothing ≡ asked_of frame
+  asked_by_lem : cond (is_global t) (asked_by h.command_identifier.0 h) Nothing ≡ asked_of frame
   unfolding asked_of
-  asked_by = rw e (ap (λ (x : FrameType). cond (is_global x) (asked_by h.command_identifier.0 h) Nothing) f)
+  asked_by_lem = rw e (ap (λ (x : FrameType). cond (is_global x) (asked_by h.command_identifier.0 h) Nothing) f)
 
   pub asked_other : OneOf (1 ∷ 2 ∷ []) (tag_of kind.the_type t) → Nothing ≡ asked_of frame
-  asked_other o = not_global t (asked_by h.command_identifier.0 h) o ∙ asked_by
+  asked_other o = not_global t (asked_by h.command_identifier.0 h) o ∙ asked_by_lem
 
   pub asked_is : t ≡ GlobalCommand → asked_by h.command_identifier.0 h ≡ asked_of frame
-  asked_is g = ap (λ (x : FrameType). cond (is_global x) (asked_by h.command_identifier.0 h) Nothing) (sym g) ∙ asked_by
+  asked_is g = ap (λ (x : FrameType). cond (is_global x) (asked_by h.command_identifier.0 h) Nothing) (sym g) ∙ asked_by_lem
 
 -- ---- one answer
 

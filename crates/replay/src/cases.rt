@@ -8,7 +8,7 @@ use types::extent::{Extent, extent_at};
 use types::ids::{Size, TypeId};
 
 // Whether what was recorded is what ours says to an input; or that the input is none of its kind.
-#[derive(Drop)]
+#[derive(Clone, Copy)]
 pub(crate) enum Agreement {
     Is(bool),
     NoInput,

@@ -20,7 +20,7 @@ use write::attributes::{
 };
 
 // The commands that have a function of ours.
-#[derive(Drop)]
+#[derive(Clone, Copy)]
 enum Command {
     Read,
     Write,
@@ -30,14 +30,14 @@ enum Command {
 }
 
 // What a frame asks for, if it is one of those.
-#[derive(Drop)]
+#[derive(Clone, Copy)]
 enum Asked {
     For(Command, ZclHeader),
     Nothing,
 }
 
 // How far the comparison is: the answer that was last told lies from `from` to `to`, and the next is to come at `at`.
-#[derive(Drop)]
+#[derive(Clone, Copy)]
 struct Place {
     from: usize,
     to: usize,
@@ -45,7 +45,7 @@ struct Place {
 }
 
 // The comparison went on to a place, or off.
-#[derive(Drop)]
+#[derive(Clone, Copy)]
 enum Turn {
     On(Place),
     Off,

@@ -1,7 +1,11 @@
 // Replays a recorded list of another program's answers, read from standard input, and says how many are ours too.
 // A kind of line has a place in names.rt, cases.rt, stores.rt, commands.rt, methods.rt or requests.rt (what ours says),
 // verdict.rt (its letter) and here (its row).
-ghost use Rattle.std.specs.Prelude.{◌≡◌, length};
+#![tactic(auto)]
+
+ghost use Rattle.std.specs.Prelude.{◌≡◌, ◌≤◌, length, IfOk};
+
+use std::io::{self, Print, Read};
 
 mod bytes;
 mod cases;
@@ -15,62 +19,47 @@ mod stores;
 mod tally;
 mod verdict;
 
-use libc::{STDIN_FILENO, STDOUT_FILENO};
 use tally::{Tally, row_of};
 
-fn text(s: &[u8]) {
-    io::write_all(STDOUT_FILENO, s);
-}
-
-fn number(n: usize) {
-    io::print_decimal(STDOUT_FILENO, n as u64);
-}
-
 // A row with the count of one kind.
-fn row(name: &[u8], t: Tally, letter: u8, rest: &[u8]) {
+fn row(out: &impl Print, name: &str, t: Tally, letter: u8, rest: &str) -> io::Result<()> {
     let k = row_of(letter);
-    text(name);
-    number(t.agree[k]);
-    text(b" of ");
-    number(t.of[k]);
-    text(rest);
+    println!(out; "{name}: {} of {} {rest}", t.agree[k], t.of[k])
 }
 
-fn report(t: Tally, whole: bool) {
-    row(b"types: ", t, b't', b" agree\n");
-    row(b"names of types: ", t, b'i', b" agree\n");
-    row(b"headers: ", t, b'h', b" agree\n");
-    row(b"extents: ", t, b'e', b" agree\n");
-    row(b"listed differences: ", t, b'd', b" as document 01 says\n");
-    row(b"stores: ", t, b's', b" as document 01 says\n");
-    row(b"numbers: ", t, b'v', b" as document 01 says\n");
-    row(b"writes: ", t, b'w', b" as document 01 says\n");
-    row(b"commands: ", t, b'c', b" agree\n");
+fn report(out: &impl Print, t: Tally, whole: bool) -> io::Result<()> {
+    row(out, "types", t, b't', "agree")?;
+    row(out, "names of types", t, b'i', "agree")?;
+    row(out, "headers", t, b'h', "agree")?;
+    row(out, "extents", t, b'e', "agree")?;
+    row(out, "listed differences", t, b'd', "as document 01 says")?;
+    row(out, "stores", t, b's', "as document 01 says")?;
+    row(out, "numbers", t, b'v', "as document 01 says")?;
+    row(out, "writes", t, b'w', "as document 01 says")?;
+    row(out, "commands", t, b'c', "agree")?;
     row(
-        b"listed differences of commands: ",
+        out,
+        "listed differences of commands",
         t,
         b'x',
-        b" as documents 01 and 02 say\n",
-    );
-    row(b"histories of a table: ", t, b'm', b" agree\n");
-    row(b"requests with a table: ", t, b'q', b" agree\n");
+        "as documents 01 and 02 say",
+    )?;
+    row(out, "histories of a table", t, b'm', "agree")?;
+    row(out, "requests with a table", t, b'q', "agree")?;
     row(
-        b"listed differences of requests: ",
+        out,
+        "listed differences of requests",
         t,
         b'y',
-        b" as document 02 says\n",
-    );
+        "as document 02 says",
+    )?;
     if t.first != 0 {
-        text(b"first that does not agree: line ");
-        number(t.first);
-        text(b"\n");
+        println!(out; "first that does not agree: line {}", t.first)?;
     }
     if whole {
-        text(b"list: whole, ");
-        number(t.lines);
-        text(b" lines\n");
+        println!(out; "list: whole, {} lines", t.lines)
     } else {
-        text(b"list: cut\n");
+        println!(out; "list: cut")
     }
 }
 
@@ -81,10 +70,25 @@ fn space() -> [u8; 2097152]
     [0; 2097152]
 }
 
-fn main() {
+// Reads until the buffer is full or the input ends, and says how many bytes came.
+fn read_full(input: &mut impl Read, buffer: &mut [u8]) -> io::Result<usize>
+    ensures { IfOk result (λ n. n ≤ length buffer.new) }
+{
+    let mut done = 0;
+    while done < buffer.len() {
+        let n = input.read(&mut buffer[done..])?;
+        if n == 0 {
+            break;
+        }
+        done += n;
+    }
+    Ok(done)
+}
+
+fn main(rt: HostRuntime) -> io::Result<()> {
     let mut list = space();
-    let n = io::read_full(STDIN_FILENO, &mut list);
+    let n = read_full(&mut rt.stdin(), &mut list)?;
     let t = tally::replay(&list[..n]);
     // Where the list fills the buffer, some of it may be left unread.
-    report(t, t.whole && n < 2097152);
+    report(&rt.stdout(), t, t.whole && n < 2097152)
 }

@@ -22,7 +22,7 @@ use types::number::{byte_at, le_bytes, signed_at, u16_at, unsigned_at};
 const CALL: usize = 17;
 
 // The table that a call leaves, and where its answer ends, if it was recorded.
-#[derive(Drop)]
+#[derive(Clone, Copy)]
 struct Given {
     table: ReportingTable,
     at: Put,

@@ -11,7 +11,7 @@ use super::verdict::{Verdict, judge};
 // Counts, by the place of a kind's letter in the alphabet.
 const LETTERS: usize = 32;
 
-#[derive(Drop)]
+#[derive(Clone, Copy)]
 pub(crate) struct Tally {
     // How many lines of a kind agree, of how many.
     pub(crate) agree: [usize; LETTERS],

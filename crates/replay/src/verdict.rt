@@ -16,7 +16,7 @@ use super::stores::{of_number, of_store, of_write};
 use frame::reply::Put;
 use types::number::unsigned_at;
 
-#[derive(Drop)]
+#[derive(Clone, Copy)]
 pub(crate) enum Verdict {
     // A case of the kind that a letter names, and whether it agrees.
     Case(u8, bool),

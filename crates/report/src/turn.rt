@@ -24,7 +24,7 @@ use types::ids::AttributeId;
 use types::value::{Number, number_at};
 
 // What an attribute came to: not due, a frame longer by its record, or no room for that.
-#[derive(Drop)]
+#[derive(Clone, Copy)]
 pub enum Tried {
     Passed,
     Longer(usize),
@@ -32,7 +32,7 @@ pub enum Tried {
 }
 
 // How far a pass has come: the end of the frame so far, the last id, and whether a record did not fit.
-#[derive(Drop)]
+#[derive(Clone, Copy)]
 pub struct Swept {
     pub out: usize,
     pub last: u32,
@@ -197,7 +197,7 @@ fn finish(frame: &mut [u8], from: usize, c: Swept) -> Answer
 }
 
 // What a turn gives back beside the frame and the table: the answer, and the last id.
-#[derive(Drop)]
+#[derive(Clone, Copy)]
 pub struct Turned {
     pub answer: Answer,
     pub last: u32,

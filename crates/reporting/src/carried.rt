@@ -21,7 +21,7 @@ pub const SLOT: usize = 30;
 pub const TABLE_BYTES: usize = 1 + LIMIT * SLOT;
 
 // Whether the bytes were a table; where they were none, the table is the empty one.
-#[derive(Drop)]
+#[derive(Clone, Copy)]
 pub struct ReadTable {
     pub table: ReportingTable,
     pub known: bool,

@@ -14,7 +14,7 @@ pub const MAX_INTERVAL_DISABLED: u16 = 0xffff;
 pub const MIN_INTERVAL_DEFAULT: u16 = 0xffff;
 
 // What an entry is found by. A cluster and an attribute cannot be exchanged.
-#[derive(Drop)]
+#[derive(Clone, Copy)]
 pub struct Key {
     pub cluster: ClusterId,
     pub attribute: AttributeId,
@@ -22,7 +22,7 @@ pub struct Key {
 
 // The reporting configuration of one attribute (2.5.7.1): seconds, seconds, and the least change to report. `unsigned` is its mark: whether its
 // numbers compare by their 64 bits, without a sign.
-#[derive(Drop)]
+#[derive(Clone, Copy)]
 pub struct ReportingConfig {
     pub min_interval: u16,
     pub max_interval: u16,
@@ -31,7 +31,7 @@ pub struct ReportingConfig {
 }
 
 // What a configuration asks for by its intervals: that the key's entry is cleared, that nothing is done, or that the entry is set.
-#[derive(Drop)]
+#[derive(Clone, Copy)]
 pub enum Wish {
     ToClear,
     ToRefuse,
@@ -39,7 +39,7 @@ pub enum Wish {
 }
 
 // `marked` says whether there was a report since it was configured; else time and value are 0.
-#[derive(Drop)]
+#[derive(Clone, Copy)]
 pub struct Entry {
     pub key: Key,
     pub config: ReportingConfig,

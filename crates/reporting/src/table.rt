@@ -10,14 +10,14 @@ use types::ids::{AttributeId, ClusterId};
 // How many entries a table has room for.
 pub const LIMIT: usize = 128;
 
-#[derive(Drop)]
+#[derive(Clone, Copy)]
 pub struct ReportingTable {
     pub entries: [Entry; LIMIT],
     pub count: usize,
 }
 
 // What an operation that may change the table says: done; no room for one more entry; or that this is no table.
-#[derive(Drop)]
+#[derive(Clone, Copy)]
 pub enum Change {
     Done,
     Full,
@@ -26,14 +26,14 @@ pub enum Change {
 
 // What such an operation hands back. A table that is none comes back as it was, all of it. It stands first, as wherever a table is handed on:
 // nothing lies before it then, and its copies are aligned.
-#[derive(Drop)]
+#[derive(Clone, Copy)]
 pub struct Changed {
     pub table: ReportingTable,
     pub answer: Change,
 }
 
 // The answer to an ask.
-#[derive(Drop)]
+#[derive(Clone, Copy)]
 pub enum Report {
     Due,
     NotDue,
@@ -41,7 +41,7 @@ pub enum Report {
 }
 
 // The key's configuration, if it has an entry.
-#[derive(Drop)]
+#[derive(Clone, Copy)]
 pub enum Setting {
     Given(ReportingConfig),
     Nothing,
@@ -49,7 +49,7 @@ pub enum Setting {
 }
 
 // How many entries stand.
-#[derive(Drop)]
+#[derive(Clone, Copy)]
 pub enum Length {
     Entries(usize),
     Refused(Refusal),

@@ -53,6 +53,7 @@ Some P [] = ⊥
 Some P (x ∷ xs) = P x ⊎ Some P xs
 
 some_before : {A : Type 0} (P : A → Type 0) (a b : List A) → Some P a → Some P (a ++ b)
+some_before {A = A} P [] b x' = elim x' [ ]
 some_before P (x ∷ a) b (inl h) = inl h
 some_before P (x ∷ a) b (inr h) = inr (some_before P a b h)
 
@@ -64,6 +65,7 @@ some_among : {A : Type 0} (x : A) (all : List A) → Among x all → Some (λ y.
 some_among x all m = subst (Some (λ y. x ≡ y)) (sym m.order) (some_behind (λ y. x ≡ y) m.earlier (x ∷ m.rest) (inl refl))
 
 among_some : {A : Type 0} (x : A) (all : List A) → Some (λ y. x ≡ y) all → Among x all
+among_some {A = A} x [] x'' = elim x'' [ ]
 among_some x (y ∷ all) (inl e) = record { earlier = []; rest = all; order = ap (λ z. z ∷ all) (sym e) }
 among_some x (y ∷ all) (inr h) =
     let m = among_some x all h in
@@ -227,11 +229,13 @@ module _ (limit : ℕ) (s : List ℕ) (h : ZclHeader) where
     -- a failure is listed in the reply
     listed : (fs : List Failure) → Some Named fs → Fails id (encode_all encode fs)
     unfolding encode_all bytes_of
+    listed [] x' = elim x' [ ]
     listed (f ∷ fs) (inl n) = inl (n.0, ap (bytes_of 2) n.1)
     listed (f ∷ fs) (inr m) = inr (listed fs m)
 
     listed_failures : (fs : List Failure) → Some Named fs → Fails id (encode_failures encode fs)
     unfolding encode_failures
+    listed_failures [] m = elim m [ ]
     listed_failures (f ∷ fs) m = listed (f ∷ fs) m
 
   -- ---- a reply of one 00
@@ -257,6 +261,7 @@ module _ (limit : ℕ) (s : List ℕ) (h : ZclHeader) where
 -- a reply of one 00 lists no failure
 one_lists_none : (fs : List Failure) → Some (λ (f : Failure). Unit {0}) fs → encode_failures encode fs ≡ 0x00 ∷ [] → ⊥
 unfolding encode_failures encode_all bytes_of
+one_lists_none [] m e = elim m [ ]
 one_lists_none (f ∷ fs) m e = let z = ap (λ (x : List ℕ). length x) e in omega (arith, z)
 
 -- ---- what is seen of an answer

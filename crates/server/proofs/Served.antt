@@ -129,7 +129,7 @@ module _ (s : List ℕ) (t : ReportingTable) (cluster : ℕ) (unicast : Bool) (f
       ∙ sym (ap (λ (x : Table). serve 8 capacity s (quieted_t x) cluster unicast frame n) h)
 
   -- that is one: as its bytes, and the table read from them afterwards
-  pub value_served : t.count ≤ capacity → (bs : List ℕ) → read_t capacity bs ≡ Carried.tableRead true (map quieted (live t))
+  pub value_served : t.count ≤ capacity → (bs : List ℕ) → read_t capacity bs ≡ Carried.table_read true (map quieted (live t))
       → (s' bs' : List ℕ) → is_table capacity bs' ≡ true → seen a d (state s' (holding (table_in bs'))) ≡ serve 8 capacity s (holding (table_in bs)) cluster unicast frame n
       → (r : ReadTable) → reading r ≡ read_t capacity bs' → seen a d (state s' (table_of r.table)) ≡ serve 8 capacity s (quieted_t (table_of t)) cluster unicast frame n
   value_served small bs c s' bs' is' e r g =

@@ -30,7 +30,7 @@ use write::attributes::{
 };
 
 // An answer, and the table as it is afterwards.
-#[derive(Drop)]
+#[derive(Clone, Copy)]
 pub struct Served {
     pub table: ReportingTable,
     pub answer: Answer,

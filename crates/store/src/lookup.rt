@@ -10,11 +10,11 @@ use types::ids::{AttributeId, ClusterId, TypeId};
 use types::number::{byte_at, u16_at};
 
 // What an attribute is looked up by.
-#[derive(Drop)]
+#[derive(Clone, Copy)]
 pub struct Name(pub u32);
 
 // An attribute, as its entry in the contents says.
-#[derive(Drop)]
+#[derive(Clone, Copy)]
 pub struct Attribute {
     pub name: Name,
     pub type_id: TypeId,
@@ -23,7 +23,7 @@ pub struct Attribute {
     pub room: u16,
 }
 
-#[derive(Drop)]
+#[derive(Clone, Copy)]
 pub enum Found {
     At(Attribute),
     Nothing,

@@ -44,7 +44,7 @@ pub fn write_value(s: &mut [u8], a: Attribute, value: &[u8])
 }
 
 // The number of a value, or why there is none.
-#[derive(Drop)]
+#[derive(Clone, Copy)]
 pub enum Numbered {
     Is(i64),
     Refused(Refusal),

@@ -11,7 +11,7 @@ use types::ids::TypeId;
 use types::number::byte_at;
 
 // The attribute that a value may be written to, or the status that says why not.
-#[derive(Drop)]
+#[derive(Clone, Copy)]
 pub enum Checked {
     Fine(Attribute),
     Failed(Status),

@@ -17,7 +17,7 @@ use Rattle.types.proofs.Numbers.{pow_half, signed_low, signed_high}
 
 -- a signed answer of a call, handed on: `came-back _ c.F.ok`
 pub came_back : (z : ℤ) → mag z < 2 ^ 63 → to_z w64 (of_z w64 z) ≡ z
-came_back z h = to_z-of_z (record { sfits = h })
+came_back z h = to_z-of_z {w = w64} (record { sfits = h })
 
 -- the bits of an i64 are a number of 8 bytes
 pub bits_are : (n : ℕ) → n < 2 ^ 64 → to_z w64 n ≡ signed_of 8 n

@@ -8,7 +8,7 @@ use super::ids::{Shape, TypeId};
 use super::number::{byte_at, u16_at};
 
 // Where a value ends: at a place; the slice ends first; or nowhere, whatever bytes came behind.
-#[derive(Drop)]
+#[derive(Clone, Copy)]
 pub enum Extent {
     End(usize),
     Cut,

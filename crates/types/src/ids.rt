@@ -4,28 +4,28 @@ ghost use Rattle.types.specs.Ids.{counted_width, size_of, shape_of, is_analog, i
 ghost use Rattle.types.specs.Ids.{among as codesAmong};
 
 // Three kinds of numbers that no call can take for one another.
-#[derive(Drop)]
+#[derive(Clone, Copy)]
 pub struct ClusterId(pub u16);
 
-#[derive(Drop)]
+#[derive(Clone, Copy)]
 pub struct AttributeId(pub u16);
 
-#[derive(Drop)]
+#[derive(Clone, Copy)]
 pub struct CommandId(pub u8);
 
 // The type of a value, by its code. A code that has no constant here is an unknown type.
-#[derive(Drop)]
+#[derive(Clone, Copy)]
 pub struct TypeId(pub u8);
 
 // How many bytes a value of a type has, where that is fixed.
-#[derive(Drop)]
+#[derive(Clone, Copy)]
 pub enum Size {
     Bytes(usize),
     Varies,
 }
 
 // How a type's values are laid out, and so how one finds their end.
-#[derive(Drop)]
+#[derive(Clone, Copy)]
 pub enum Shape {
     Fixed(usize),
     Text,

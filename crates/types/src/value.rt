@@ -6,7 +6,7 @@ use super::ids::{Size, TypeId};
 use super::number::{bits_i64, magnitude, sign_extended, unsigned_at};
 
 // The number of a value, if its type has one.
-#[derive(Drop)]
+#[derive(Clone, Copy)]
 pub enum Number {
     Value(i64),
     None,

@@ -20,14 +20,14 @@ use store::write::{Checked, check_write, write};
 use types::ids::{AttributeId, TypeId};
 
 // What a pass does with each record.
-#[derive(Drop)]
+#[derive(Clone, Copy)]
 pub(crate) enum Task {
     Check,
     Write,
 }
 
 // A record done, and where the next one starts; or none that can be read.
-#[derive(Drop)]
+#[derive(Clone, Copy)]
 pub(crate) enum Step {
     Done {
         end: usize,

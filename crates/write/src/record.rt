@@ -8,7 +8,7 @@ use types::ids::{AttributeId, TypeId};
 use types::number::u16_at;
 
 // A record, of which the value starts three bytes behind its start; or none that can be read.
-#[derive(Drop)]
+#[derive(Clone, Copy)]
 pub(crate) enum Next {
     Record {
         id: AttributeId,

@@ -47,11 +47,11 @@ abbrev pub OfRequest : Type 0 → Type 0
 OfRequest A = ℕ → ℕ → List ℕ → List Entry → ZclHeader → List ℕ → ℕ → A
 
 abbrev pub read_made : OfRequest (List Read.ReadRecord)
-read_made form limit s l h body room = kept (shortened_from Read.encode (Read.recordFor form s h) room 3 [] (Read.idsFrom body 0))
+read_made form limit s l h body room = kept (shortened_from Read.encode (Read.record_for form s h) room 3 [] (Read.ids_from body 0))
 
 abbrev pub settings_made : OfRequest (List Configuration.SettingRecord)
 settings_made form limit s l h body room =
-    kept (shortened_from Configuration.encode (λ fit. Configuration.recordFor form s l h) room 3 [] (asked_from body 0))
+    kept (shortened_from Configuration.encode (λ fit. Configuration.record_for form s l h) room 3 [] (asked_from body 0))
 
 abbrev pub write_made : OfRequest (List Write.Failure)
 write_made form limit s l h body room = (reached (pass (writing form h) (fits Write.encode room 3) (records body) s)).failures

@@ -44,7 +44,7 @@ Log t (c ∷ cs) = Contract c t × Log (next c t) cs
 -- the events of a request, by the table that it was called on; those of a method, by what it answered
 abbrev pub events_of : Made → ReportingTable → List Event
 events_of (request q r reply store) t = request_events capacity q (entries_of (table_of t))
-events_of (method c) t = Method.eventsOf c
+events_of (method c) t = Method.events_of c
 
 abbrev pub all_events_of : List Made → ReportingTable → List Event
 all_events_of [] t = []

@@ -1,0 +1,30 @@
+-- Too long for a store, or served over the copy. Assumes nothing.
+use mathlib.Core.Path.{◌≡◌, sym, ap, ◌∙◌}
+use mathlib.Core.List.{List}
+use Prim.Native.Nat.{ℕ}
+use native.Mathlib.Omega.{arith}
+use lib.ListN.{length, take}
+use Rattle.bench.specs.Bench.{decimal}
+use Rattle.bench.proofs.Says.{said_too_long, copied, said_served}
+use borrow.Author.Rules.{rules}
+use Rattle.bench.proofs.answer.served.Goals as goal
+
+pub returns-then-n-gt4096 : goal.returns-then-n-gt4096
+returns-then-n-gt4096 c =
+    let a = c.args in
+    c.put_number.ensures
+    ∙ ap decimal c.number.ensures
+    ∙ said_too_long a.store.now a.request.now (omega arith)
+
+pub slice_bounds-handle_request-end : goal.slice_bounds-handle_request-end
+slice_bounds-handle_request-end c =
+    let store-copied : take (length ((c.args.store.now))) c.put_run.new.buffer ≡ (c.args.store.now) = copied _ _ _ _ (omega arith) c.put_run.ensures in
+    sym (ap length store-copied)
+
+pub returns : goal.returns
+returns c =
+    let store-copied : take (length ((c.args.store.now))) c.put_run.new.buffer ≡ (c.args.store.now) = copied _ _ _ _ (omega arith) c.put_run.ensures in
+    let a = c.args in
+    c.put_answer.ensures
+    ∙ said_served a.store.now c.put_run.new.buffer a.request.now _ c.new.result _ c.handle_request-after.result.answer _
+    store-copied c.new.ensures c.cluster_of.ensures c.handle_request-after.ensures

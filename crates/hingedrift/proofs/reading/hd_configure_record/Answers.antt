@@ -1,0 +1,17 @@
+-- The record that the reader gave is handed on. Assumes nothing.
+use borrow.Author.Rules.{rules}
+use mathlib.Core.Path.{refl}
+use Rattle.readers.specs.Answers.{configure_record_is}
+use Rattle.hingedrift.proofs.Telling.{told_so, told_refused}
+use Rattle.hingedrift.proofs.reading.hd_configure_record.Goals as goal
+
+pub returns-in-Failure : goal.returns-in-Failure
+returns-in-Failure c = told_so _ _ configure_record_is c.configure_reply_record-says.ensures c.in-Failure.is
+
+pub returns-in-Past : goal.returns-in-Past
+returns-in-Past c = told_so _ _ configure_record_is c.configure_reply_record-says.ensures c.in-Past.is
+
+pub returns-in-Refused : goal.returns-in-Refused
+returns-in-Refused c =
+    told_refused _ _ configure_record_is c.configure_reply_record-says.ensures c.in-Refused.is
+    _ _ c.number.ensures refl

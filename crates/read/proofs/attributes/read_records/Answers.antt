@@ -1,0 +1,51 @@
+-- `attributes::read_records` meets its contract: each turn keeps the walk the same. Assumes nothing.
+use mathlib.Core.Path.{◌≡◌, refl, sym, ap, ◌∙◌}
+use mathlib.Core.List.{List}
+use Prim.Native.Nat.{ℕ, ◌-◌}
+use native.Mathlib.Omega.{arith}
+use lib.ListN.{length}
+use Rattle.frame.specs.Inside.Buffer.{Shows}
+use Rattle.frame.specs.Walk.{item}
+use Rattle.frame.proofs.Shortened.{Going, going_first, going_more, going_stop, going_cut, going_done}
+use Rattle.read.specs.Read.{id_at, encode, record_for}
+use Rattle.read.specs.Inside.{item_of}
+use Rattle.read.proofs.Ids.{id_ahead}
+use borrow.Author.Rules.{rules}
+use Rattle.read.proofs.attributes.read_records.Goals as goal
+
+pub loop-at-init : goal.loop-at-init
+loop-at-init c =
+    (refl, λ head w. going_first _ _ _ _ _ _ _ _ w)
+
+pub shape_of-reply-in_default : goal.shape_of-reply-in_default
+shape_of-reply-in_default c = c.refuse.auto.reply ∙ c.loop-at.invariant.0
+
+pub returns-in_default : goal.returns-in_default
+returns-in_default c =
+    λ head w. c.refuse.ensures ∙ going_cut _ _ _ _ _ _ _ _ _ (c.loop-at.invariant.1 head w) c.loop-at.invariant.0 c.loop-at-test.true (ap item_of (sym c.in_default.is) ∙ c.next_id.ensures)
+
+pub shape_of-reply-in_default-read_turn : goal.shape_of-reply-in_default-read_turn
+shape_of-reply-in_default-read_turn c = c.read_turn.auto.reply ∙ c.loop-at.invariant.0
+
+pub returns-in_default-read_turn : goal.returns-in_default-read_turn
+returns-in_default-read_turn c =
+    let read-id : item c.in-Id.id.0 c.in-Id.next ≡ id_at c.args.body.now c.loop-at.at = ap item_of (sym c.in-Id.is) ∙ c.next_id.ensures in
+    λ head w. going_stop _ _ _ _ _ _ _ _ _ (c.loop-at.invariant.1 head w) c.loop-at.invariant.0 (id_ahead _) c.loop-at-test.true _ _ read-id _ _ c.read_turn.ensures c.in_default-read_turn.is
+
+pub loop-at-smaller : goal.loop-at-smaller
+loop-at-smaller c =
+    let read-id : item c.in-Id.id.0 c.in-Id.next ≡ id_at c.args.body.now c.loop-at.at = ap item_of (sym c.in-Id.is) ∙ c.next_id.ensures in
+    let h = id_ahead c.args.body.now c.loop-at.at c.in-Id.id.0 c.in-Id.next (sym read-id) in
+    omega (arith, c.loop-at-test.true, h)
+
+pub loop-at-preserved : goal.loop-at-preserved
+loop-at-preserved c =
+    let read-id : item c.in-Id.id.0 c.in-Id.next ≡ id_at c.args.body.now c.loop-at.at = ap item_of (sym c.in-Id.is) ∙ c.next_id.ensures in
+    (c.read_turn.auto.reply ∙ c.loop-at.invariant.0, λ head w. going_more _ _ _ _ _ _ _ _ _ (c.loop-at.invariant.1 head w) c.loop-at.invariant.0 (id_ahead _) c.loop-at-test.true _ _ read-id _ _ c.read_turn.ensures _ c.in-At.is)
+
+pub shape_of-reply : goal.shape_of-reply
+shape_of-reply c = c.loop-at.invariant.0
+
+pub returns : goal.returns
+returns c =
+    λ head w. going_done _ _ _ _ _ _ _ _ _ (c.loop-at.invariant.1 head w) c.loop-at.invariant.0 c.loop-at-test.false

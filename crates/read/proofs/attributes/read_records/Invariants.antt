@@ -1,0 +1,21 @@
+-- `attributes::read_records` meets its contract: each turn keeps the walk the same. Assumes nothing.
+use mathlib.Core.Path.{◌≡◌, refl, sym, ap, ◌∙◌}
+use mathlib.Core.List.{List}
+use Prim.Native.Nat.{ℕ, ◌-◌}
+use native.Mathlib.Omega.{arith}
+use lib.ListN.{length}
+use Rattle.frame.specs.Inside.Buffer.{Shows}
+use Rattle.frame.specs.Walk.{item}
+use Rattle.frame.proofs.Shortened.{Going, going_first, going_more, going_stop, going_cut, going_done}
+use Rattle.read.specs.Read.{id_at, encode, record_for}
+use Rattle.read.specs.Inside.{item_of}
+use Rattle.read.proofs.Ids.{id_ahead}
+use borrow.Author.Rules.{rules}
+use Rattle.read.proofs.attributes.read_records.Given as goal
+
+abbrev pub invariant-loop-at : goal.invariant-loop-at
+invariant-loop-at l =
+    (length l.reply ≡ length l.initial.reply) × ((head : List ℕ) → Shows l.initial.reply l.from head → Going encode (record_for 8 l.store l.request) (id_at l.body) (length l.body) (length l.initial.reply) head l.reply l.at l.out)
+
+abbrev pub decreases-loop-at : goal.decreases-loop-at
+decreases-loop-at l = length l.body - l.at

@@ -1,0 +1,11 @@
+-- `configuration_reply::check_configuration_reply` meets its contract. Assumes nothing.
+use mathlib.Core.Path.{ap, ◌∙◌}
+use Rattle.readers.specs.Replies.{setting_record, configuration_reply_of}
+use Rattle.readers.specs.Answers.{count_is}
+use Rattle.readers.proofs.Records.{record_counts}
+use borrow.Author.Rules.{rules}
+use Rattle.readers.proofs.configuration_reply.check_configuration_reply.Goals as goal
+
+pub returns : goal.returns
+unfolding configuration_reply_of
+returns c = ap count_is c.count_of.ensures ∙ record_counts setting_record _ 0 _ c.sweep_records-swept.result c.sweep_records-swept.ensures

@@ -1,0 +1,36 @@
+-- `configure_reply::configure_reply_record` meets its contract. Assumes nothing.
+use native.Mathlib.Omega.{arith}
+use Rattle.frame.specs.declared.command_identifier.CommandIdentifier.TheVariants.{ConfigureReportingResponse}
+use Rattle.readers.specs.declared.layout.Layout.TheVariants.{ConfigureFailure}
+use Rattle.readers.specs.Replies.{failures_of, configure_failure, configure_reply_of}
+use Rattle.readers.specs.Inside.{Stand}
+use Rattle.readers.proofs.Records.{stands, refused, record_past, record_there, record_none}
+use borrow.Author.Rules.{rules}
+use Rattle.readers.proofs.configure_reply.configure_reply_record.Goals as goal
+
+pub returns-then-count-k : goal.returns-then-count-k
+unfolding configure_reply_of
+returns-then-count-k c =
+    let found : Stand c.args.frame.now c.args.k (failures_of ConfigureReportingResponse ConfigureFailure c.args.frame.now) c.in-Records.count c.in-Records.at c.in-Records.size = stands c.sweep_failures-swept.ensures c.in-Records.is in
+    record_past configure_failure found c.if-count-k.true
+
+pub overflow_add-part : goal.overflow_add-part
+overflow_add-part c =
+    let found : Stand c.args.frame.now c.args.k (failures_of ConfigureReportingResponse ConfigureFailure c.args.frame.now) c.in-Records.count c.in-Records.at c.in-Records.size = stands c.sweep_failures-swept.ensures c.in-Records.is in
+    omega (arith, found.within c.if-count-k.false)
+
+pub slice_bounds-part-end : goal.slice_bounds-part-end
+slice_bounds-part-end c =
+    let found : Stand c.args.frame.now c.args.k (failures_of ConfigureReportingResponse ConfigureFailure c.args.frame.now) c.in-Records.count c.in-Records.at c.in-Records.size = stands c.sweep_failures-swept.ensures c.in-Records.is in
+    found.within c.if-count-k.false
+
+pub returns-else-count-k : goal.returns-else-count-k
+unfolding configure_failure configure_reply_of
+returns-else-count-k c =
+    let found : Stand c.args.frame.now c.args.k (failures_of ConfigureReportingResponse ConfigureFailure c.args.frame.now) c.in-Records.count c.in-Records.at c.in-Records.size = stands c.sweep_failures-swept.ensures c.in-Records.is in
+    record_there configure_failure found c.if-count-k.false _
+    (λ i. record { status = c.byte_at.ensures i; direction = c.byte_at-in-Records.ensures i; id = c.u16_at.ensures i })
+
+pub returns-in-Refused : goal.returns-in-Refused
+unfolding configure_reply_of
+returns-in-Refused c = record_none configure_failure _ _ _ (refused _ _ c.sweep_failures-swept.ensures c.in-Refused.is)

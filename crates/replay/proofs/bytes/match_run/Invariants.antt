@@ -1,0 +1,14 @@
+-- Each byte that stands there leaves the same match. Assumes nothing.
+use mathlib.Core.Path.{◌≡◌, refl, sym, ◌∙◌}
+use Prim.Native.Nat.{◌-◌}
+use lib.ListN.{length, drop}
+use Rattle.replay.proofs.Matches.{matched_more, matched_other, matched_past, matched_all}
+use borrow.Author.Rules.{rules}
+use Rattle.replay.specs.Inside.{matched}
+use Rattle.replay.proofs.bytes.match_run.Given as goal
+
+abbrev pub invariant-loop-i : goal.invariant-loop-i
+invariant-loop-i l = matched l.s l.p (drop l.i l.bytes) ≡ matched l.s l.at l.bytes
+
+abbrev pub decreases-loop-i : goal.decreases-loop-i
+decreases-loop-i l = length l.bytes - l.i

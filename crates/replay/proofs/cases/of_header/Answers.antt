@@ -1,0 +1,19 @@
+-- Nothing of a short frame, else seven bytes. Assumes nothing.
+use mathlib.Core.Path.{sym, ap, ◌∙◌}
+use Rattle.replay.specs.Ours.{bit_of, frame_type_byte}
+use Rattle.replay.specs.declared.cases.Agreement.TheVariants.{Is}
+use Rattle.replay.proofs.Says.{header_short, header-says}
+use borrow.Author.Rules.{rules}
+use Rattle.replay.proofs.cases.of_header.Goals as goal
+
+pub returns-in_default : goal.returns-in_default
+returns-in_default c =
+    header_short c.args.input.now c.args.held.now (sym c.read_header.ensures ∙ c.in_default.is)
+
+pub returns : goal.returns
+returns c =
+    ap Is c.same.ensures
+    ∙ header-says c.args.input.now c.args.held.now _ _ _ _ _ _ (sym c.read_header.ensures ∙ c.in-Header.is)
+    (c.frame_type_byte.ensures ∙ ap frame_type_byte c.frame_type.ensures)
+    (c.bit.ensures ∙ ap bit_of c.is_manufacturer_specific.ensures)
+    c.low.ensures c.low-2.ensures c.low-3.ensures

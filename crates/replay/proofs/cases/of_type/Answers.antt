@@ -1,0 +1,19 @@
+-- Three bytes of one, or none. Assumes nothing.
+use mathlib.Core.Path.{ap, ◌∙◌}
+use Rattle.replay.specs.Ours.{bit_of, size_byte}
+use Rattle.replay.specs.declared.cases.Agreement.TheVariants.{Is}
+use Rattle.replay.proofs.Says.{type_other, type_says}
+use borrow.Author.Rules.{rules}
+use Rattle.replay.proofs.cases.of_type.Goals as goal
+
+pub returns-then-input-ne1 : goal.returns-then-input-ne1
+returns-then-input-ne1 c =
+    type_other c.args.input.now c.args.held.now c.if-input-ne1.true
+
+pub returns : goal.returns
+returns c =
+    ap Is c.same.ensures
+    ∙ type_says c.args.input.now c.args.held.now _ _ _ c.if-input-ne1.false
+    (c.size_byte.ensures ∙ ap size_byte c.fixed_size.ensures)
+    (c.bit.ensures ∙ ap bit_of c.is_analog.ensures)
+    (c.bit-2.ensures ∙ ap bit_of c.is_reportable_type.ensures)

@@ -1,0 +1,13 @@
+-- The loop's invariant: the scan has passed i slots, none of them the key's. Assumes nothing.
+use native.Mathlib.Omega.{arith}
+use mathlib.Core.Path.{sym, ◌∙◌}
+use Prim.Native.Nat.{◌-◌}
+use Rattle.reporting.proofs.CarriageLoops.{known_size, known_count}
+use Rattle.reporting.proofs.Lending.{Passed, passed_none, passed_all, passed_here, passed_more}
+use Rattle.reporting.proofs.lent.find_slot.Given as goal
+
+abbrev pub invariant-loop-i : goal.invariant-loop-i
+invariant-loop-i l = Passed l.key l.bytes l.i
+
+abbrev pub decreases-loop-i : goal.decreases-loop-i
+decreases-loop-i l = l.n - l.i

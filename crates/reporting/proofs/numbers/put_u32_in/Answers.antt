@@ -1,0 +1,11 @@
+-- Two halves of two bytes, one behind the other. Assumes nothing.
+use borrow.Author.Rules.{rules}
+use Rattle.reporting.proofs.Carriage.{put_halves}
+use Rattle.reporting.proofs.numbers.put_u32_in.Goals as goal
+
+pub returns : goal.returns
+returns c =
+    let a = c.args in
+    let low = c.put_u16_in in
+    let high = c.put_u16_in-2 in
+    put_halves a.at 2 2 a.n a.bytes.now low.new.bytes high.new.bytes low.ensures high.ensures

@@ -1,0 +1,19 @@
+-- `reporting::table::ReportingTable::clear` meets its contract. Assumes nothing.
+use Prim.Native.Nat.{◌-◌}
+use native.Mathlib.Omega.{arith}
+use Rattle.reporting.proofs.Slots.{length_mapped, Found, clear_bad, clear_absent, clear_is}
+use borrow.Author.Rules.{rules}
+use Rattle.reporting.proofs.table.ReportingTable.clear.Goals as goal
+
+pub returns-then-n-gt-LIMIT : goal.returns-then-n-gt-LIMIT
+returns-then-n-gt-LIMIT c = clear_bad c.args.self c.if-n-gt-LIMIT.true _
+
+pub returns-then-n-at : goal.returns-then-n-at
+returns-then-n-at c =
+    let found : Found c.args.self c.args.key c.find-at.result = record { slots = search (length_mapped, rules); small = c.if-n-gt-LIMIT.false; place = c.find-at.ensures } in
+    clear_absent found c.if-n-at.true
+
+pub returns : goal.returns
+returns c =
+    let found : Found c.args.self c.args.key c.find-at.result = record { slots = search (length_mapped, rules); small = c.if-n-gt-LIMIT.false; place = c.find-at.ensures } in
+    clear_is found (c.args.self.count - 1) _ c.if-n-at.false (omega arith)

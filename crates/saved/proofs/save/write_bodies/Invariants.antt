@@ -1,0 +1,19 @@
+-- After i turns the bodies of the first i entries stand behind the contents. Assumes nothing.
+use native.Mathlib.Omega.{arith}
+use Prim.Native.Nat.{ℕ, ◌-◌, ◌≤◌}
+use mathlib.Core.Path.{◌≡◌, refl, ap, ◌∙◌}
+use mathlib.Core.List.{List, map}
+use lib.ListN.{length}
+use lib.Seq.{sets}
+use Rattle.reporting.specs.declared.entry.Entry.{Entry}
+use Rattle.reporting.specs.Carried.{laid, rows_laid, count_in}
+use Rattle.reporting.proofs.CarriageLoops.{known_size, known_count}
+use Rattle.saved.specs.Saved.{marked, body_of, offset_at}
+use Rattle.saved.proofs.Rows.{bodies_to, bodies_none, bodies_turn, all_taken}
+use Rattle.saved.proofs.save.write_bodies.Given as goal
+
+abbrev pub invariant-loop-i : goal.invariant-loop-i
+invariant-loop-i l = (l.i ≤ l.n) × ((length l.saved ≡ length l.initial.saved) × (l.saved ≡ sets l.initial.saved (offset_at marked l.n 0) (rows_laid marked.bodies (bodies_to l.table l.i))))
+
+abbrev pub decreases-loop-i : goal.decreases-loop-i
+decreases-loop-i l = l.n - l.i

@@ -1,0 +1,15 @@
+-- The conditions on the attributes that are left are those on all of them. Assumes nothing.
+use Prim.Native.Nat.{◌+◌, ◌-◌, ◌*◌, ◌≤◌}
+use mathlib.Core.Path.{◌≡◌}
+use native.Mathlib.Omega.{arith}
+use borrow.Author.Rules.{rules}
+use borrow.Author.Tests.{not-true, not-false}
+use Rattle.store.specs.Layout.{is_store}
+use Rattle.store.proofs.Layouts.{left, left_start, left_many, left_cut, left_exact, left_over, left_bad, left_more}
+use Rattle.store.proofs.layout.is_store.Given as goal
+
+abbrev pub invariant-loop-i : goal.invariant-loop-i
+invariant-loop-i l = (l.i ≤ l.n) × ((l.from ≤ 516 + l.i * 65535) × (left l.s l.n l.i l.least l.from ≡ is_store 8 l.s))
+
+abbrev pub decreases-loop-i : goal.decreases-loop-i
+decreases-loop-i l = l.n - l.i

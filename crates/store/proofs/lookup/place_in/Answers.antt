@@ -1,0 +1,20 @@
+-- The scan from here finds what the scan from the start finds. Assumes nothing.
+use Prim.Native.Nat.{◌-◌, ◌≤◌}
+use mathlib.Core.Path.{◌≡◌, refl}
+use native.Mathlib.Omega.{arith}
+use Rattle.store.proofs.Scan.{scan, here, further, nowhere}
+use Rattle.store.proofs.lookup.place_in.Goals as goal
+
+pub loop-i-init : goal.loop-i-init
+loop-i-init c = (omega arith, refl)
+
+pub returns-then-name_in-wanted : goal.returns-then-name_in-wanted
+returns-then-name_in-wanted c =
+    here 8 _ _ _ _ c.loop-i.invariant.1 _ c.requires.n_value c.loop-i-test.true c.name_in.ensures c.if-name_in-wanted.true
+
+pub loop-i-preserved : goal.loop-i-preserved
+loop-i-preserved c =
+    (omega arith, further 8 _ _ _ _ c.loop-i.invariant.1 _ c.loop-i-test.true c.name_in.ensures c.if-name_in-wanted.false)
+
+pub returns : goal.returns
+returns c = nowhere 8 _ _ _ _ c.loop-i.invariant.1 c.requires.n_value c.loop-i-test.false
