@@ -24,7 +24,9 @@ use tally::{Tally, row_of};
 // A row with the count of one kind.
 fn row(out: &impl Print, name: &str, t: Tally, letter: u8, rest: &str) -> io::Result<()> {
     let k = row_of(letter);
-    println!(out; "{name}: {} of {} {rest}", t.agree[k], t.of[k])
+    let agree = t.agree[k];
+    let of = t.of[k];
+    println!(out; "{name}: {agree} of {of} {rest}")
 }
 
 fn report(out: &impl Print, t: Tally, whole: bool) -> io::Result<()> {
