@@ -41,7 +41,9 @@ fn main(rt: HostRuntime) -> io::Result<()> {
     let mut input = space();
     let n = read_full(&mut rt.stdin(), &mut input)?;
     if LONGEST < n {
-        return rt.stderr().write_all(b"bench: the input has more than 131072 bytes\n");
+        return rt
+            .stderr()
+            .write_all(b"bench: the input has more than 131072 bytes\n");
     }
     let mut out = [0u8; 130];
     let len = bench(&input[..n], &mut out);

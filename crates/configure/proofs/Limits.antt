@@ -4,7 +4,7 @@ use mathlib.Core.Bool.{Bool, true, false, cond}
 use mathlib.Core.List.{List, [], ◌∷◌}
 use Prim.Native.Nat.{ℕ, ◌≤◌}
 use lib.ListN.{length}
-use lib.Dec.{leb, eqb}
+use lib.Dec.{eqb}
 use Rattle.frame.specs.declared.header.ZclHeader.{ZclHeader}
 use Rattle.frame.specs.declared.command_identifier.CommandIdentifier.TheVariants.{ConfigureReportingResponse}
 use Rattle.frame.specs.declared.status.Status.TheVariants.{InvalidDataType, UnreportableAttribute}
@@ -12,7 +12,6 @@ use Rattle.frame.specs.Header.{reply_head}
 use Rattle.frame.specs.Walk.{Ending, done, cut, Way, stopped, walk, taken}
 use Rattle.frame.specs.Encoded.{fits}
 use Rattle.frame.specs.Failures.{Did, did, Sofar, sofar, noted, done_with, pass_from, concluded, performed, headed}
-use Rattle.frame.specs.Answer.{Outcome}
 use Rattle.store.specs.declared.lookup.Found.{Found}
 use Rattle.store.specs.declared.lookup.Found.TheVariants.{At, Nothing}
 use Rattle.store.specs.Contents.{name_of, find_of, reportable}

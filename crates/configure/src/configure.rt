@@ -22,8 +22,8 @@ pub fn configure_reporting(
     reply: &mut [u8],
 ) -> Answer
     requires { is_table capacity table.old ≡ true }
-    ensures table_after { is_table capacity table.new ≡ true }
-    ensures table_after_2 { seen result reply.new (holding (table_in table.new)) ≡ configure_of 8 capacity store.now (holding (table_in table.old)) request body.now (length reply.old) }
+    ensures stays_table { is_table capacity table.new ≡ true }
+    ensures answered { seen result reply.new (holding (table_in table.new)) ≡ configure_of 8 capacity store.now (holding (table_in table.old)) request body.now (length reply.old) }
 {
     let begun = begin_reply(
         reply,

@@ -23,7 +23,7 @@ use Rattle.reporting.specs.Table.{capacity, holding}
 use Rattle.reporting.specs.Carried.{is_table, table_in}
 use Rattle.reporting.specs.Claims.RoundTrip.{AllClean}
 use Rattle.reporting.proofs.CarriageTable.{table_clean}
-use Rattle.read.specs.Read.{ReadRecord, value}
+use Rattle.read.specs.Read.{ReadRecord}
 use Rattle.server.specs.Serve.{State, serve}
 use Rattle.report.specs.Report.{ReportRecord}
 use Rattle.readers.specs.declared.value.ValueIn.{ValueIn}

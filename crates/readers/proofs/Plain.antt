@@ -1,7 +1,7 @@
 -- Replies that are nothing but records, both ways, over the record. Assumes nothing.
 use mathlib.Core.Path.{◌≡◌, refl, sym, ap, ◌∙◌}
 use mathlib.Core.List.{List, ◌++◌}
-use Prim.Native.Nat.{ℕ, ◌+◌}
+use Prim.Native.Nat.{ℕ}
 use lib.ListN.{drop}
 use Rattle.types.specs.Number.{AllBytes}
 use Rattle.frame.specs.Walk.{All}

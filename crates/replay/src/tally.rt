@@ -93,8 +93,8 @@ impl Tally {
 
     // One line more.
     fn with(mut self, letter: u8, agrees: bool) -> Tally
-        requires at_most { AtMost self.lines self.agree }
-        requires at_most_2 { AtMost self.lines self.of }
+        requires agree_bound { AtMost self.lines self.agree }
+        requires of_bound { AtMost self.lines self.of }
         requires lines_bound { self.lines < 18446744073709551615 }
         ensures { result ≡ counted self letter agrees }
     {

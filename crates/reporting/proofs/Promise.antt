@@ -14,7 +14,7 @@ use Rattle.reporting.specs.declared.entry.Entry.{Entry}
 use Rattle.reporting.specs.Entries.{fresh, lookup_l, Distinct, configure_l}
 use Rattle.reporting.specs.Due.{moved_by, ripe}
 use Rattle.reporting.specs.Wish.{record_w}
-use Rattle.reporting.specs.Claims.Events.{configured, marked, run, Call, config_record, call, calls, history}
+use Rattle.reporting.specs.Claims.Events.{configured, run, Call, config_record, call, calls, history}
 use Rattle.reporting.specs.Demand3.{Ask, asks_of, Paced, owed, MarkedAsks, AcceptedRecord, AllNo, Since, Moved, Promised, Demand3Standing, Demand3From, Demand3, Demand3OfCalls}
 use Rattle.reporting.proofs.Due.{ripe_early, ripe_late, ripe_between}
 use Rattle.reporting.proofs.Runs.{honest_rest}

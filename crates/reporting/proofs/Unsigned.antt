@@ -22,20 +22,7 @@ use Rattle.types.proofs.Finite.{by_run}
 use Rattle.reporting.specs.declared.entry.Entry.{Entry}
 use Rattle.reporting.specs.Due.{dist, bits_of, dist_by, moved_by}
 use Rattle.reporting.proofs.Signed.{dist_pp, dist_pn, dist_np, dist_nn}
-use Rattle.reporting.specs.Claims.Unsigned.{
-  eight_bytes,
-  keeps_bits,
-  OthersAsBefore,
-  OneSideAsBefore,
-  TwoSidesMoved,
-  signed_e,
-  AsBefore,
-  OthersDecideAsBefore,
-  SmallChangesAsBefore,
-  OnlyUint64,
-  FromNothingToTheTop,
-  MeterSpeaks,
-}
+use Rattle.reporting.specs.Claims.Unsigned.{eight_bytes, keeps_bits, OthersAsBefore, OneSideAsBefore, TwoSidesMoved, AsBefore, OthersDecideAsBefore, SmallChangesAsBefore, OnlyUint64, FromNothingToTheTop, MeterSpeaks}
 
 -- a number below 2^64 is its bits
 bits_kept : (n : ℕ) → n < 2 ^ 64 → bits_of (pos n) ≡ n

@@ -193,7 +193,7 @@ pub fn read_table(bytes: &[u8]) -> ReadTable
 // that table; but an entry that was never marked carries no time and no value there.
 pub fn write_table(bytes: &mut [u8], table: ReportingTable) -> bool
     ensures bytes_after { written result bytes.new ≡ write_t capacity table bytes.old }
-    ensures bytes_after_2 { result ≡ true → read_t capacity bytes.new ≡ table_read true (map quieted (take table.count table.entries)) }
+    ensures read_back { result ≡ true → read_t capacity bytes.new ≡ table_read true (map quieted (take table.count table.entries)) }
 {
     if bytes.len() != TABLE_BYTES {
         return false;

@@ -25,7 +25,7 @@ use Rattle.write.specs.Write.{written_all, write_undivided}
 use Rattle.write.specs.Claims.Last.{Left}
 use Rattle.write.proofs.UndividedWays.{Decided, tight, full, broke, listed, wrote, narrow, undivided_ways}
 use Rattle.write.proofs.Last.{records_leave}
-use Rattle.server.specs.Serve.{State, state, storing, commanded, serve}
+use Rattle.server.specs.Serve.{State, storing, commanded, serve}
 use Rattle.server.specs.Claims.Asks.{Asks}
 use Rattle.server.specs.Claims.AllOrNothing.{Readable, Unreadable, failures_over, AllOrNothing, store_of, AllOrNothingServed, AllOrNothingHandled}
 use Rattle.server.proofs.Heard.{reaches}

@@ -24,13 +24,11 @@ use Rattle.reporting.specs.declared.entry.Entry.{Entry}
 use Rattle.reporting.specs.declared.table.ReportingTable.{ReportingTable}
 use Rattle.reporting.specs.Table.{Table, holding, bad}
 use Rattle.write.specs.Request.{WriteRecord, records}
-use Rattle.write.specs.Reply as Write
 use Rattle.write.specs.Write.{writing, write_attributes, write_undivided, write_silently}
 use Rattle.write.proofs.Items.{Whole}
 use Rattle.write.proofs.Judged.{all_written}
 use Rattle.write.proofs.Last.{fronts}
 use Rattle.write.proofs.Order.{steps, steps_alike}
-use Rattle.configure.specs.Configure as Configure
 use Rattle.configure.specs.Configure.{configure_of}
 use Rattle.server.specs.Serve.{State, state, storing, tabling, commanded, tabled, serve}
 use Rattle.server.specs.Claims.Split.{Call, body_of, IsCall, Writes, answer_to, after, Fits, WritesAny}

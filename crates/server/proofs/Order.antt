@@ -12,12 +12,10 @@ use Rattle.store.specs.Claims.Stays.{StoreLike}
 use Rattle.reporting.specs.declared.entry.Entry.{Entry}
 use Rattle.reporting.specs.Table.{holding}
 use Rattle.write.specs.Request.{WriteRecord, records}
-use Rattle.write.specs.Reply as Write
 use Rattle.write.specs.Write.{write_attributes, write_undivided, write_silently}
 use Rattle.write.specs.Claims.Last.{naming}
 use Rattle.write.proofs.Items.{Whole, records_whole}
 use Rattle.write.proofs.Order.{steps, either_order, Deed, silent_deed, write_deed, undivided_deed}
-use Rattle.configure.specs.Configure as Configure
 use Rattle.server.specs.Serve.{State, state}
 use Rattle.server.specs.Claims.Split.{Call, body_of, after, WritesAny, NoneInCommon, EitherOrder}
 use Rattle.server.proofs.Called.{gate, Gate, shut, admits, by_write, by_silent, by_undivided, after_like, after_own, opened, stays_any, two_stay}

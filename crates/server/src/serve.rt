@@ -46,8 +46,8 @@ fn global_command(
     reply: &mut [u8],
 ) -> Answer
     requires { is_table capacity table.old ≡ true }
-    ensures table_after { is_table capacity table.new ≡ true }
-    ensures table_after_2 { seen result reply.new (state store.new (holding (table_in table.new))) ≡ commanded 8 capacity store.old (holding (table_in table.old)) unicast request body.now (length reply.old) (command_of request.command_identifier.0) }
+    ensures stays_table { is_table capacity table.new ≡ true }
+    ensures answered { seen result reply.new (state store.new (holding (table_in table.new))) ≡ commanded 8 capacity store.old (holding (table_in table.old)) unicast request body.now (length reply.old) (command_of request.command_identifier.0) }
 {
     let number = request.command_identifier;
     let command = CommandIdentifier::from_bits(number.0);
@@ -82,8 +82,8 @@ fn serve_frame(
     reply: &mut [u8],
 ) -> Answer
     requires { is_table capacity table.old ≡ true }
-    ensures table_after { is_table capacity table.new ≡ true }
-    ensures table_after_2 { seen result reply.new (state store.new (holding (table_in table.new))) ≡ typed 8 capacity store.old (holding (table_in table.old)) unicast request body.now (length reply.old) (frame_type_of request.frame_control.0) }
+    ensures stays_table { is_table capacity table.new ≡ true }
+    ensures answered { seen result reply.new (state store.new (holding (table_in table.new))) ≡ typed 8 capacity store.old (holding (table_in table.old)) unicast request body.now (length reply.old) (frame_type_of request.frame_control.0) }
 {
     let kind = request.frame_control.frame_type();
     let FrameType::GlobalCommand = kind else {

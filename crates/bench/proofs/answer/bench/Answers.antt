@@ -3,7 +3,6 @@ use mathlib.Core.Path.{ap, ◌∙◌}
 use native.Mathlib.Omega.{arith}
 use Rattle.bench.specs.Bench.{decimal}
 use Rattle.bench.proofs.Says.{bench_cut, bench_whole}
-use borrow.Author.Rules.{rules}
 use Rattle.bench.proofs.answer.bench.Goals as goal
 
 pub returns-then-input-end : goal.returns-then-input-end

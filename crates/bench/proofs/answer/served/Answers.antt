@@ -1,12 +1,9 @@
 -- Too long for a store, or served over the copy. Assumes nothing.
 use mathlib.Core.Path.{◌≡◌, sym, ap, ◌∙◌}
-use mathlib.Core.List.{List}
-use Prim.Native.Nat.{ℕ}
 use native.Mathlib.Omega.{arith}
 use lib.ListN.{length, take}
 use Rattle.bench.specs.Bench.{decimal}
 use Rattle.bench.proofs.Says.{said_too_long, copied, said_served}
-use borrow.Author.Rules.{rules}
 use Rattle.bench.proofs.answer.served.Goals as goal
 
 pub returns-then-n-gt4096 : goal.returns-then-n-gt4096

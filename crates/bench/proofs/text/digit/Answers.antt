@@ -1,6 +1,5 @@
 -- `0` to `9`, then `a` to `f`. Assumes nothing.
 use mathlib.Core.Path.{refl}
-use borrow.Author.Rules.{rules}
 use borrow.Author.Tests.{lt-ltb, le-ltb}
 use Rattle.bench.proofs.text.digit.Goals as goal
 

@@ -8,7 +8,6 @@ use Rattle.frame.specs.Answer.{answer_length}
 use Rattle.bench.specs.Bench.{decimal, hex}
 use Rattle.bench.proofs.Laid.{two_laid, no_longer}
 use Rattle.bench.proofs.Says.{said_refusal, said_reply}
-use borrow.Author.Rules.{rules}
 use Rattle.bench.proofs.text.put_answer.Goals as goal
 
 pub returns-then-number-ne0 : goal.returns-then-number-ne0

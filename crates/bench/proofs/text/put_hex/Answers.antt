@@ -1,12 +1,11 @@
 -- What is left of the digits equals the whole. Assumes nothing.
-use mathlib.Core.Path.{◌≡◌, refl, sym, ap, ◌∙◌}
+use mathlib.Core.Path.{refl, sym, ap, ◌∙◌}
 use mathlib.Core.List.{List, ◌++◌, append-nil}
-use Prim.Native.Nat.{ℕ, ◌+◌, ◌-◌, ◌*◌, ◌≤◌}
+use Prim.Native.Nat.{ℕ, ◌+◌}
 use native.Mathlib.Omega.{arith}
-use lib.ListN.{length, set, take, drop, length-set}
+use lib.ListN.{set, take, drop, length-set}
 use Rattle.bench.specs.Bench.{hex}
 use Rattle.bench.proofs.Laid.{hex_step, hex_done}
-use borrow.Author.Rules.{rules}
 use Rattle.bench.proofs.text.put_hex.Goals as goal
 
 pub loop-i-init : goal.loop-i-init

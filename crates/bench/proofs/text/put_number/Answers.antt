@@ -3,7 +3,6 @@ use mathlib.Core.Path.{◌∙◌}
 use native.Mathlib.Omega.{arith}
 use lib.ListN.{take, set}
 use Rattle.bench.proofs.Laid.{decimal_one, decimal_two}
-use borrow.Author.Rules.{rules}
 use Rattle.bench.proofs.text.put_number.Goals as goal
 
 pub returns-then-n-lt10 : goal.returns-then-n-lt10

@@ -1,7 +1,5 @@
 -- An analog type has a change. Assumes nothing.
 use mathlib.Core.Path.{sym, ◌∙◌}
-use borrow.Author.Tests.{not-true, not-false}
-use borrow.Author.Rules.{rules}
 use Rattle.configure.proofs.change.change_of.Goals as goal
 
 pub returns-then-not-is_analog : goal.returns-then-not-is_analog

@@ -2,8 +2,6 @@
 use mathlib.Core.Path.{sym, ◌∙◌}
 use Rattle.types.specs.declared.ids.Size.TheVariants.{Bytes, Varies}
 use Rattle.configure.proofs.Widths.{width_none, width_of}
-use borrow.Author.Tests.{not-true, not-false}
-use borrow.Author.Rules.{rules}
 use Rattle.configure.proofs.change.change_width.Goals as goal
 
 pub returns-then-not-is_analog : goal.returns-then-not-is_analog

@@ -1,18 +1,11 @@
 -- `configuration::configuration_records` meets its contract: each turn keeps the walk the same. Assumes nothing.
 use mathlib.Core.Path.{◌≡◌, refl, sym, ap, ◌∙◌}
-use mathlib.Core.List.{List}
-use Prim.Native.Nat.{ℕ, ◌-◌}
 use native.Mathlib.Omega.{arith}
-use lib.ListN.{length}
-use Rattle.frame.specs.Inside.Buffer.{Shows}
 use Rattle.frame.specs.Walk.{item}
-use Rattle.frame.proofs.Shortened.{Going, going_first, going_more, going_stop, going_cut, going_done}
-use Rattle.reporting.specs.Carried.{table_in}
+use Rattle.frame.proofs.Shortened.{going_first, going_more, going_stop, going_cut, going_done}
 use Rattle.configure.specs.Request.{asked, asked_at}
-use Rattle.configure.specs.Configuration.{encode, record_for}
 use Rattle.configure.specs.Inside.{asked_item}
 use Rattle.configure.proofs.Asked.{asked_ahead}
-use borrow.Author.Rules.{rules}
 use Rattle.configure.proofs.configuration.configuration_records.Goals as goal
 
 pub loop-at-init : goal.loop-at-init
@@ -44,11 +37,10 @@ loop-at-smaller c =
 
 pub loop-at-preserved : goal.loop-at-preserved
 loop-at-preserved c =
-    let read_asked : item (asked c.in-Asked.direction c.in-Asked.id.0) c.in-Asked.next ≡ asked_at c.args.body.now c.loop-at.at = ap asked_item (sym c.in-Asked.is) ∙ c.next_asked.ensures in
-    (
-  c.configuration_turn-put.auto.reply ∙ c.loop-at.invariant.0,
-  λ head w. going_more _ _ _ _ _ _ _ _ _ (c.loop-at.invariant.1 head w) c.loop-at.invariant.0 (asked_ahead _) c.loop-at-test.true _ _ read_asked _ _ c.configuration_turn-put.ensures _ c.in-At.is,
-)
+    let read_asked : item (asked c.in-Asked.direction c.in-Asked.id.0) c.in-Asked.next ≡ asked_at c.args.body.now c.loop-at.at = ap asked_item (sym c.in-Asked.is) ∙ c.next_asked.ensures in (
+      c.configuration_turn-put.auto.reply ∙ c.loop-at.invariant.0,
+      λ head w. going_more _ _ _ _ _ _ _ _ _ (c.loop-at.invariant.1 head w) c.loop-at.invariant.0 (asked_ahead _) c.loop-at-test.true _ _ read_asked _ _ c.configuration_turn-put.ensures _ c.in-At.is,
+    )
 
 pub shape_of-reply : goal.shape_of-reply
 shape_of-reply c = c.loop-at.invariant.0

@@ -1,18 +1,13 @@
 -- `configuration::configuration_records` meets its contract: each turn keeps the walk the same. Assumes nothing.
-use mathlib.Core.Path.{◌≡◌, refl, sym, ap, ◌∙◌}
+use mathlib.Core.Path.{◌≡◌}
 use mathlib.Core.List.{List}
 use Prim.Native.Nat.{ℕ, ◌-◌}
-use native.Mathlib.Omega.{arith}
 use lib.ListN.{length}
 use Rattle.frame.specs.Inside.Buffer.{Shows}
-use Rattle.frame.specs.Walk.{item}
-use Rattle.frame.proofs.Shortened.{Going, going_first, going_more, going_stop, going_cut, going_done}
+use Rattle.frame.proofs.Shortened.{Going}
 use Rattle.reporting.specs.Carried.{table_in}
-use Rattle.configure.specs.Request.{asked, asked_at}
+use Rattle.configure.specs.Request.{asked_at}
 use Rattle.configure.specs.Configuration.{encode, record_for}
-use Rattle.configure.specs.Inside.{asked_item}
-use Rattle.configure.proofs.Asked.{asked_ahead}
-use borrow.Author.Rules.{rules}
 use Rattle.configure.proofs.configuration.configuration_records.Given as goal
 
 abbrev pub invariant-loop-at : goal.invariant-loop-at

@@ -2,7 +2,6 @@
 use Rattle.reporting.specs.Entries.{lookup_l}
 use Rattle.reporting.specs.Carried.{table_in}
 use Rattle.configure.proofs.Answers.{answered}
-use borrow.Author.Rules.{rules}
 use Rattle.configure.proofs.configuration.configuration_turn.Goals as goal
 
 pub configuration_in-setting-requires : goal.configuration_in-setting-requires

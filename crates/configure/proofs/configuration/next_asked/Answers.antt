@@ -6,7 +6,6 @@ use lib.ListN.{get_or}
 use Rattle.frame.specs.Walk.{item}
 use Rattle.configure.specs.Request.{asked}
 use Rattle.configure.proofs.Asked.{asked_cut, asked_here}
-use borrow.Author.Rules.{rules}
 use Rattle.configure.proofs.configuration.next_asked.Goals as goal
 
 pub returns-then-body-lt3 : goal.returns-then-body-lt3

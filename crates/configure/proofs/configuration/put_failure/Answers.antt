@@ -5,7 +5,6 @@ use Prim.Native.Nat.{ℕ, ◌/◌, ◌%◌}
 use Rattle.types.specs.Number.{bytes_of}
 use Rattle.frame.specs.Inside.Buffer.{put}
 use Rattle.configure.specs.Configuration.{encode}
-use borrow.Author.Rules.{rules}
 use Rattle.configure.proofs.configuration.put_failure.Goals as goal
 
 pub returns : goal.returns

@@ -1,7 +1,6 @@
 -- `configuration::put_found` meets its contract: the record for what the table gives. Assumes nothing.
 use Rattle.configure.specs.Request.{asked}
 use Rattle.configure.proofs.Answers.{put_given, put_none}
-use borrow.Author.Rules.{rules}
 use borrow.Enum.Refused.{opened}
 use Rattle.configure.proofs.configuration.put_found.Goals as goal
 

@@ -6,7 +6,6 @@ use lib.Seq.{length-take-le}
 use Rattle.frame.specs.Inside.Buffer.{put}
 use Rattle.configure.proofs.Widths.{width_least}
 use Rattle.configure.proofs.Encodings.{setting_bytes}
-use borrow.Author.Rules.{rules}
 use Rattle.configure.proofs.configuration.put_setting.Goals as goal
 
 pub overflow_add-end : goal.overflow_add-end

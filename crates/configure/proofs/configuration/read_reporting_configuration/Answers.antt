@@ -1,7 +1,6 @@
 -- `configuration::read_reporting_configuration` meets its contract: no room for the header, or the walk behind it. Assumes nothing.
 use Rattle.frame.proofs.Shortened.{shortened_headless, shortened_walked}
 use Rattle.configure.specs.Configuration.{configuration_of}
-use borrow.Author.Rules.{rules}
 use Rattle.configure.proofs.configuration.read_reporting_configuration.Goals as goal
 
 pub returns-in_default : goal.returns-in_default

@@ -1,7 +1,6 @@
 -- The cluster is the store's. Assumes nothing.
 use mathlib.Core.Path.{ap}
 use Prim.Native.Nat.{ℕ}
-use borrow.Author.Rules.{rules}
 use Rattle.configure.proofs.key.key_for.Goals as goal
 
 pub returns : goal.returns

@@ -1,14 +1,12 @@
 -- What is left of the walk from the table's entries is the whole. Assumes nothing.
-use borrow.Author.Rules.{rules}
 use mathlib.Core.Path.{◌≡◌, sym, subst, ◌∙◌}
-use Prim.Native.Nat.{◌-◌}
 use native.Mathlib.Omega.{arith}
 use lib.ListN.{length}
 use Rattle.reporting.proofs.CarriageLoops.{known_size}
 use Rattle.configure.specs.declared.pass.Turn.{Turn}
 use Rattle.configure.specs.Inside.{Took, Turns}
 use Rattle.configure.proofs.Items.{ahead}
-use Rattle.configure.proofs.Turns.{Goes, goes_first, goes_done, goes_cut, goes_more, goes_stop}
+use Rattle.configure.proofs.Turns.{goes_first, goes_done, goes_cut, goes_more, goes_stop}
 use Rattle.configure.proofs.pass.configure_records.Goals as goal
 
 pub loop-at-init : goal.loop-at-init

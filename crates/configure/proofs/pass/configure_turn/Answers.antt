@@ -4,7 +4,6 @@ use Rattle.configure.specs.declared.record.Next.{Next}
 use Rattle.configure.specs.Request.{configure_at}
 use Rattle.configure.specs.Inside.{item_of}
 use Rattle.configure.proofs.Turns.{took_received, took_reported}
-use borrow.Author.Rules.{rules}
 use Rattle.configure.proofs.pass.configure_turn.Goals as goal
 
 pub returns-in-Received : goal.returns-in-Received

@@ -1,5 +1,4 @@
 -- A deed by its kind: what the function on the bytes did is what the deed comes to. Assumes nothing.
-use borrow.Author.Rules.{rules}
 use mathlib.Core.Path.{refl, sym, subst}
 use Rattle.frame.specs.declared.status.Status.TheVariants.{Success}
 use Rattle.configure.specs.declared.settle.Deed.{Deed}

@@ -4,7 +4,6 @@ use Prim.Native.Nat.{ℕ}
 use mathlib.Core.List.{◌∷◌}
 use Rattle.types.specs.Number.{bytes_of}
 use Rattle.frame.specs.Inside.Failures.{noting}
-use borrow.Author.Rules.{rules}
 use Rattle.configure.proofs.pass.note.Goals as goal
 
 pub returns : goal.returns

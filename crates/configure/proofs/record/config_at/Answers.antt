@@ -1,6 +1,5 @@
 -- Each field is read where the definition reads it; the mark is by the type. Assumes nothing.
 use mathlib.Core.Bool.{not}
-use borrow.Author.Rules.{rules}
 use Rattle.configure.proofs.record.config_at.Goals as goal
 
 pub returns : goal.returns

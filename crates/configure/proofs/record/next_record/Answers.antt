@@ -1,7 +1,6 @@
 -- Each way out is one law of the record at a place. Assumes nothing.
 use native.Mathlib.Omega.{arith}
 use Rattle.configure.proofs.Items.{record_short, received_is, reported_short, reported_is}
-use borrow.Author.Rules.{rules}
 use Rattle.configure.proofs.record.next_record.Goals as goal
 
 pub returns-then-body-at : goal.returns-then-body-at

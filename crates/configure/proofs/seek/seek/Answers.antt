@@ -1,11 +1,9 @@
 -- `seek::seek` meets its contract: the checks in their order, and then the entry. Assumes nothing.
 use mathlib.Core.Path.{◌≡◌, sym, ap, ◌∙◌}
-use borrow.Author.Tests.{not-true, not-false}
 use Rattle.store.specs.declared.lookup.Found.{Found}
 use Rattle.store.specs.declared.lookup.Found.TheVariants.{At}
 use Rattle.store.specs.Contents.{name_of, find_of}
 use Rattle.configure.proofs.Answers.{seeks_nothing, seeks_received, seeks_unreportable, seeks_entry}
-use borrow.Author.Rules.{rules}
 use Rattle.configure.proofs.seek.seek.Goals as goal
 
 pub returns-in_default : goal.returns-in_default

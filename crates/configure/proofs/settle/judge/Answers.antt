@@ -1,19 +1,14 @@
 -- The checks one after the other, and then the intervals. Assumes nothing.
 use mathlib.Core.Path.{◌≡◌, sym, ap, ◌∙◌}
 use mathlib.Core.Bool.{true}
-use mathlib.Core.List.{List}
-use borrow.Author.Tests.{not-true, not-false}
-use Rattle.frame.specs.Failures.{Did}
 use Rattle.store.specs.declared.lookup.Found.{Found}
 use Rattle.store.specs.declared.lookup.Found.TheVariants.{At}
 use Rattle.store.specs.Contents.{name_of, find_of, reportable}
 use Rattle.reporting.specs.declared.entry.Key.{Key}
-use Rattle.reporting.specs.declared.entry.Entry.{Entry}
 use Rattle.reporting.specs.Table.{capacity}
 use Rattle.configure.specs.Request.{key_for}
 use Rattle.configure.specs.Configure.{setting}
 use Rattle.configure.proofs.Settings.{checked_missing, checked_unreportable, checked_other, checked_fine}
-use borrow.Author.Rules.{rules}
 use Rattle.configure.proofs.settle.judge.Goals as goal
 
 pub returns-in_default : goal.returns-in_default

@@ -5,7 +5,6 @@ use Rattle.reporting.specs.Table.{change_told}
 use Rattle.reporting.specs.declared.entry.Wish.TheVariants.{ToSet}
 use Rattle.reporting.specs.Wish.{status_w}
 use Rattle.configure.proofs.Settings.{not_done}
-use borrow.Author.Rules.{rules}
 use borrow.Enum.Refused.{opened}
 use Rattle.configure.proofs.settle.status_of.Goals as goal
 

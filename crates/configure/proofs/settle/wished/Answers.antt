@@ -1,5 +1,4 @@
 -- What the configuration asks for is the deed. Assumes nothing.
-use borrow.Author.Rules.{rules}
 use mathlib.Core.Path.{sym, ◌∙◌}
 use Rattle.configure.proofs.Settings.{wish_clears, wish_refused, wish_sets}
 use Rattle.configure.proofs.settle.wished.Goals as goal

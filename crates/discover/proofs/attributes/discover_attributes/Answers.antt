@@ -3,7 +3,6 @@ use mathlib.Core.Path.{◌≡◌, ◌∙◌}
 use Rattle.types.specs.Number.{unsigned_at}
 use Rattle.store.specs.Contents.{name_of}
 use Rattle.discover.proofs.Whole.{discover_cut, discover_headless, discover_full, discover_listless, discover_listed}
-use borrow.Author.Rules.{rules}
 use Rattle.discover.proofs.attributes.discover_attributes.Goals as goal
 
 pub returns-then-body-lt3 : goal.returns-then-body-lt3

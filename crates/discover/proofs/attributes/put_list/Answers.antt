@@ -7,7 +7,6 @@ use Rattle.frame.proofs.Buffer.{put_at}
 use Rattle.store.specs.Contents.{attributes_of}
 use Rattle.discover.specs.Discover.{at_or_after}
 use Rattle.discover.proofs.Flagged.{list_byteless, list_all, list_part, list_roomless}
-use borrow.Author.Rules.{rules}
 use Rattle.discover.proofs.attributes.put_list.Goals as goal
 
 pub shape_of-reply-in_default : goal.shape_of-reply-in_default

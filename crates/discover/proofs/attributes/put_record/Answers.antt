@@ -1,7 +1,6 @@
 -- `attributes::put_record` meets its contract: its three bytes are the record's. Assumes nothing.
 use Rattle.types.specs.Number.{bytes_of}
 use Rattle.discover.specs.Discover.{encode}
-use borrow.Author.Rules.{rules}
 use Rattle.discover.proofs.attributes.put_record.Goals as goal
 
 pub returns : goal.returns

@@ -1,16 +1,13 @@
 -- `attributes::put_records` meets its contract: what the buffer shows and what is left are always the same. Assumes nothing.
-use mathlib.Core.Path.{◌≡◌, refl, ap, ◌∙◌, subst}
-use mathlib.Core.Logic.{⊎_elim}
-use mathlib.Core.List.{List, ◌++◌}
-use Prim.Native.Nat.{ℕ, ◌+◌, ◌-◌, ◌≤◌, ◌<◌}
+use mathlib.Core.Path.{refl, ap, ◌∙◌, subst}
+use mathlib.Core.List.{◌++◌}
+use Prim.Native.Nat.{ℕ, ◌<◌}
 use native.Mathlib.Omega.{arith}
 use lib.ListN.{length, take}
-use Rattle.frame.specs.Inside.Buffer.{Shows}
 use Rattle.store.specs.Contents.{attributes_of}
 use Rattle.discover.specs.Discover.{at_or_after}
 use Rattle.discover.specs.Inside.{records_of}
-use Rattle.discover.proofs.Going.{Going, going_first, going_put, going_full, going_skip, going_more, going_end, going_as}
-use borrow.Author.Rules.{rules}
+use Rattle.discover.proofs.Going.{going_first, going_put, going_full, going_skip, going_more, going_end, going_as}
 use Rattle.discover.proofs.attributes.put_records.Goals as goal
 use Rattle.discover.proofs.attributes.put_records.Goals.{then-start-name+else-left-eq0+in-At, else-start-name}
 
@@ -39,12 +36,12 @@ pub loop-i-preserved : goal.loop-i-preserved
 loop-i-preserved c = (
   omega arith,
   elim c.if-start-name.branch [
-      | then-start-name+else-left-eq0+in-At x ↦ (
-          ap length x.reply-is ∙ x.put_record.auto.reply ∙ c.loop-i.invariant.1.0,
-          λ before w. going_as _ _ _ _ _ _ _ _ _ _ _ _ x.reply-is x.left-is x.out-is (going_put _ _ _ _ _ _ _ _ _ (c.loop-i.invariant.1.1 before w) _ c.loop-i-test.true c.attribute_at-a.ensures (omega (arith, x.if-left-eq0.false)) x.if-start-name.true _ _ x.put_record.ensures _ x.in-At.is),
-        )
-      | else-start-name x ↦ (ap length x.reply-is ∙ c.loop-i.invariant.1.0, λ before w. going_as _ _ _ _ _ _ _ _ _ _ _ _ x.reply-is x.left-is x.out-is (going_skip _ _ _ _ _ _ _ _ _ (c.loop-i.invariant.1.1 before w) _ c.loop-i-test.true c.attribute_at-a.ensures x.if-start-name.false))
-    ],
+    | then-start-name+else-left-eq0+in-At x ↦ (
+      ap length x.reply-is ∙ x.put_record.auto.reply ∙ c.loop-i.invariant.1.0,
+      λ before w. going_as _ _ _ _ _ _ _ _ _ _ _ _ x.reply-is x.left-is x.out-is (going_put _ _ _ _ _ _ _ _ _ (c.loop-i.invariant.1.1 before w) _ c.loop-i-test.true c.attribute_at-a.ensures (omega (arith, x.if-left-eq0.false)) x.if-start-name.true _ _ x.put_record.ensures _ x.in-At.is),
+    )
+    | else-start-name x ↦ (ap length x.reply-is ∙ c.loop-i.invariant.1.0, λ before w. going_as _ _ _ _ _ _ _ _ _ _ _ _ x.reply-is x.left-is x.out-is (going_skip _ _ _ _ _ _ _ _ _ (c.loop-i.invariant.1.1 before w) _ c.loop-i-test.true c.attribute_at-a.ensures x.if-start-name.false))
+  ],
 )
 
 pub shape_of-reply : goal.shape_of-reply

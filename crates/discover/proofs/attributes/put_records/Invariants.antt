@@ -1,16 +1,13 @@
 -- `attributes::put_records` meets its contract: what the buffer shows and what is left are always the same. Assumes nothing.
-use mathlib.Core.Path.{◌≡◌, refl, ap, ◌∙◌, subst}
-use mathlib.Core.Logic.{⊎_elim}
+use mathlib.Core.Path.{◌≡◌}
 use mathlib.Core.List.{List, ◌++◌}
-use Prim.Native.Nat.{ℕ, ◌+◌, ◌-◌, ◌≤◌, ◌<◌}
-use native.Mathlib.Omega.{arith}
+use Prim.Native.Nat.{ℕ, ◌-◌, ◌≤◌}
 use lib.ListN.{length, take}
 use Rattle.frame.specs.Inside.Buffer.{Shows}
 use Rattle.store.specs.Contents.{attributes_of}
 use Rattle.discover.specs.Discover.{at_or_after}
 use Rattle.discover.specs.Inside.{records_of}
-use Rattle.discover.proofs.Going.{Going, going_first, going_put, going_full, going_skip, going_more, going_end, going_as}
-use borrow.Author.Rules.{rules}
+use Rattle.discover.proofs.Going.{Going}
 use Rattle.discover.proofs.attributes.put_records.Given as goal
 
 abbrev pub invariant-loop-i : goal.invariant-loop-i

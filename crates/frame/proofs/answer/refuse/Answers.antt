@@ -1,6 +1,5 @@
 -- `answer::refuse` meets its contract: the buffer was cleared. Assumes nothing.
 use lib.ListN.{length}
-use borrow.Author.Rules.{rules}
 use Rattle.frame.specs.Answer.{no_state}
 use Rattle.frame.proofs.Outcome.{seen_refused}
 use Rattle.frame.proofs.answer.refuse.Goals as goal

@@ -1,7 +1,6 @@
 -- Each way a pass ends has its answer. Assumes nothing.
 use mathlib.Core.Path.{sym, ap, ◌∙◌}
 use Rattle.frame.specs.Inside.Failures.{concluded_at}
-use borrow.Author.Rules.{rules}
 use Rattle.frame.proofs.failures.conclude.Goals as goal
 
 pub returns-in-Through : goal.returns-in-Through

@@ -3,7 +3,6 @@ use mathlib.Core.Path.{sym, ap, ◌∙◌}
 use Rattle.frame.specs.declared.reply.Put.{Put}
 use Rattle.frame.specs.Inside.Failures.{sent}
 use Rattle.frame.proofs.Listings.{conclude_listed, conclude_none}
-use borrow.Author.Rules.{rules}
 use Rattle.frame.proofs.failures.finish.Goals as goal
 
 pub returns-then-out-start : goal.returns-then-out-start

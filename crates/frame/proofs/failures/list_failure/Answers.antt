@@ -1,7 +1,6 @@
 -- A success is not listed. Assumes nothing.
 use mathlib.Core.Path.{sym, ◌∙◌}
 use Rattle.frame.proofs.Listings.{note_success, note_failure}
-use borrow.Author.Rules.{rules}
 use Rattle.frame.proofs.failures.list_failure.Goals as goal
 
 pub returns-then-to_u8-eq0 : goal.returns-then-to_u8-eq0

@@ -4,7 +4,6 @@ use mathlib.Core.List.{List}
 use Prim.Native.Nat.{ℕ}
 use Rattle.frame.specs.Header.{reply_head}
 use Rattle.frame.specs.Inside.Buffer.{put}
-use borrow.Author.Rules.{rules}
 use Rattle.frame.proofs.header.begin_reply.Goals as goal
 
 pub returns : goal.returns

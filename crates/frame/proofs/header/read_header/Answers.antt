@@ -4,11 +4,9 @@ use mathlib.Core.Bool.{true, false}
 use Prim.Native.Nat.{ℕ}
 use native.Mathlib.Omega.{arith}
 use lib.ListN.{get_or}
-use borrow.Author.Tests.{not-true, not-false}
 use Rattle.frame.specs.Header.{has_code, header_with}
 use Rattle.frame.specs.declared.header.HeaderRead.TheVariants.{Header}
 use Rattle.frame.proofs.Headers.{header_short, header_plain, header_coded, header_coded_short}
-use borrow.Author.Rules.{rules}
 use Rattle.frame.proofs.header.read_header.Goals as goal
 
 pub returns-then-frame-lt3 : goal.returns-then-frame-lt3

@@ -1,12 +1,10 @@
 -- `reply::clear` meets its contract: after i turns the buffer is i zeros and what it had from i on.
-use mathlib.Core.Path.{◌≡◌, ap, ◌∙◌}
-use mathlib.Core.List.{List, ◌++◌}
-use Prim.Native.Nat.{ℕ, ◌-◌, ◌≤◌}
+use mathlib.Core.Path.{ap, ◌∙◌}
+use mathlib.Core.List.{List}
+use Prim.Native.Nat.{ℕ}
 use native.Mathlib.Omega.{arith}
-use borrow.Author.Rules.{rules}
 use borrow.Author.Fill.{fill_more}
-use lib.ListN.{length, drop, set, length-set}
-use Rattle.types.specs.Number.{zeros}
+use lib.ListN.{set, length-set}
 use Rattle.frame.proofs.Buffer.{filled}
 use Rattle.frame.proofs.reply.clear.Goals as goal
 

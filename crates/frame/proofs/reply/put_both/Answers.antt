@@ -1,7 +1,6 @@
 -- There is room for both, or nothing is put. Assumes nothing.
 use native.Mathlib.Omega.{arith}
 use Rattle.frame.proofs.Both.{both_past, both_none, both_put}
-use borrow.Author.Rules.{rules}
 use Rattle.frame.proofs.reply.put_both.Goals as goal
 
 pub returns-then-buffer-at : goal.returns-then-buffer-at

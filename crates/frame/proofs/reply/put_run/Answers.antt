@@ -7,7 +7,6 @@ use lib.ListN.{length}
 use Rattle.frame.specs.Inside.Buffer.{putting}
 use Rattle.frame.specs.declared.reply.Put.TheVariants.{At}
 use Rattle.frame.proofs.Buffer.{put_fits, put_past}
-use borrow.Author.Rules.{rules}
 use Rattle.frame.proofs.reply.put_run.Goals as goal
 
 pub returns-then-buffer-at : goal.returns-then-buffer-at

@@ -1,5 +1,4 @@
 -- The count, or the refusal and 0, is handed on. Assumes nothing.
-use borrow.Author.Rules.{rules}
 use mathlib.Core.Path.{refl}
 use Rattle.readers.specs.Answers.{count_is}
 use Rattle.hingedrift.proofs.Telling.{told_refused}

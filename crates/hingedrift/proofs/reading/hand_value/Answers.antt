@@ -1,5 +1,4 @@
 -- The value as it lies, and its number where it has one. Assumes nothing.
-use borrow.Author.Rules.{rules}
 use mathlib.Core.Path.{sym, ap, ◌∙◌}
 use lib.IntN.{ℤ}
 use Rattle.types.specs.declared.value.Number.{Number}

@@ -1,5 +1,4 @@
 -- The command and the status are handed on. Assumes nothing.
-use borrow.Author.Rules.{rules}
 use mathlib.Core.Path.{refl}
 use Rattle.readers.specs.Answers.{response_is}
 use Rattle.hingedrift.proofs.Telling.{told_so, told_refused}

@@ -1,5 +1,4 @@
 -- The complete byte and the count are handed on. Assumes nothing.
-use borrow.Author.Rules.{rules}
 use mathlib.Core.Path.{refl}
 use Rattle.readers.specs.Answers.{discovery_is}
 use Rattle.hingedrift.proofs.Telling.{told_so, told_refused}

@@ -1,5 +1,4 @@
 -- What the check counted is handed on. Assumes nothing.
-use borrow.Author.Rules.{rules}
 use mathlib.Core.Path.{ap, ◌∙◌}
 use Rattle.readers.specs.Told.{count_told}
 use Rattle.hingedrift.proofs.reading.hd_read_check.Goals as goal

@@ -1,5 +1,4 @@
 -- The record that the reader gave is handed on, with its value. Assumes nothing.
-use borrow.Author.Rules.{rules}
 use mathlib.Core.Path.{refl}
 use Rattle.readers.specs.Answers.{read_record_is}
 use Rattle.readers.specs.Told.{read_as}

@@ -1,5 +1,4 @@
 -- The record that the reader gave is handed on, with its value. Assumes nothing.
-use borrow.Author.Rules.{rules}
 use mathlib.Core.Path.{refl}
 use Rattle.readers.specs.Answers.{report_record_is}
 use Rattle.readers.specs.Told.{report_as}

@@ -1,5 +1,4 @@
 -- The record that the reader gave is handed on. Assumes nothing.
-use borrow.Author.Rules.{rules}
 use mathlib.Core.Path.{refl}
 use Rattle.readers.specs.Answers.{write_record_is}
 use Rattle.hingedrift.proofs.Telling.{told_so, told_refused}

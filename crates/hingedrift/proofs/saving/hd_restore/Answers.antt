@@ -1,5 +1,4 @@
 -- The answer's number is handed on. Assumes nothing.
-use borrow.Author.Rules.{rules}
 use mathlib.Core.Path.{sym, ap, ◌∙◌}
 use Rattle.reporting.specs.declared.table.Change.{Change}
 use Rattle.reporting.specs.Table.{change_told}

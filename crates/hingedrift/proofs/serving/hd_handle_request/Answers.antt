@@ -1,6 +1,5 @@
 -- The answer's number and length are handed on. Assumes nothing.
 use Rattle.hingedrift.proofs.Handed.{hand}
-use borrow.Author.Rules.{rules}
 use Rattle.hingedrift.proofs.serving.hd_handle_request.Goals as goal
 
 pub returns : goal.returns

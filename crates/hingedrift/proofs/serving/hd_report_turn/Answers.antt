@@ -1,5 +1,4 @@
 -- The answer's number and length are handed on, and the last id. Assumes nothing.
-use borrow.Author.Rules.{rules}
 use Rattle.hingedrift.proofs.Handed.{hand}
 use Rattle.hingedrift.proofs.serving.hd_report_turn.Goals as goal
 

@@ -1,5 +1,4 @@
 -- The answer's number and length are handed on. Assumes nothing.
-use borrow.Author.Rules.{rules}
 use Rattle.frame.specs.Answer.{no_state}
 use Rattle.hingedrift.proofs.Handed.{hand}
 use Rattle.hingedrift.proofs.serving.hd_unsupported_cluster.Goals as goal

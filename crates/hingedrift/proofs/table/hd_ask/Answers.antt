@@ -1,5 +1,4 @@
 -- The number and the answer that the operation tells. Assumes nothing.
-use borrow.Author.Rules.{rules}
 use mathlib.Core.Path.{ap, ◌∙◌}
 use Prim.Native.Nat.{ℕ}
 use mir.Facts.{to_z-of_z}

@@ -1,9 +1,7 @@
 -- The check, the mark, and then what the table's own function tells, and the bytes that it leaves. Assumes nothing.
-use borrow.Author.Rules.{rules}
 use mathlib.Core.Path.{◌≡◌, sym, ap, ◌∙◌}
 use mathlib.Core.Bool.{true}
 use Prim.Native.Nat.{ℕ}
-use borrow.Author.Tests.{not-true, not-false}
 use Rattle.reporting.specs.Table.{capacity, change_told}
 use Rattle.reporting.specs.declared.table.Change.{Change}
 use Rattle.reporting.specs.Carried.{is_table}

@@ -1,5 +1,4 @@
 -- The test of the length is the definition's test of the size, and zeros are the empty table. Assumes nothing.
-use borrow.Author.Rules.{rules}
 use Rattle.hingedrift.proofs.Bridge.{new_refused, new_cleared}
 use Rattle.hingedrift.proofs.table.hd_table_new.Goals as goal
 

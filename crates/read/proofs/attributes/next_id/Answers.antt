@@ -4,7 +4,6 @@ use Prim.Native.Nat.{ℕ, ◌+◌}
 use native.Mathlib.Omega.{arith}
 use Rattle.frame.specs.Walk.{item}
 use Rattle.read.proofs.Ids.{id_cut, id_here}
-use borrow.Author.Rules.{rules}
 use Rattle.read.proofs.attributes.next_id.Goals as goal
 
 pub returns-then-body-lt2 : goal.returns-then-body-lt2

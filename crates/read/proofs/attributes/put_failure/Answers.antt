@@ -5,7 +5,6 @@ use Prim.Native.Nat.{ℕ, ◌/◌, ◌%◌}
 use Rattle.types.specs.Number.{bytes_of}
 use Rattle.frame.specs.Inside.Buffer.{put}
 use Rattle.read.specs.Read.{encode}
-use borrow.Author.Rules.{rules}
 use Rattle.read.proofs.attributes.put_failure.Goals as goal
 
 pub returns : goal.returns

@@ -1,7 +1,6 @@
 -- Four bytes, and the value behind them. Assumes nothing.
 use Rattle.types.specs.Number.{bytes_of}
 use Rattle.read.specs.Read.{encode}
-use borrow.Author.Rules.{rules}
 use Rattle.read.proofs.attributes.put_value.Goals as goal
 
 pub returns : goal.returns

@@ -1,7 +1,6 @@
 -- `attributes::read_attributes` meets its contract: no room for the header, or the walk behind it. Assumes nothing.
 use Rattle.frame.proofs.Shortened.{shortened_headless, shortened_walked}
 use Rattle.read.specs.Read.{read_of}
-use borrow.Author.Rules.{rules}
 use Rattle.read.proofs.attributes.read_attributes.Goals as goal
 
 pub returns-in_default : goal.returns-in_default

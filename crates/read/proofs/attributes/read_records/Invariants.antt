@@ -1,16 +1,11 @@
 -- `attributes::read_records` meets its contract: each turn keeps the walk the same. Assumes nothing.
-use mathlib.Core.Path.{◌≡◌, refl, sym, ap, ◌∙◌}
+use mathlib.Core.Path.{◌≡◌}
 use mathlib.Core.List.{List}
 use Prim.Native.Nat.{ℕ, ◌-◌}
-use native.Mathlib.Omega.{arith}
 use lib.ListN.{length}
 use Rattle.frame.specs.Inside.Buffer.{Shows}
-use Rattle.frame.specs.Walk.{item}
-use Rattle.frame.proofs.Shortened.{Going, going_first, going_more, going_stop, going_cut, going_done}
+use Rattle.frame.proofs.Shortened.{Going}
 use Rattle.read.specs.Read.{id_at, encode, record_for}
-use Rattle.read.specs.Inside.{item_of}
-use Rattle.read.proofs.Ids.{id_ahead}
-use borrow.Author.Rules.{rules}
 use Rattle.read.proofs.attributes.read_records.Given as goal
 
 abbrev pub invariant-loop-at : goal.invariant-loop-at

@@ -8,7 +8,6 @@ use Rattle.store.specs.Contents.{name_of, find_of}
 use Rattle.store.specs.Value.{value_of}
 use Rattle.read.specs.Read.{value, encode}
 use Rattle.read.proofs.Turns.{made_nothing, made_value}
-use borrow.Author.Rules.{rules}
 use Rattle.read.proofs.attributes.read_turn.Goals as goal
 
 pub returns-in_default : goal.returns-in_default

@@ -1,6 +1,5 @@
 -- The header, its frame type and its command, one after the other. Assumes nothing.
 use Rattle.readers.proofs.Bodies.{body_short, body_other, body_wrong, body_at}
-use borrow.Author.Rules.{rules}
 use borrow.Enum.Refused.{opened}
 use Rattle.readers.proofs.body.body_of.Goals as goal
 

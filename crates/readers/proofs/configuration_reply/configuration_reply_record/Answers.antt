@@ -6,7 +6,6 @@ use Rattle.readers.specs.declared.layout.Layout.TheVariants.{Setting}
 use Rattle.readers.specs.Replies.{spans_of, setting_record, configuration_reply_of}
 use Rattle.readers.specs.Inside.{Stand}
 use Rattle.readers.proofs.Records.{stands, refused, record_past, record_there, record_none}
-use borrow.Author.Rules.{rules}
 use Rattle.readers.proofs.configuration_reply.configuration_reply_record.Goals as goal
 
 pub returns-then-count-k : goal.returns-then-count-k

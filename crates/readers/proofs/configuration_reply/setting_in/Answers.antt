@@ -3,7 +3,6 @@ use mathlib.Core.Path.{ap}
 use mathlib.Core.Option.{some}
 use Rattle.readers.specs.Reading.{read}
 use Rattle.readers.proofs.Settings.{failed, set_up}
-use borrow.Author.Rules.{rules}
 use Rattle.readers.proofs.configuration_reply.setting_in.Goals as goal
 
 pub returns-then-status-ne0 : goal.returns-then-status-ne0

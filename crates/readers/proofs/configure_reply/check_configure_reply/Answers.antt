@@ -3,7 +3,6 @@ use mathlib.Core.Path.{ap, ◌∙◌}
 use Rattle.readers.specs.Replies.{configure_failure, configure_reply_of}
 use Rattle.readers.specs.Answers.{count_is}
 use Rattle.readers.proofs.Records.{record_counts}
-use borrow.Author.Rules.{rules}
 use Rattle.readers.proofs.configure_reply.check_configure_reply.Goals as goal
 
 pub returns : goal.returns

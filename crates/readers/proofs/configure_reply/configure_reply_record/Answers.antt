@@ -5,7 +5,6 @@ use Rattle.readers.specs.declared.layout.Layout.TheVariants.{ConfigureFailure}
 use Rattle.readers.specs.Replies.{failures_of, configure_failure, configure_reply_of}
 use Rattle.readers.specs.Inside.{Stand}
 use Rattle.readers.proofs.Records.{stands, refused, record_past, record_there, record_none}
-use borrow.Author.Rules.{rules}
 use Rattle.readers.proofs.configure_reply.configure_reply_record.Goals as goal
 
 pub returns-then-count-k : goal.returns-then-count-k

@@ -1,7 +1,6 @@
 -- Two bytes behind the header, or they are cut. Assumes nothing.
 use native.Mathlib.Omega.{arith}
 use Rattle.readers.proofs.Bodies.{response_short, response-is, response_refused}
-use borrow.Author.Rules.{rules}
 use Rattle.readers.proofs.default_reply.read_default_response.Goals as goal
 
 pub returns-then-frame-from : goal.returns-then-frame-from

@@ -7,7 +7,6 @@ use Rattle.readers.specs.Reading.{read, unreadable, body_of}
 use Rattle.readers.specs.Answers.{body_is, sized}
 use Rattle.readers.proofs.Records.{stands, refused}
 use Rattle.readers.proofs.Discoveries.{sized_by, unread}
-use borrow.Author.Rules.{rules}
 use Rattle.readers.proofs.discover_reply.check_discover_reply.Goals as goal
 
 pub returns-in-Records : goal.returns-in-Records

@@ -5,7 +5,6 @@ use Rattle.readers.specs.Reading.{Read, read, unreadable, kth, body_of}
 use Rattle.readers.specs.Replies.{Discovery}
 use Rattle.readers.specs.Answers.{body_is, attributes_in}
 use Rattle.readers.proofs.Discoveries.{whole, unread}
-use borrow.Author.Rules.{rules}
 use Rattle.readers.proofs.discover_reply.discover_reply_record.Goals as goal
 
 pub returns-in-At : goal.returns-in-At

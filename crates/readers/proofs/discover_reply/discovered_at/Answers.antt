@@ -5,7 +5,6 @@ use Rattle.readers.specs.Replies.{discovered_from, discovered_record}
 use Rattle.readers.specs.Inside.{Stand}
 use Rattle.readers.proofs.Records.{stands, refused, record_past, record_there, record_none}
 use Rattle.readers.proofs.Discoveries.{attributes_are}
-use borrow.Author.Rules.{rules}
 use Rattle.readers.proofs.discover_reply.discovered_at.Goals as goal
 
 pub returns-then-count-k : goal.returns-then-count-k

@@ -1,6 +1,5 @@
 -- `discover_reply::sweep_discovered` meets its contract. Assumes nothing.
 use Rattle.readers.proofs.Discoveries.{too_short, not_a_flag, behind}
-use borrow.Author.Rules.{rules}
 use Rattle.readers.proofs.discover_reply.sweep_discovered.Goals as goal
 
 pub returns-then-frame-from : goal.returns-then-frame-from

@@ -1,6 +1,5 @@
 -- 00 is met before a cut. Assumes nothing.
 use Rattle.readers.proofs.Measured.{failure_zero, failure_bytes}
-use borrow.Author.Rules.{rules}
 use Rattle.readers.proofs.layout.failure_record.Goals as goal
 
 pub returns-then-byte_at-eq0 : goal.returns-then-byte_at-eq0

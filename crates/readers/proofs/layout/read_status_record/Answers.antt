@@ -1,6 +1,5 @@
 -- A status other than 00 ends the record. Assumes nothing.
 use Rattle.readers.proofs.Measured.{status_short, status_failed, status_valued}
-use borrow.Author.Rules.{rules}
 use Rattle.readers.proofs.layout.read_status_record.Goals as goal
 
 pub returns-then-rest-lt3 : goal.returns-then-rest-lt3

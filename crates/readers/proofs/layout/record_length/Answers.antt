@@ -1,6 +1,5 @@
 -- One function for each layout. Assumes nothing.
 use Rattle.readers.proofs.Measured.{by_layout, by_report, by_write, by_configure, by_discovered}
-use borrow.Author.Rules.{rules}
 use Rattle.readers.proofs.layout.record_length.Goals as goal
 
 pub returns-in-ReadStatus : goal.returns-in-ReadStatus

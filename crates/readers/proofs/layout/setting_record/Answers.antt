@@ -2,7 +2,6 @@
 use native.Mathlib.Omega.{arith}
 use Rattle.readers.proofs.Measured.{setting_short, setting_failed, setting_bytes}
 use Rattle.configure.proofs.Widths.{width_least}
-use borrow.Author.Rules.{rules}
 use Rattle.readers.proofs.layout.setting_record.Goals as goal
 
 pub returns-then-rest-lt4 : goal.returns-then-rest-lt4

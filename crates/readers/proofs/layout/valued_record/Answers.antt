@@ -1,6 +1,5 @@
 -- The record ends where its value does. Assumes nothing.
 use Rattle.readers.proofs.Measured.{valued_out, valued_trouble, valued_end}
-use borrow.Author.Rules.{rules}
 use borrow.Enum.Refused.{opened}
 use Rattle.readers.proofs.layout.valued_record.Goals as goal
 

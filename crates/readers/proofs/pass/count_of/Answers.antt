@@ -1,7 +1,6 @@
 -- The count that was told. Assumes nothing.
 use mathlib.Core.Path.{sym, ap}
 use Rattle.readers.specs.Inside.{count_by}
-use borrow.Author.Rules.{rules}
 use Rattle.readers.proofs.pass.count_of.Goals as goal
 
 pub returns-in-Records : goal.returns-in-Records

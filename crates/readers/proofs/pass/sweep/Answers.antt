@@ -1,12 +1,7 @@
 -- What lies behind and what lies ahead are all; each turn moves on. Assumes nothing.
-use Prim.Native.Nat.{◌-◌}
-use mathlib.Core.Logic.{⊎_elim}
 use native.Mathlib.Omega.{arith}
-use lib.ListN.{length}
-use borrow.Author.Rules.{rules}
-use Rattle.readers.specs.Layout.{length_of}
 use Rattle.readers.proofs.Lengths.{advancing}
-use Rattle.readers.proofs.Sweeping.{Passed, passed_none, passed_all, passed_refused, passed_ahead, passed_here, passed_on}
+use Rattle.readers.proofs.Sweeping.{passed_none, passed_all, passed_refused, passed_ahead, passed_here, passed_on}
 use Rattle.readers.proofs.pass.sweep.Goals as goal
 use Rattle.readers.proofs.pass.sweep.Goals.{then-count-k, else-count-k}
 

@@ -2,7 +2,6 @@
 use mathlib.Core.Path.{subst}
 use Rattle.readers.specs.Inside.{Sweeps}
 use Rattle.readers.proofs.Bodies.{failures_at, failures_refused}
-use borrow.Author.Rules.{rules}
 use Rattle.readers.proofs.pass.sweep_failures.Goals as goal
 
 pub returns-in-At : goal.returns-in-At

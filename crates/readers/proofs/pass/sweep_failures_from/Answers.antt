@@ -1,13 +1,11 @@
 -- No byte, the one byte of success, or a pass. Assumes nothing.
 use mathlib.Core.Path.{◌≡◌, subst}
-use mathlib.Core.Logic.{⊎_elim}
 use native.Mathlib.Omega.{arith}
 use Prim.Native.Nat.{◌+◌, ◌<◌}
-use borrow.Author.Tests.{eqb-true, eqb-false}
+use borrow.Author.Tests.{eqb-true}
 use lib.ListN.{length, get_or}
 use Rattle.readers.specs.Inside.{Sweeps}
 use Rattle.readers.proofs.Sweeping.{failures_none, success, failures_more}
-use borrow.Author.Rules.{rules}
 use Rattle.readers.proofs.pass.sweep_failures_from.Goals as goal
 use Rattle.readers.proofs.pass.sweep_failures_from.Goals.{else-frame-from-eq1-via-then-frame-from-eq1+else-frame-from-eq0, else-frame-from-eq1-via-else-frame-from-eq1}
 

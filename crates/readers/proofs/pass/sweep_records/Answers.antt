@@ -2,7 +2,6 @@
 use mathlib.Core.Path.{subst}
 use Rattle.readers.specs.Inside.{Sweeps}
 use Rattle.readers.proofs.Bodies.{spans_at, spans_refused}
-use borrow.Author.Rules.{rules}
 use Rattle.readers.proofs.pass.sweep_records.Goals as goal
 
 pub returns-in-At : goal.returns-in-At

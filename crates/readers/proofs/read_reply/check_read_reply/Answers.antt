@@ -3,7 +3,6 @@ use mathlib.Core.Path.{ap, ◌∙◌}
 use Rattle.readers.specs.Replies.{read_record, read_reply_of}
 use Rattle.readers.specs.Answers.{count_is}
 use Rattle.readers.proofs.Records.{record_counts}
-use borrow.Author.Rules.{rules}
 use Rattle.readers.proofs.read_reply.check_read_reply.Goals as goal
 
 pub returns : goal.returns

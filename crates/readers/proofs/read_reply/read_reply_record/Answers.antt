@@ -9,7 +9,6 @@ use Rattle.readers.specs.Inside.{Stand}
 use Rattle.readers.proofs.Records.{stands, refused, past, there, none_of}
 use Rattle.readers.proofs.SpanSizes.{span_long, read_behind}
 use Rattle.readers.proofs.Values.{status_is, read_failed, read_held_lem}
-use borrow.Author.Rules.{rules}
 use Rattle.readers.proofs.read_reply.read_reply_record.Goals as goal
 
 pub returns-then-count-k : goal.returns-then-count-k
@@ -38,8 +37,7 @@ returns-then-status-ne0 c =
 
 pub value_in-requires : goal.value_in-requires
 value_in-requires c =
-    let found : Stand c.args.frame.now c.args.k (spans_of ReadAttributesResponse ReadStatus c.args.frame.now) c.in-Records.count c.in-Records.at c.in-Records.size = stands c.sweep_records-swept.ensures c.in-Records.is in
-    (
+    let found : Stand c.args.frame.now c.args.k (spans_of ReadAttributesResponse ReadStatus c.args.frame.now) c.in-Records.count c.in-Records.at c.in-Records.size = stands c.sweep_records-swept.ensures c.in-Records.is in (
       read_behind _ _ (span_long ReadAttributesResponse ReadStatus found c.if-count-k.false)
           (sym (status_is c.args.frame.now c.in-Records.at c.in-Records.size c.byte_at-status.ensures) ∙ c.if-status-ne0.false),
       found.within c.if-count-k.false,

@@ -3,7 +3,6 @@ use mathlib.Core.Path.{ap, ◌∙◌}
 use Rattle.readers.specs.Replies.{reported_record, report_frame_of}
 use Rattle.readers.specs.Answers.{count_is}
 use Rattle.readers.proofs.Records.{record_counts}
-use borrow.Author.Rules.{rules}
 use Rattle.readers.proofs.report_frame.check_report_frame.Goals as goal
 
 pub returns : goal.returns

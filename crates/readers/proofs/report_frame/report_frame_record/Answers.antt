@@ -8,7 +8,6 @@ use Rattle.readers.specs.Inside.{Stand}
 use Rattle.readers.proofs.Records.{stands, refused, past, there, none_of}
 use Rattle.readers.proofs.SpanSizes.{span_long, report_behind}
 use Rattle.readers.proofs.Values.{report-held}
-use borrow.Author.Rules.{rules}
 use Rattle.readers.proofs.report_frame.report_frame_record.Goals as goal
 
 pub returns-then-count-k : goal.returns-then-count-k

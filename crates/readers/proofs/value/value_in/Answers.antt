@@ -9,7 +9,6 @@ use Rattle.types.specs.declared.value.Number.{Number}
 use Rattle.readers.specs.declared.value.ValueIn.{ValueIn}
 use Rattle.readers.specs.Reading.{span}
 use Rattle.readers.specs.Values.{value_in}
-use borrow.Author.Rules.{rules}
 use Rattle.readers.proofs.value.value_in.Goals as goal
 
 value-is : (f : List ℕ) (at size p t : ℕ) (m : Number) → t ≡ get_or (take (at + size - at) (drop at f)) p 0 → m ≡ number_at f (at + (p + 1)) t

@@ -3,7 +3,6 @@ use mathlib.Core.Path.{ap, ◌∙◌}
 use Rattle.readers.specs.Replies.{write_failure, write_reply_of}
 use Rattle.readers.specs.Answers.{count_is}
 use Rattle.readers.proofs.Records.{record_counts}
-use borrow.Author.Rules.{rules}
 use Rattle.readers.proofs.write_reply.check_write_reply.Goals as goal
 
 pub returns : goal.returns

@@ -6,7 +6,6 @@ use Rattle.readers.specs.declared.layout.Layout.TheVariants.{WriteFailure}
 use Rattle.readers.specs.Replies.{failures_of, write_failure, write_reply_of}
 use Rattle.readers.specs.Inside.{Stand}
 use Rattle.readers.proofs.Records.{stands, refused, record_past, record_there, record_none}
-use borrow.Author.Rules.{rules}
 use Rattle.readers.proofs.write_reply.write_reply_record.Goals as goal
 
 pub returns-then-count-k : goal.returns-then-count-k

@@ -1,10 +1,6 @@
 -- Each byte that stands there leaves the same match. Assumes nothing.
-use mathlib.Core.Path.{◌≡◌, refl, sym, ◌∙◌}
-use Prim.Native.Nat.{◌-◌}
-use lib.ListN.{length, drop}
+use mathlib.Core.Path.{sym, ◌∙◌}
 use Rattle.replay.proofs.Matches.{matched_more, matched_other, matched_past, matched_all}
-use borrow.Author.Rules.{rules}
-use Rattle.replay.specs.Inside.{matched}
 use Rattle.replay.proofs.bytes.match_run.Goals as goal
 
 pub returns-then-s-p : goal.returns-then-s-p

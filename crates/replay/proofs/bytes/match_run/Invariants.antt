@@ -1,9 +1,7 @@
 -- Each byte that stands there leaves the same match. Assumes nothing.
-use mathlib.Core.Path.{◌≡◌, refl, sym, ◌∙◌}
+use mathlib.Core.Path.{◌≡◌}
 use Prim.Native.Nat.{◌-◌}
 use lib.ListN.{length, drop}
-use Rattle.replay.proofs.Matches.{matched_more, matched_other, matched_past, matched_all}
-use borrow.Author.Rules.{rules}
 use Rattle.replay.specs.Inside.{matched}
 use Rattle.replay.proofs.bytes.match_run.Given as goal
 

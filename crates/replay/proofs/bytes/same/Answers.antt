@@ -1,7 +1,6 @@
 -- They match at the start, and the match ends where both do. Assumes nothing.
 use mathlib.Core.Path.{sym, ◌∙◌}
 use Rattle.replay.proofs.Matches.{same_at, same_off}
-use borrow.Author.Rules.{rules}
 use Rattle.replay.proofs.bytes.same.Goals as goal
 
 pub returns-in_default : goal.returns-in_default

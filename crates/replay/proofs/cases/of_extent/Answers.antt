@@ -6,7 +6,6 @@ use lib.ListN.{get_or, drop}
 use Rattle.types.specs.Extent.{extent_of}
 use Rattle.replay.specs.declared.cases.Agreement.TheVariants.{Is}
 use Rattle.replay.proofs.Says.{extent_empty, extent_none, extent_ends}
-use borrow.Author.Rules.{rules}
 use borrow.Enum.Refused.{opened}
 use Rattle.replay.proofs.cases.of_extent.Goals as goal
 

@@ -3,7 +3,6 @@ use mathlib.Core.Path.{sym, ap, ◌∙◌}
 use Rattle.replay.specs.Ours.{bit_of, frame_type_byte}
 use Rattle.replay.specs.declared.cases.Agreement.TheVariants.{Is}
 use Rattle.replay.proofs.Says.{header_short, header-says}
-use borrow.Author.Rules.{rules}
 use Rattle.replay.proofs.cases.of_header.Goals as goal
 
 pub returns-in_default : goal.returns-in_default

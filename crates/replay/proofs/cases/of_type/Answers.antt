@@ -3,7 +3,6 @@ use mathlib.Core.Path.{ap, ◌∙◌}
 use Rattle.replay.specs.Ours.{bit_of, size_byte}
 use Rattle.replay.specs.declared.cases.Agreement.TheVariants.{Is}
 use Rattle.replay.proofs.Says.{type_other, type_says}
-use borrow.Author.Rules.{rules}
 use Rattle.replay.proofs.cases.of_type.Goals as goal
 
 pub returns-then-input-ne1 : goal.returns-then-input-ne1

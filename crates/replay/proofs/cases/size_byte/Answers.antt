@@ -1,7 +1,6 @@
 -- By the size. Assumes nothing.
 use mathlib.Core.Path.{sym, ap, ◌∙◌}
 use Rattle.replay.specs.Ours.{size_byte}
-use borrow.Author.Rules.{rules}
 use Rattle.replay.proofs.cases.size_byte.Goals as goal
 
 pub returns-in-Bytes : goal.returns-in-Bytes

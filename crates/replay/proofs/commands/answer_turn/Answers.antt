@@ -1,7 +1,6 @@
 -- Four ways: the last answer again or a new one, found or not. Assumes nothing.
 use mathlib.Core.Path.{sym, ◌∙◌}
 use Rattle.replay.proofs.Answers.{turn_again, turn_again_off, turn_new, turn_new_off}
-use borrow.Author.Rules.{rules}
 use Rattle.replay.proofs.commands.answer_turn.Goals as goal
 
 pub returns-in_default : goal.returns-in_default

@@ -1,7 +1,6 @@
 -- A header, a global command, its code. Assumes nothing.
 use mathlib.Core.Path.{sym, ◌∙◌}
 use Rattle.replay.proofs.Answers.{asked_short, asked_other, asked_is}
-use borrow.Author.Rules.{rules}
 use borrow.Enum.Refused.{opened}
 use Rattle.replay.proofs.commands.asked_of.Goals as goal
 

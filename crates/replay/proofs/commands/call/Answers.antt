@@ -3,7 +3,6 @@ use lib.ListN.{length}
 use Rattle.frame.specs.Answer.{within}
 use Rattle.replay.specs.declared.commands.Command.TheVariants.{Read, Write, Undivided, Silent, Discover}
 use Rattle.replay.proofs.Answers.{called}
-use borrow.Author.Rules.{rules}
 use Rattle.replay.proofs.commands.call.Goals as goal
 
 pub returns-in-Read : goal.returns-in-Read

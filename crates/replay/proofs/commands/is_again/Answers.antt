@@ -1,7 +1,6 @@
 -- It matches there, and ends where the last one did. Assumes nothing.
 use mathlib.Core.Path.{sym, ◌∙◌}
 use Rattle.replay.proofs.Answers.{again_at, again_full}
-use borrow.Author.Rules.{rules}
 use Rattle.replay.proofs.commands.is_again.Goals as goal
 
 pub returns-in_default : goal.returns-in_default

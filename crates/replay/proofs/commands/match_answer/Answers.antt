@@ -3,7 +3,6 @@ use mathlib.Core.Path.{◌≡◌, sym, ap, ◌∙◌}
 use lib.ListN.{take}
 use Rattle.replay.specs.Inside.{matched}
 use Rattle.replay.proofs.Answers.{answer_first, answer_second, answer_third}
-use borrow.Author.Rules.{rules}
 use Rattle.replay.proofs.commands.match_answer.Goals as goal
 
 pub returns-in_default : goal.returns-in_default

@@ -5,7 +5,6 @@ use Rattle.replay.specs.Commands.{store_says}
 use Rattle.replay.specs.Inside.{matched}
 use Rattle.replay.proofs.Matches.{matched_on, matched_off}
 use Rattle.replay.proofs.Answers.{store_same, store_other}
-use borrow.Author.Rules.{rules}
 use Rattle.replay.proofs.commands.match_store.Goals as goal
 
 pub returns-then-same : goal.returns-then-same

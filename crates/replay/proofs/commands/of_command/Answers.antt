@@ -5,7 +5,6 @@ use native.Mathlib.Omega.{arith}
 use lib.ListN.{length, length-take, length-drop}
 use Rattle.replay.specs.declared.cases.Agreement.TheVariants.{Is}
 use Rattle.replay.proofs.Answers.{command_room, command_short, command_none, command_says}
-use borrow.Author.Rules.{rules}
 use Rattle.replay.proofs.commands.of_command.Goals as goal
 
 pub returns-then-last-gt63 : goal.returns-then-last-gt63

@@ -3,7 +3,6 @@ use lib.ListN.{length}
 use Rattle.frame.specs.Answer.{seen}
 use Rattle.replay.proofs.Says.{filled}
 use Rattle.replay.proofs.Answers.{turned_with}
-use borrow.Author.Rules.{rules}
 use Rattle.replay.proofs.commands.room_turn.Goals as goal
 
 pub returns : goal.returns

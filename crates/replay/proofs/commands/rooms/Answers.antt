@@ -1,13 +1,12 @@
 -- Each room leaves the same to compare. Assumes nothing.
-use mathlib.Core.Path.{◌≡◌, refl, ◌∙◌, subst}
-use Prim.Native.Nat.{ℕ, suc, ◌-◌, ◌≤◌}
+use mathlib.Core.Path.{refl, ◌∙◌, subst}
+use Prim.Native.Nat.{ℕ, ◌≤◌}
 use native.Mathlib.Omega.{arith}
 use lib.ListN.{length, length-take}
 use lib.Seq.{length-take-le, length_front}
 use Rattle.replay.specs.Commands.{answer_with}
 use Rattle.replay.specs.Inside.{Turned}
-use Rattle.replay.proofs.Answers.{Going, going_first, going_more, going_off, going_done}
-use borrow.Author.Rules.{rules}
+use Rattle.replay.proofs.Answers.{going_first, going_more, going_off, going_done}
 use Rattle.replay.proofs.commands.rooms.Goals as goal
 
 pub loop-room-init : goal.loop-room-init

@@ -1,12 +1,11 @@
 -- Each pair of digits leaves the same to read. Assumes nothing.
-use mathlib.Core.Path.{◌≡◌, refl}
-use Prim.Native.Nat.{◌-◌, ◌*◌, ◌+◌, ◌≤◌}
+use mathlib.Core.Path.{refl}
+use Prim.Native.Nat.{◌*◌, ◌+◌}
 use native.Mathlib.Nat.{sub-zero}
 use native.Mathlib.Omega.{arith}
 use lib.ListN.{length, length-set}
 use Rattle.replay.specs.Line.{hex}
-use Rattle.replay.proofs.Digits.{Read, behind_none, read_full, read_half, read_first, read_second, read_more, read_all}
-use borrow.Author.Rules.{rules}
+use Rattle.replay.proofs.Digits.{behind_none, read_full, read_half, read_first, read_second, read_more, read_all}
 use Rattle.replay.proofs.hex.decode.Goals as goal
 
 pub loop-at-init : goal.loop-at-init

@@ -1,12 +1,9 @@
 -- Each pair of digits leaves the same to read. Assumes nothing.
-use mathlib.Core.Path.{◌≡◌, refl}
-use Prim.Native.Nat.{◌-◌, ◌*◌, ◌+◌, ◌≤◌}
-use native.Mathlib.Nat.{sub-zero}
-use native.Mathlib.Omega.{arith}
-use lib.ListN.{length, length-set}
+use mathlib.Core.Path.{◌≡◌}
+use Prim.Native.Nat.{◌-◌, ◌≤◌}
+use lib.ListN.{length}
 use Rattle.replay.specs.Line.{hex}
-use Rattle.replay.proofs.Digits.{Read, behind_none, read_full, read_half, read_first, read_second, read_more, read_all}
-use borrow.Author.Rules.{rules}
+use Rattle.replay.proofs.Digits.{Read}
 use Rattle.replay.proofs.hex.decode.Given as goal
 
 abbrev pub invariant-loop-at : goal.invariant-loop-at

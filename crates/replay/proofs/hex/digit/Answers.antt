@@ -1,7 +1,6 @@
 -- The two ranges of digits, and what lies outside of them. Assumes nothing.
 use native.Mathlib.Omega.{arith}
 use Rattle.replay.proofs.Digits.{digit_low, digit_high, digit_none}
-use borrow.Author.Rules.{rules}
 use Rattle.replay.proofs.hex.digit.Goals as goal
 
 pub returns-in-48-to-57 : goal.returns-in-48-to-57

@@ -1,10 +1,7 @@
 -- What is left of the scan is the whole of it. Assumes nothing.
-use mathlib.Core.Path.{◌≡◌, sym, ◌∙◌}
+use mathlib.Core.Path.{◌≡◌}
 use Prim.Native.Nat.{◌+◌, ◌-◌}
-use native.Mathlib.Omega.{arith}
 use lib.ListN.{length, drop}
-use Rattle.replay.proofs.Words.{place_here, place_on, place_end}
-use borrow.Author.Rules.{rules}
 use Rattle.replay.specs.Inside.{place}
 use Rattle.replay.proofs.line.find.Given as goal
 

@@ -4,7 +4,6 @@ use Prim.Native.Nat.{ℕ}
 use native.Mathlib.Omega.{arith}
 use lib.ListN.{take, length-take}
 use Rattle.replay.proofs.Words.{place_le}
-use borrow.Author.Rules.{rules}
 use Rattle.replay.proofs.line.word.Goals as goal
 
 pub slice_bounds-result-end : goal.slice_bounds-result-end

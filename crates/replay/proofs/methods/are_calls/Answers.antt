@@ -1,11 +1,7 @@
 -- What is left to look at decides as the whole does. Assumes nothing.
-use mathlib.Core.Path.{◌≡◌, ap}
-use Prim.Native.Nat.{◌-◌, ◌/◌}
-use lib.ListN.{length}
-use Rattle.replay.specs.Methods.{calls_in, are_calls}
-use Rattle.replay.proofs.Calls.{calls_from, calls_start, are_more, are_not, are_all}
-use borrow.Author.Rules.{rules}
-use borrow.Author.Rules.{rules}
+use mathlib.Core.Path.{ap}
+use Rattle.replay.specs.Methods.{are_calls}
+use Rattle.replay.proofs.Calls.{calls_start, are_more, are_not, are_all}
 use Rattle.replay.proofs.methods.are_calls.Goals as goal
 
 pub loop-i-init : goal.loop-i-init

@@ -1,11 +1,9 @@
 -- What is left to look at decides as the whole does. Assumes nothing.
-use mathlib.Core.Path.{◌≡◌, ap}
+use mathlib.Core.Path.{◌≡◌}
 use Prim.Native.Nat.{◌-◌, ◌/◌}
 use lib.ListN.{length}
 use Rattle.replay.specs.Methods.{calls_in, are_calls}
-use Rattle.replay.proofs.Calls.{calls_from, calls_start, are_more, are_not, are_all}
-use borrow.Author.Rules.{rules}
-use borrow.Author.Rules.{rules}
+use Rattle.replay.proofs.Calls.{calls_from}
 use Rattle.replay.proofs.methods.are_calls.Given as goal
 
 abbrev pub invariant-loop-i : goal.invariant-loop-i

@@ -4,7 +4,6 @@ use mathlib.Core.List.{[], ◌∷◌}
 use Rattle.reporting.specs.declared.table.Change.{Change}
 use Rattle.reporting.specs.Table.{change_told}
 use Rattle.replay.specs.Methods.{change_says}
-use borrow.Author.Rules.{rules}
 use Rattle.replay.proofs.methods.change_bytes.Goals as goal
 
 pub returns-in-Done : goal.returns-in-Done

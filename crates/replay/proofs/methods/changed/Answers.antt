@@ -2,7 +2,6 @@
 use mathlib.Core.Path.{ap, ◌∙◌}
 use Rattle.reporting.specs.Table.{table_of}
 use Rattle.replay.specs.Inside.{matched}
-use borrow.Author.Rules.{rules}
 use Rattle.replay.proofs.methods.changed.Goals as goal
 
 pub returns : goal.returns

@@ -1,7 +1,6 @@
 -- Three numbers of the call, and no mark. Assumes nothing.
 use mathlib.Core.Bool.{false}
 use Rattle.replay.specs.Methods.{config_in}
-use borrow.Author.Rules.{rules}
 use Rattle.replay.proofs.methods.config_in.Goals as goal
 
 pub returns : goal.returns

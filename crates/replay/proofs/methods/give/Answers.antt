@@ -3,7 +3,6 @@ use mathlib.Core.Path.{◌∙◌}
 use Rattle.types.proofs.Machine.{came_back}
 use Rattle.reporting.specs.Table.{table_of}
 use Rattle.replay.proofs.Calls.{gave_configure, gave_clear, gave_mark, gave_ask, gave_setting, gave_length}
-use borrow.Author.Rules.{rules}
 use Rattle.replay.proofs.methods.give.Goals as goal
 
 pub returns-in-0 : goal.returns-in-0

@@ -1,12 +1,8 @@
 -- Each call leaves the same to compare. Assumes nothing.
-use mathlib.Core.Path.{ap, ◌∙◌}
 use Prim.Native.Nat.{◌-◌, ◌/◌}
 use lib.ListN.{length}
 use Rattle.reporting.specs.Table.{table_of}
-use Rattle.replay.specs.Bytes.{same}
-use Rattle.replay.specs.Methods.{table_says}
-use Rattle.replay.proofs.Calls.{Follows, follow_start, follow_more, follow_off, follow_done}
-use borrow.Author.Rules.{rules}
+use Rattle.replay.proofs.Calls.{Follows}
 use Rattle.replay.proofs.methods.history.Given as goal
 
 abbrev pub invariant-loop-i : goal.invariant-loop-i

@@ -3,7 +3,6 @@ use mathlib.Core.Path.{ap, ◌∙◌}
 use mathlib.Core.List.{List}
 use Prim.Native.Nat.{ℕ}
 use Rattle.replay.specs.Bytes.{same}
-use borrow.Author.Rules.{rules}
 use Rattle.replay.proofs.methods.is_left.Goals as goal
 
 pub returns : goal.returns

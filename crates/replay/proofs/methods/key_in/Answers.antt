@@ -1,6 +1,5 @@
 -- Two numbers of the call. Assumes nothing.
 use Rattle.replay.specs.Methods.{key_in}
-use borrow.Author.Rules.{rules}
 use Rattle.replay.proofs.methods.key_in.Goals as goal
 
 pub returns : goal.returns

@@ -4,7 +4,6 @@ use mathlib.Core.List.{[], ◌∷◌}
 use Rattle.reporting.specs.declared.table.Length.{Length}
 use Rattle.reporting.specs.Table.{length_told}
 use Rattle.replay.specs.Methods.{length_says}
-use borrow.Author.Rules.{rules}
 use Rattle.replay.proofs.methods.length_bytes.Goals as goal
 
 pub returns-in-Entries : goal.returns-in-Entries

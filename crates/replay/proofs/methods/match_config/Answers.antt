@@ -1,7 +1,6 @@
 -- Six bytes, and then eight. Assumes nothing.
 use mathlib.Core.Path.{sym, ◌∙◌}
 use Rattle.replay.proofs.Calls.{config_off, config_on}
-use borrow.Author.Rules.{rules}
 use Rattle.replay.proofs.methods.match_config.Goals as goal
 
 pub returns-in_default : goal.returns-in_default

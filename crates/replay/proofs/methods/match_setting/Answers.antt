@@ -5,7 +5,6 @@ use Rattle.reporting.specs.declared.table.Setting.{Setting}
 use Rattle.reporting.specs.Table.{setting_told}
 use Rattle.replay.specs.Methods.{config_says, setting_says}
 use Rattle.replay.specs.Inside.{matched}
-use borrow.Author.Rules.{rules}
 use Rattle.replay.proofs.methods.match_setting.Goals as goal
 
 pub returns-in-Given : goal.returns-in-Given

@@ -1,8 +1,6 @@
 -- Whole calls, then the history. Assumes nothing.
 use mathlib.Core.Path.{sym, ◌∙◌}
-use borrow.Author.Tests.{not-true, not-false}
 use Rattle.replay.proofs.Calls.{history_odd, history_other, history_says}
-use borrow.Author.Rules.{rules}
 use Rattle.replay.proofs.methods.of_history.Goals as goal
 
 pub returns-then-input-ne0 : goal.returns-then-input-ne0

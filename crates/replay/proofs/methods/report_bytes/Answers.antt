@@ -4,7 +4,6 @@ use mathlib.Core.List.{[], ◌∷◌}
 use Rattle.reporting.specs.declared.table.Report.{Report}
 use Rattle.reporting.specs.Table.{report_told}
 use Rattle.replay.specs.Methods.{report_says}
-use borrow.Author.Rules.{rules}
 use Rattle.replay.proofs.methods.report_bytes.Goals as goal
 
 pub returns-in-Due : goal.returns-in-Due

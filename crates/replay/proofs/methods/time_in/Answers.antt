@@ -2,7 +2,6 @@
 use mathlib.Core.Path.{◌∙◌}
 use Prim.Native.Nat.{◌+◌, ◌*◌}
 use Rattle.reporting.proofs.Carriage.{unsigned_join}
-use borrow.Author.Rules.{rules}
 use Rattle.replay.proofs.methods.time_in.Goals as goal
 
 pub returns : goal.returns

@@ -1,8 +1,6 @@
 -- The codes, to an input of their number. Assumes nothing.
 use mathlib.Core.Path.{sym, ◌∙◌}
-use Rattle.replay.specs.Bytes.{same}
 use Rattle.replay.proofs.Says.{names_says, names_other}
-use borrow.Author.Rules.{rules}
 use Rattle.replay.proofs.names.of_names.Goals as goal
 
 pub returns-then-same : goal.returns-then-same

@@ -5,7 +5,6 @@ use native.Mathlib.Omega.{arith}
 use lib.ListN.{length, length-take, length-drop}
 use lib.Seq.{length-take-le}
 use Rattle.replay.proofs.Served.{request_short, request_whole}
-use borrow.Author.Rules.{rules}
 use Rattle.replay.proofs.requests.of_request.Goals as goal
 
 pub returns-then-input-n : goal.returns-then-input-n

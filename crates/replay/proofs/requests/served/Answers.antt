@@ -4,7 +4,6 @@ use lib.ListN.{length}
 use borrow.Author.Tests.{not-true, not-false}
 use Rattle.replay.proofs.Says.{filled}
 use Rattle.replay.proofs.Served.{request_none, request_off, request_on}
-use borrow.Author.Rules.{rules}
 use Rattle.replay.proofs.requests.served.Goals as goal
 
 pub returns-then-not-known : goal.returns-then-not-known

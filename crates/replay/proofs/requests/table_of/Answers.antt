@@ -3,7 +3,6 @@ use mathlib.Core.Path.{refl, ap, ◌∙◌}
 use Rattle.reporting.specs.Table.{capacity}
 use Rattle.reporting.specs.Carried.{read_t}
 use Rattle.replay.proofs.Served.{whole_long, whole_short}
-use borrow.Author.Rules.{rules}
 use Rattle.replay.proofs.requests.table_of.Goals as goal
 
 pub returns-then-used-gt-TABLE_BYTES : goal.returns-then-used-gt-TABLE_BYTES

@@ -11,7 +11,6 @@ use Rattle.replay.specs.Bytes.{same}
 use Rattle.replay.specs.Ours.{agreement, number_says}
 use Rattle.replay.specs.declared.cases.Agreement.TheVariants.{Is}
 use Rattle.replay.proofs.Says.{number_refused, number_is, number_off}
-use borrow.Author.Rules.{rules}
 use Rattle.replay.proofs.stores.numbered.Goals as goal
 
 pub returns-in_default : goal.returns-in_default

@@ -5,7 +5,6 @@ use Prim.Native.Nat.{ℕ}
 use lib.ListN.{drop}
 use Rattle.store.specs.Value.{telling, number_of}
 use Rattle.replay.proofs.Says.{number_short, number-says}
-use borrow.Author.Rules.{rules}
 use Rattle.replay.proofs.stores.of_number.Goals as goal
 
 pub returns-then-input-lt2 : goal.returns-then-input-lt2

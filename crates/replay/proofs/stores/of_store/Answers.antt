@@ -5,7 +5,6 @@ use Prim.Native.Nat.{ℕ}
 use Rattle.replay.specs.Bytes.{same}
 use Rattle.replay.specs.Ours.{bit_of, of_store}
 use Rattle.replay.specs.declared.cases.Agreement.TheVariants.{Is}
-use borrow.Author.Rules.{rules}
 use Rattle.replay.proofs.stores.of_store.Goals as goal
 
 pub returns : goal.returns

@@ -4,7 +4,6 @@ use Prim.Native.Nat.{◌+◌, ◌-◌, ◌≤◌}
 use native.Mathlib.Omega.{arith}
 use lib.ListN.{length, length-take, length-drop}
 use Rattle.replay.proofs.Says.{write_short, write-says}
-use borrow.Author.Rules.{rules}
 use Rattle.replay.proofs.stores.of_write.Goals as goal
 
 pub returns-then-input-n : goal.returns-then-input-n

@@ -6,7 +6,6 @@ use Rattle.store.specs.Write.{wrote, write_of}
 use Rattle.replay.specs.Bytes.{same}
 use Rattle.replay.specs.declared.cases.Agreement.TheVariants.{Is}
 use Rattle.replay.proofs.Says.{filled, write_on, write_off}
-use borrow.Author.Rules.{rules}
 use Rattle.replay.proofs.stores.written.Goals as goal
 
 pub returns-in_default : goal.returns-in_default

@@ -1,6 +1,5 @@
 -- By the tests. Assumes nothing.
 use borrow.Author.Tests.{eq-eqb, ne_eqb}
-use borrow.Author.Rules.{rules}
 use Rattle.replay.proofs.tally.first_of.Goals as goal
 
 pub returns-then-first-ne0 : goal.returns-then-first-ne0

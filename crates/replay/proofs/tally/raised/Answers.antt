@@ -3,7 +3,6 @@ use mathlib.Core.Path.{ap}
 use Prim.Native.Nat.{ℕ, ◌+◌}
 use native.Mathlib.Omega.{arith}
 use lib.ListN.{get_or, set}
-use borrow.Author.Rules.{rules}
 use Rattle.replay.proofs.tally.raised.Goals as goal
 
 pub overflow_add-counts : goal.overflow_add-counts

@@ -1,5 +1,4 @@
 -- By the test. Assumes nothing.
-use borrow.Author.Rules.{rules}
 use Rattle.replay.proofs.tally.raised_if.Goals as goal
 
 pub returns-then-agrees : goal.returns-then-agrees

@@ -1,6 +1,6 @@
 -- Each line leaves the same to count. Assumes nothing.
 use mathlib.Core.Path.{refl, sym, ◌∙◌, subst}
-use Prim.Native.Nat.{◌-◌, ◌≤◌}
+use Prim.Native.Nat.{◌≤◌}
 use native.Mathlib.Omega.{arith}
 use lib.ListN.{length, take, length-take}
 use Rattle.replay.specs.Line.{newline}
@@ -31,7 +31,7 @@ slice_bounds-judge-end c =
 pub with-t-requires : goal.with-t-requires
 with-t-requires c =
     let g = c.loop-at.invariant in
-    record { at_most = g.agree; at_most_2 = g.all; lines_bound = omega (arith, g.few, c.loop-at-test.true) }
+    record { agree_bound = g.agree; of_bound = g.all; lines_bound = omega (arith, g.few, c.loop-at-test.true) }
 
 pub returns-in-Last : goal.returns-in-Last
 returns-in-Last c =

@@ -5,7 +5,6 @@ use Prim.Native.Nat.{ℕ}
 use borrow.Author.Tests.{ne_eqb}
 use Rattle.replay.specs.Line.{split, space}
 use Rattle.replay.specs.Verdict.{by_letter}
-use borrow.Author.Rules.{rules}
 use Rattle.replay.proofs.verdict.by_letter.Goals as goal
 
 pub returns-in-110 : goal.returns-in-110

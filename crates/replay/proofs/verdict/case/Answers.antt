@@ -1,7 +1,6 @@
 -- The words say how many fields there are. Assumes nothing.
 use mathlib.Core.Path.{◌∙◌}
 use Rattle.replay.proofs.Fields.{case_one, case_more, case_two}
-use borrow.Author.Rules.{rules}
 use Rattle.replay.proofs.verdict.case.Goals as goal
 
 pub returns-then-n-fields : goal.returns-then-n-fields

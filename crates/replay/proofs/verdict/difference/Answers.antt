@@ -1,7 +1,6 @@
 -- The words say how many fields there are. Assumes nothing.
 use mathlib.Core.Path.{◌∙◌}
 use Rattle.replay.proofs.Fields.{difference_one, difference_two, difference_more, difference_three}
-use borrow.Author.Rules.{rules}
 use Rattle.replay.proofs.verdict.difference.Goals as goal
 
 pub returns-then-n-fields : goal.returns-then-n-fields

@@ -7,7 +7,6 @@ use mathlib.Core.List.{List}
 use Rattle.replay.specs.Ours.{agreement}
 use Rattle.replay.specs.Verdict.{ours}
 use Rattle.replay.proofs.Fields.{ours_none}
-use borrow.Author.Rules.{rules}
 use Rattle.replay.proofs.verdict.held_to_ours.Goals as goal
 
 pub returns-in-116 : goal.returns-in-116

@@ -6,7 +6,6 @@ use lib.ListN.{get_or}
 use Rattle.replay.specs.Line.{split, space}
 use Rattle.replay.specs.Verdict.{by_letter}
 use Rattle.replay.proofs.Fields.{judged_other, judged_short, judged_letter}
-use borrow.Author.Rules.{rules}
 use Rattle.replay.proofs.verdict.judge.Goals as goal
 
 pub returns-then-find-ne1 : goal.returns-then-find-ne1

@@ -1,7 +1,6 @@
 -- Each way out is one law of the last line. Assumes nothing.
 use mathlib.Core.Path.{refl}
 use Rattle.replay.proofs.Fields.{Got, field_lost, field_got, last_more, last_bad, last_other, last_is}
-use borrow.Author.Rules.{rules}
 use Rattle.replay.proofs.verdict.last.Goals as goal
 
 pub returns-then-find-fields : goal.returns-then-find-fields

@@ -8,7 +8,6 @@ use Rattle.replay.specs.Verdict.{besides, listed}
 use Rattle.replay.specs.declared.verdict.Verdict.{Verdict}
 use Rattle.replay.specs.declared.verdict.Verdict.TheVariants.{Case}
 use Rattle.replay.proofs.Fields.{Got, field_lost, field_got, listed_second, listed_third, listed_by, no_case}
-use borrow.Author.Rules.{rules}
 use borrow.Enum.Refused.{opened}
 use Rattle.replay.proofs.verdict.listed.Goals as goal
 

@@ -4,7 +4,6 @@ use native.Mathlib.Omega.{arith}
 use lib.ListN.{length-take}
 use Rattle.replay.specs.Verdict.{agreed}
 use Rattle.replay.proofs.Fields.{Got, field_lost, field_got, recorded_first, recorded_second, recorded_by}
-use borrow.Author.Rules.{rules}
 use Rattle.replay.proofs.verdict.recorded.Goals as goal
 
 pub returns-in_default : goal.returns-in_default

@@ -1,7 +1,6 @@
 -- Three bytes, and the value behind them. Assumes nothing.
 use Rattle.types.specs.Number.{bytes_of}
 use Rattle.report.specs.Report.{encode}
-use borrow.Author.Rules.{rules}
 use Rattle.report.proofs.report.put_record.Goals as goal
 
 pub returns : goal.returns

@@ -1,8 +1,6 @@
 -- No store, no room for the header, an empty list, or the ids of the list. Assumes nothing.
 use mathlib.Core.Path.{sym, ◌∙◌}
-use borrow.Author.Tests.{not-true, not-false}
 use Rattle.report.proofs.Whole.{report_of_none, report_headless, report_empty, report_all}
-use borrow.Author.Rules.{rules}
 use Rattle.report.proofs.report.report.Goals as goal
 
 pub returns-then-not-is_store : goal.returns-then-not-is_store

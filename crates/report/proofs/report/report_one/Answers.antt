@@ -2,12 +2,10 @@
 use mathlib.Core.Path.{◌≡◌, sym, ap, ◌∙◌}
 use mathlib.Core.List.{List}
 use Prim.Native.Nat.{ℕ}
-use borrow.Author.Tests.{not-true, not-false}
 use Rattle.frame.specs.Inside.Buffer.{putting, put}
 use Rattle.store.specs.Contents.{name_of, find_of}
 use Rattle.report.specs.Report.{encode, report_record, record_of}
 use Rattle.report.proofs.Ids.{turn_nothing, turn_unreportable, turn_more, turn_full}
-use borrow.Author.Rules.{rules}
 use Rattle.report.proofs.report.report_one.Goals as goal
 
 pub returns-in_default : goal.returns-in_default

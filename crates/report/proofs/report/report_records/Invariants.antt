@@ -1,12 +1,10 @@
 -- Each turn keeps what is left of the list the whole. Assumes nothing.
-use mathlib.Core.Path.{◌≡◌, refl, ◌∙◌}
+use mathlib.Core.Path.{◌≡◌}
 use mathlib.Core.List.{List}
 use Prim.Native.Nat.{ℕ, ◌-◌, ◌≤◌}
-use native.Mathlib.Omega.{arith}
 use lib.ListN.{length}
 use Rattle.frame.specs.Inside.Buffer.{Shows}
-use Rattle.report.proofs.Going.{Going, going_first, going_more, going_ends, going_done}
-use borrow.Author.Rules.{rules}
+use Rattle.report.proofs.Going.{Going}
 use Rattle.report.proofs.report.report_records.Given as goal
 
 abbrev pub invariant-loop-i : goal.invariant-loop-i

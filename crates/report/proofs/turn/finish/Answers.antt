@@ -3,7 +3,6 @@ use mathlib.Core.Path.{sym, ap}
 use mathlib.Core.Bool.{cond}
 use Rattle.frame.specs.declared.answer.Refusal.TheVariants.{ReplyTooLong, NothingToSend}
 use Rattle.report.proofs.Ended.{finish_none, finish_some}
-use borrow.Author.Rules.{rules}
 use Rattle.report.proofs.turn.finish.Goals as goal
 
 pub returns-then-from-c : goal.returns-then-from-c

@@ -2,7 +2,6 @@
 use mathlib.Core.Path.{sym, ap, ◌∙◌}
 use mathlib.Core.Bool.{not, cond}
 use Rattle.report.specs.Round.{above}
-use borrow.Author.Rules.{rules}
 use Rattle.report.proofs.turn.is_mine.Goals as goal
 
 pub returns-then-upper : goal.returns-then-upper

@@ -1,5 +1,4 @@
 -- The cluster is the store's. Assumes nothing.
-use borrow.Author.Rules.{rules}
 use Rattle.report.proofs.turn.key_of.Goals as goal
 
 pub returns : goal.returns

@@ -5,7 +5,6 @@ use Prim.Native.Nat.{ℕ}
 use Rattle.frame.specs.Inside.Buffer.{put}
 use Rattle.report.specs.Report.{encode, report_record}
 use Rattle.report.specs.Turn.{record_in}
-use borrow.Author.Rules.{rules}
 use Rattle.report.proofs.turn.put_attribute.Goals as goal
 
 pub returns : goal.returns

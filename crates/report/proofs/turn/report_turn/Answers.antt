@@ -2,13 +2,11 @@
 use mathlib.Core.Path.{◌≡◌, sym, ◌∙◌}
 use mathlib.Core.Bool.{true}
 use lib.ListN.{length}
-use borrow.Author.Tests.{not-true, not-false}
 use Rattle.store.specs.Layout.{is_store}
 use Rattle.reporting.specs.Table.{capacity}
 use Rattle.reporting.specs.Carried.{is_table, table_in, table_bytes}
 use Rattle.reporting.proofs.CarriageTable.{bytes_back}
 use Rattle.report.proofs.Ended.{turn_no_store, turn_no_table, turn_headless, turn_done}
-use borrow.Author.Rules.{rules}
 use Rattle.report.proofs.turn.report_turn.Goals as goal
 
 pub returns-then-not-is_store : goal.returns-then-not-is_store

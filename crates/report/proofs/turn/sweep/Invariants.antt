@@ -1,15 +1,13 @@
 -- Each attribute keeps what is left of the pass the whole. Assumes nothing.
-use mathlib.Core.Path.{◌≡◌, refl, ◌∙◌}
+use mathlib.Core.Path.{◌≡◌}
 use mathlib.Core.Bool.{true}
 use Prim.Native.Nat.{ℕ, ◌-◌}
-use native.Mathlib.Omega.{arith}
 use lib.ListN.{length}
-use borrow.Author.Rules.{rules}
 use Rattle.reporting.specs.Table.{capacity}
 use Rattle.reporting.specs.Carried.{is_table}
 use Rattle.report.specs.Inside.Loop.{Sweep}
 use Rattle.report.specs.Inside.Turn.{Stands}
-use Rattle.report.proofs.Passes.{Going, going_first, going_more, going_done, id_below}
+use Rattle.report.proofs.Passes.{Going}
 use Rattle.report.proofs.turn.sweep.Given as goal
 
 abbrev pub invariant-loop-i : goal.invariant-loop-i

@@ -1,7 +1,5 @@
 -- A pass that is full, an attribute that is not its, and the three ways that one goes. Assumes nothing.
-use borrow.Author.Tests.{not-true, not-false}
 use Rattle.report.proofs.Passes.{step_full, step_other, step_passed, step_longer, step_fills}
-use borrow.Author.Rules.{rules}
 use Rattle.report.proofs.turn.sweep_one.Goals as goal
 
 pub returns-then-c : goal.returns-then-c

@@ -1,13 +1,11 @@
 -- Not reportable, not due, no room, or written and marked. Assumes nothing.
 use mathlib.Core.Path.{sym, ap, ◌∙◌}
 use mathlib.Core.Bool.{true}
-use borrow.Author.Tests.{not-true, not-false}
 use Rattle.types.proofs.Machine.{came_back}
 use Rattle.reporting.specs.Entries.{mark_l}
 use Rattle.reporting.specs.Due.{due_l}
 use Rattle.reporting.specs.Carried.{table_in, table_read}
 use Rattle.report.proofs.Passes.{tried_unreportable, tried_not_due, tried_full, tried_longer}
-use borrow.Author.Rules.{rules}
 use Rattle.report.proofs.turn.try_attribute.Goals as goal
 
 pub returns-then-not-is_reportable : goal.returns-then-not-is_reportable

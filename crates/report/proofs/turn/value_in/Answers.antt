@@ -2,7 +2,6 @@
 use mathlib.Core.Path.{sym, ◌∙◌}
 use Rattle.types.proofs.Machine.{came_back}
 use Rattle.report.proofs.Passes.{value_none, value_is}
-use borrow.Author.Rules.{rules}
 use Rattle.report.proofs.turn.value_in.Goals as goal
 
 pub returns-in_default : goal.returns-in_default

@@ -1,12 +1,11 @@
 -- After i turns the first i slots are read. Assumes nothing.
 use borrow.Author.Rules.{rules}
 use native.Mathlib.Omega.{arith}
-use Prim.Native.Nat.{◌-◌}
 use mathlib.Core.Path.{◌≡◌, ◌∙◌}
 use lib.ListN.{length, length-set}
 use Rattle.reporting.specs.Table.{capacity}
 use Rattle.reporting.proofs.Slots.{length_mapped}
-use Rattle.reporting.proofs.CarriageLoops.{ReadSoFar, read_start, read_more, read_done}
+use Rattle.reporting.proofs.CarriageLoops.{read_start, read_more, read_done}
 use Rattle.reporting.proofs.carried.read_slots.Goals as goal
 
 pub loop-i-init : goal.loop-i-init

@@ -1,9 +1,7 @@
 -- The entries below the count of bytes that are a table. Assumes nothing.
-use borrow.Author.Rules.{rules}
 use native.Mathlib.Omega.{arith}
 use mathlib.Core.Path.{◌≡◌, sym, ◌∙◌}
 use mathlib.Core.Bool.{true}
-use borrow.Author.Tests.{not-true, not-false}
 use Rattle.reporting.specs.Table.{capacity}
 use Rattle.reporting.specs.Carried.{is_table}
 use Rattle.reporting.proofs.CarriageLoops.{known_size, known_count, read_none, read_all}

@@ -1,5 +1,4 @@
 -- A slot's form by its mark and its flag, and under flag 0 by the two numbers behind it. Assumes nothing.
-use borrow.Author.Rules.{rules}
 use mathlib.Core.Path.{refl}
 use Rattle.reporting.proofs.CarriageCode.{form_marks, form_past, form_marked, form_timed, form_untimed}
 use Rattle.reporting.proofs.carried.slot_in_form.Goals as goal

@@ -1,9 +1,6 @@
 -- After i turns the first i slots are in form, and the others decide. Assumes nothing.
-use native.Mathlib.Omega.{arith}
 use mathlib.Core.Path.{sym, ◌∙◌}
-use Prim.Native.Nat.{◌-◌}
-use borrow.Author.Tests.{not-true, not-false}
-use Rattle.reporting.proofs.CarriageLoops.{FormSoFar, form_start, form_more, form_bad, form_done}
+use Rattle.reporting.proofs.CarriageLoops.{form_start, form_more, form_bad, form_done}
 use Rattle.reporting.proofs.carried.slots_in_form.Goals as goal
 
 pub loop-i-init : goal.loop-i-init

@@ -1,5 +1,4 @@
 -- The empty table, and that it was not read. Assumes nothing.
-use borrow.Author.Rules.{rules}
 use mathlib.Core.Path.{ap}
 use mathlib.Core.Bool.{false}
 use Rattle.reporting.specs.Table.{Table}

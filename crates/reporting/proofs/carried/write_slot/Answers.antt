@@ -1,5 +1,4 @@
 -- The nine writes at their places are the slot laid out. Assumes nothing.
-use borrow.Author.Rules.{rules}
 use native.Mathlib.Omega.{arith}
 use native.Mathlib.Nat.{mod-eq_of_lt}
 use mathlib.Core.Path.{ap, sym, ◌∙◌}
@@ -63,8 +62,11 @@ returns c =
     let w₈ = c.put_u32_in in
     let w₉ = c.put_u64_in-2 in
     let noted = set w₅.new.bytes (c.args.at + 16) in
-    let flagged = set (noted u.result) (c.args.at + 17) in record { bytes_after = slot_puts c.args.at k.cluster.0 k.attribute.0 g.min_interval g.max_interval g.reportable_change u.result f.result t.result v.result
+    let flagged = set (noted u.result) (c.args.at + 17) in record {
+      bytes_after = slot_puts c.args.at k.cluster.0 k.attribute.0 g.min_interval g.max_interval g.reportable_change u.result f.result t.result v.result
           c.args.bytes.now w₁.new.bytes w₂.new.bytes w₃.new.bytes w₄.new.bytes w₅.new.bytes (noted u.result) (flagged f.result) w₈.new.bytes w₉.new.bytes
           w₁.ensures w₂.ensures w₃.ensures w₄.ensures w₅.ensures (ap noted (sym (mod-eq_of_lt (omega (arith, c.told_if.ensures, told_below c.args.e.config.unsigned 1 256 (omega arith)))))) (ap flagged (sym (mod-eq_of_lt (omega (arith, c.told_if-2.ensures, told_below c.args.e.marked 1 256 (omega arith)))))) w₈.ensures w₉.ensures
           ∙ ap (λ (ns : List ℕ). sets c.args.bytes.now c.args.at (laid widths ns))
-          (λ i. k.cluster.0 ∷ k.attribute.0 ∷ g.min_interval ∷ g.max_interval ∷ g.reportable_change ∷ u.ensures i ∷ f.ensures i ∷ t.ensures i ∷ (v.ensures ∙ ap (if_marked c.args.e.marked) b) i ∷ []); clean = quieted_clean c.args.e (omega arith) (omega arith) (omega arith) (omega arith) (omega arith) (omega arith) c.struct_told-1.given.1.1.1.1.0.1 }
+          (λ i. k.cluster.0 ∷ k.attribute.0 ∷ g.min_interval ∷ g.max_interval ∷ g.reportable_change ∷ u.ensures i ∷ f.ensures i ∷ t.ensures i ∷ (v.ensures ∙ ap (if_marked c.args.e.marked) b) i ∷ []);
+      clean = quieted_clean c.args.e (omega arith) (omega arith) (omega arith) (omega arith) (omega arith) (omega arith) c.struct_told-1.given.1.1.1.1.0.1;
+    }

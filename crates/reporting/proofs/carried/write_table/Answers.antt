@@ -1,25 +1,25 @@
 -- After i turns the bytes are the count, the first i slots, and zeros. Assumes nothing.
 use borrow.Author.Rules.{rules}
 use native.Mathlib.Omega.{arith}
-use Prim.Native.Nat.{ℕ, ◌-◌, ◌≤◌, ◌<◌}
+use Prim.Native.Nat.{ℕ, ◌<◌}
 use mathlib.Core.Path.{◌≡◌, sym, ap, subst, ◌∙◌}
 use mathlib.Core.Bool.{false≢true}
 use mathlib.Core.List.{map}
 use lib.ListN.{length, take}
 use lib.Seq.{length-take-le}
 use Rattle.reporting.specs.Table.{capacity}
-use Rattle.reporting.specs.Carried.{quieted, read_t, table_length}
+use Rattle.reporting.specs.Carried.{quieted, read_t}
 use Rattle.reporting.specs.Claims.RoundTrip.{AllClean}
 use Rattle.reporting.proofs.CarriageTable.{quieted_read}
 use Rattle.reporting.proofs.Slots.{length_mapped}
-use Rattle.reporting.proofs.CarriageLoops.{filled, cleared_length, filled_start, filled_turn, clean_turn, filled_all, write_sized, write_counted, write_done}
+use Rattle.reporting.proofs.CarriageLoops.{cleared_length, filled_start, filled_turn, clean_turn, filled_all, write_sized, write_counted, write_done}
 use Rattle.reporting.proofs.carried.write_table.Goals as goal
 
 pub returns-then-bytes-ne-TABLE_BYTES : goal.returns-then-bytes-ne-TABLE_BYTES
-returns-then-bytes-ne-TABLE_BYTES c = record { bytes_after = write_sized c.args.table c.args.bytes.now c.if-bytes-ne-TABLE_BYTES.true; bytes_after_2 = λ q. absurd (false≢true q) }
+returns-then-bytes-ne-TABLE_BYTES c = record { bytes_after = write_sized c.args.table c.args.bytes.now c.if-bytes-ne-TABLE_BYTES.true; read_back = λ q. absurd (false≢true q) }
 
 pub returns-then-count-gt-LIMIT : goal.returns-then-count-gt-LIMIT
-returns-then-count-gt-LIMIT c = record { bytes_after = write_counted c.args.table c.args.bytes.now c.if-bytes-ne-TABLE_BYTES.false c.if-count-gt-LIMIT.true; bytes_after_2 = λ q. absurd (false≢true q) }
+returns-then-count-gt-LIMIT c = record { bytes_after = write_counted c.args.table c.args.bytes.now c.if-bytes-ne-TABLE_BYTES.false c.if-count-gt-LIMIT.true; read_back = λ q. absurd (false≢true q) }
 
 pub bounds-bytes-0 : goal.bounds-bytes-0
 bounds-bytes-0 c =
@@ -54,4 +54,4 @@ returns c =
     let n : length c.args.table.entries ≡ capacity = search (length_mapped, rules) in
     let small = c.if-count-gt-LIMIT.false in
     let e = l.invariant.1.1.0 ∙ filled_all t l.i n small l.invariant.0 c.loop-i-test.false in
-    let i : l.i ≡ t.count = omega (arith, l.invariant.0, c.loop-i-test.false) in record { bytes_after = write_done t c.args.bytes.now c.if-bytes-ne-TABLE_BYTES.false l.bytes small e; bytes_after_2 = λ q. ap (read_t capacity) e ∙ quieted_read capacity (take t.count t.entries) (omega (arith, length-take-le t.count t.entries (omega arith))) (subst (λ (k : ℕ). AllClean (map quieted (take k t.entries))) i l.invariant.1.1.1) }
+    let i : l.i ≡ t.count = omega (arith, l.invariant.0, c.loop-i-test.false) in record { bytes_after = write_done t c.args.bytes.now c.if-bytes-ne-TABLE_BYTES.false l.bytes small e; read_back = λ q. ap (read_t capacity) e ∙ quieted_read capacity (take t.count t.entries) (omega (arith, length-take-le t.count t.entries (omega arith))) (subst (λ (k : ℕ). AllClean (map quieted (take k t.entries))) i l.invariant.1.1.1) }

@@ -5,7 +5,6 @@ use lib.ListN.{length, drop, drop_of_length-le, length-drop}
 use Prim.Native.Nat.{◌-◌}
 use lib.Seq.{take_all}
 use Rattle.types.specs.Number.{all_zero}
-use borrow.Author.Rules.{rules}
 use Rattle.reporting.proofs.carried.zero_from.Goals as goal
 
 pub returns-then-bytes-from : goal.returns-then-bytes-from

@@ -1,6 +1,5 @@
 -- `reporting::distance::distance` meets its contract, by the signs of the two numbers. Assumes nothing.
 use mathlib.Core.Path.{◌∙◌}
-use borrow.Author.Rules.{rules}
 use native.Mathlib.Omega.{arith}
 use Rattle.reporting.proofs.Signed.{small, both_pos, both_neg, pos_neg, neg_pos}
 use Rattle.reporting.proofs.distance.distance.Goals as goal

@@ -1,5 +1,4 @@
 -- The last slot goes into the one that the scan came to, zeros into the last, and the count is one less. Assumes nothing.
-use borrow.Author.Rules.{rules}
 use native.Mathlib.Omega.{arith}
 use mathlib.Core.Path.{◌≡◌, ◌∙◌}
 use Prim.Native.Nat.{◌-◌}

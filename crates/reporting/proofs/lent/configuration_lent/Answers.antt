@@ -1,8 +1,6 @@
 -- The check, and then the answer of a table's bytes. Assumes nothing.
-use borrow.Author.Rules.{rules}
 use mathlib.Core.Path.{◌≡◌, sym, ◌∙◌}
 use mathlib.Core.Bool.{true}
-use borrow.Author.Tests.{not-true, not-false}
 use Rattle.reporting.specs.Table.{capacity}
 use Rattle.reporting.specs.Carried.{is_table}
 use Rattle.reporting.proofs.Lending.{setting_refused, setting_known}

@@ -1,5 +1,4 @@
 -- The slot that the scan came to is written over, or the one behind the last, and then the count is one more. Assumes nothing.
-use borrow.Author.Rules.{rules}
 use native.Mathlib.Omega.{arith}
 use mathlib.Core.Path.{◌≡◌, ◌∙◌}
 use lib.ListN.{length, length-set}

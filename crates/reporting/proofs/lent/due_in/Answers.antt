@@ -1,5 +1,4 @@
 -- The answer of the slot that the scan came to. Assumes nothing.
-use borrow.Author.Rules.{rules}
 use native.Mathlib.Omega.{arith}
 use mir.Facts.{to_z-of_z}
 use Rattle.reporting.proofs.CarriageLoops.{known_size, known_count}

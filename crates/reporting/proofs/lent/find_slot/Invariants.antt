@@ -1,9 +1,6 @@
 -- The loop's invariant: the scan has passed i slots, none of them the key's. Assumes nothing.
-use native.Mathlib.Omega.{arith}
-use mathlib.Core.Path.{sym, ◌∙◌}
 use Prim.Native.Nat.{◌-◌}
-use Rattle.reporting.proofs.CarriageLoops.{known_size, known_count}
-use Rattle.reporting.proofs.Lending.{Passed, passed_none, passed_all, passed_here, passed_more}
+use Rattle.reporting.proofs.Lending.{Passed}
 use Rattle.reporting.proofs.lent.find_slot.Given as goal
 
 abbrev pub invariant-loop-i : goal.invariant-loop-i

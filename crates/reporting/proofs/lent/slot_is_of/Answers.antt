@@ -1,5 +1,4 @@
 -- The slot's first two numbers are the key's. Assumes nothing.
-use borrow.Author.Rules.{rules}
 use Rattle.reporting.proofs.Lending.{key_first, key_not}
 use Rattle.reporting.proofs.lent.slot_is_of.Goals as goal
 

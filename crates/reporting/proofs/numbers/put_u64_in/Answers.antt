@@ -1,5 +1,4 @@
 -- Two halves of four bytes, one behind the other. Assumes nothing.
-use borrow.Author.Rules.{rules}
 use Rattle.reporting.proofs.Carriage.{put_halves}
 use Rattle.reporting.proofs.numbers.put_u64_in.Goals as goal
 

@@ -1,5 +1,4 @@
 -- Two bytes are a number of width 2. Assumes nothing.
-use borrow.Author.Rules.{rules}
 use native.Mathlib.Omega.{arith}
 use Prim.Native.Nat.{◌+◌}
 use Rattle.types.proofs.Numbers.{two_bytes}

@@ -1,5 +1,4 @@
 -- Two halves of two bytes are a number of width 4. Assumes nothing.
-use borrow.Author.Rules.{rules}
 use mathlib.Core.Path.{◌∙◌}
 use Prim.Native.Nat.{◌+◌, ◌*◌}
 use Rattle.reporting.proofs.Carriage.{unsigned_join}

@@ -1,5 +1,4 @@
 -- Four numbers, one behind the other. Assumes nothing.
-use borrow.Author.Rules.{rules}
 use native.Mathlib.Omega.{arith}
 use native.Mathlib.Nat.{mod-eq_of_lt}
 use Prim.Native.Nat.{ℕ, ◌+◌}

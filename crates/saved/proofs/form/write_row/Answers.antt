@@ -1,5 +1,4 @@
 -- Three numbers, one behind the other. Assumes nothing.
-use borrow.Author.Rules.{rules}
 use native.Mathlib.Omega.{arith}
 use Prim.Native.Nat.{◌+◌}
 use Rattle.saved.proofs.Places.{three_puts}

@@ -1,5 +1,4 @@
 -- The length is that of a form with marks, or another. Assumes nothing.
-use borrow.Author.Rules.{rules}
 use mathlib.Core.Path.{ap}
 use lib.ListN.{length}
 use lib.Dec.{eqb}

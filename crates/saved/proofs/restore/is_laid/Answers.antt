@@ -1,11 +1,9 @@
 -- The conditions of a form, each test giving the definition's. Assumes nothing.
-use borrow.Author.Rules.{rules}
 use native.Mathlib.Omega.{arith}
 use mathlib.Core.Path.{sym, ap, ◌∙◌}
 use mathlib.Core.Bool.{Bool}
 use lib.ListN.{length}
 use lib.Dec.{eqb}
-use borrow.Author.Tests.{not-true, not-false}
 use Rattle.reporting.specs.Table.{capacity}
 use Rattle.reporting.specs.Carried.{count_in}
 use Rattle.saved.specs.Saved.{form_of, marked, saved_size, is_laid}

@@ -1,7 +1,5 @@
 -- The tests in their order; the table is filled before its entries are judged. Assumes nothing.
-use borrow.Author.Rules.{rules}
 use mathlib.Core.Path.{sym, ap, ◌∙◌}
-use borrow.Author.Tests.{not-true, not-false}
 use Rattle.types.specs.Number.{zeros}
 use Rattle.saved.proofs.Lending.{restore_no_table, restore_not_laid, fill_empty, filled_table, restore_done, restore_not_written}
 use Rattle.saved.proofs.restore.restore.Goals as goal

@@ -1,10 +1,8 @@
 -- The tests in their order, and then the count, the contents and the bodies. Assumes nothing.
-use borrow.Author.Rules.{rules}
 use native.Mathlib.Omega.{arith}
 use Prim.Native.Nat.{ℕ}
 use mathlib.Core.Path.{sym, ap, ◌∙◌}
 use lib.ListN.{length, length-set}
-use borrow.Author.Tests.{not-true, not-false}
 use Rattle.frame.specs.declared.answer.Answer.TheVariants.{Reply}
 use Rattle.frame.specs.Answer.{seen, no_state}
 use Rattle.reporting.specs.Carried.{count_in}

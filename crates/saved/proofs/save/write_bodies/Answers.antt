@@ -1,15 +1,14 @@
 -- After i turns the bodies of the first i entries stand behind the contents. Assumes nothing.
 use native.Mathlib.Omega.{arith}
-use Prim.Native.Nat.{ℕ, ◌-◌, ◌≤◌}
-use mathlib.Core.Path.{◌≡◌, refl, ap, ◌∙◌}
+use Prim.Native.Nat.{ℕ}
+use mathlib.Core.Path.{refl, ap, ◌∙◌}
 use mathlib.Core.List.{List, map}
-use lib.ListN.{length}
 use lib.Seq.{sets}
 use Rattle.reporting.specs.declared.entry.Entry.{Entry}
 use Rattle.reporting.specs.Carried.{laid, rows_laid, count_in}
 use Rattle.reporting.proofs.CarriageLoops.{known_size, known_count}
 use Rattle.saved.specs.Saved.{marked, body_of, offset_at}
-use Rattle.saved.proofs.Rows.{bodies_to, bodies_none, bodies_turn, all_taken}
+use Rattle.saved.proofs.Rows.{bodies_none, bodies_turn, all_taken}
 use Rattle.saved.proofs.save.write_bodies.Goals as goal
 
 pub bounds-table-0 : goal.bounds-table-0

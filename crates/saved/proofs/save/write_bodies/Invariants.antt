@@ -1,15 +1,11 @@
 -- After i turns the bodies of the first i entries stand behind the contents. Assumes nothing.
-use native.Mathlib.Omega.{arith}
-use Prim.Native.Nat.{ℕ, ◌-◌, ◌≤◌}
-use mathlib.Core.Path.{◌≡◌, refl, ap, ◌∙◌}
-use mathlib.Core.List.{List, map}
+use Prim.Native.Nat.{◌-◌, ◌≤◌}
+use mathlib.Core.Path.{◌≡◌}
 use lib.ListN.{length}
 use lib.Seq.{sets}
-use Rattle.reporting.specs.declared.entry.Entry.{Entry}
-use Rattle.reporting.specs.Carried.{laid, rows_laid, count_in}
-use Rattle.reporting.proofs.CarriageLoops.{known_size, known_count}
-use Rattle.saved.specs.Saved.{marked, body_of, offset_at}
-use Rattle.saved.proofs.Rows.{bodies_to, bodies_none, bodies_turn, all_taken}
+use Rattle.reporting.specs.Carried.{rows_laid}
+use Rattle.saved.specs.Saved.{marked, offset_at}
+use Rattle.saved.proofs.Rows.{bodies_to}
 use Rattle.saved.proofs.save.write_bodies.Given as goal
 
 abbrev pub invariant-loop-i : goal.invariant-loop-i

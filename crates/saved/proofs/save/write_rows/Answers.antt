@@ -1,17 +1,16 @@
 -- After i turns the rows of the first i entries stand behind the count. Assumes nothing.
 use native.Mathlib.Omega.{arith}
-use Prim.Native.Nat.{ℕ, ◌+◌, ◌*◌, ◌-◌, ◌≤◌}
-use mathlib.Core.Path.{◌≡◌, refl, ap, ◌∙◌}
+use Prim.Native.Nat.{ℕ, ◌+◌, ◌*◌}
+use mathlib.Core.Path.{refl, ap, ◌∙◌}
 use mathlib.Core.Bool.{true}
 use mathlib.Core.List.{List, [], ◌∷◌, ◌++◌, map}
-use lib.ListN.{length}
 use lib.Seq.{sets}
 use Rattle.reporting.specs.declared.entry.Entry.{Entry}
 use Rattle.reporting.specs.Carried.{laid, rows_laid, count_in}
 use Rattle.reporting.proofs.CarriageLoops.{known_size, known_count}
 use Rattle.saved.specs.Saved.{marked, key_of, row_of, contents_from}
 use Rattle.saved.proofs.Places.{place_small}
-use Rattle.saved.proofs.Rows.{contents_to, contents_none, contents_turn, all_taken}
+use Rattle.saved.proofs.Rows.{contents_none, contents_turn, all_taken}
 use Rattle.saved.proofs.save.write_rows.Goals as goal
 
 pub bounds-table-0 : goal.bounds-table-0

@@ -1,17 +1,11 @@
 -- After i turns the rows of the first i entries stand behind the count. Assumes nothing.
-use native.Mathlib.Omega.{arith}
-use Prim.Native.Nat.{ℕ, ◌+◌, ◌*◌, ◌-◌, ◌≤◌}
-use mathlib.Core.Path.{◌≡◌, refl, ap, ◌∙◌}
-use mathlib.Core.Bool.{true}
-use mathlib.Core.List.{List, [], ◌∷◌, ◌++◌, map}
+use Prim.Native.Nat.{◌-◌, ◌≤◌}
+use mathlib.Core.Path.{◌≡◌}
 use lib.ListN.{length}
 use lib.Seq.{sets}
-use Rattle.reporting.specs.declared.entry.Entry.{Entry}
-use Rattle.reporting.specs.Carried.{laid, rows_laid, count_in}
-use Rattle.reporting.proofs.CarriageLoops.{known_size, known_count}
-use Rattle.saved.specs.Saved.{marked, key_of, row_of, contents_from}
-use Rattle.saved.proofs.Places.{place_small}
-use Rattle.saved.proofs.Rows.{contents_to, contents_none, contents_turn, all_taken}
+use Rattle.reporting.specs.Carried.{rows_laid}
+use Rattle.saved.specs.Saved.{marked, row_of}
+use Rattle.saved.proofs.Rows.{contents_to}
 use Rattle.saved.proofs.save.write_rows.Given as goal
 
 abbrev pub invariant-loop-i : goal.invariant-loop-i

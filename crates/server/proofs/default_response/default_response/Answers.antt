@@ -1,9 +1,7 @@
 -- Each way of a Default Response. Assumes nothing.
 use mathlib.Core.Path.{sym, ◌∙◌}
 use lib.ListN.{length}
-use borrow.Author.Tests.{not-true, not-false}
 use Rattle.server.proofs.Defaults.{default_many, default_silenced, default_headless, default_full, default_sent}
-use borrow.Author.Rules.{rules}
 use Rattle.server.proofs.default_response.default_response.Goals as goal
 
 pub returns-then-not-unicast : goal.returns-then-not-unicast

@@ -3,7 +3,6 @@ use mathlib.Core.Path.{ap}
 use Prim.Native.Nat.{ℕ}
 use lib.Dec.{eqb}
 use borrow.Author.Tests.{eq-eqb, ne_eqb}
-use borrow.Author.Rules.{rules}
 use Rattle.server.proofs.default_response.is_silenced.Goals as goal
 
 pub returns-then-control-eq1 : goal.returns-then-control-eq1

@@ -1,6 +1,5 @@
 -- The table as its bytes: not written, or served there and read back. Assumes nothing.
 use lib.ListN.{length}
-use borrow.Author.Tests.{not-true, not-false}
 use Rattle.reporting.specs.Table.{capacity}
 use Rattle.reporting.proofs.CarriageTable.{read_is}
 use Rattle.server.proofs.Served.{not_written, was_written, value_refused, value_served}
@@ -8,7 +7,7 @@ use borrow.Author.Rules.{rules}
 use Rattle.server.proofs.serve.handle_request.Goals as goal
 
 pub serve_known-answer-requires : goal.serve_known-answer-requires
-serve_known-answer-requires c = λ k. (read_is capacity _ _ (c.write_table-known.ensures.bytes_after_2 k)).0
+serve_known-answer-requires c = λ k. (read_is capacity _ _ (c.write_table-known.ensures.read_back k)).0
 
 pub returns-then-not-known : goal.returns-then-not-known
 returns-then-not-known c =
@@ -26,7 +25,7 @@ returns c =
     value_served g.store.now g.table g.cluster.0 g.unicast g.request.now (length g.reply.now) c.serve_known-answer.result _
     (was_written g.table _ (search rules) _ _ c.write_table-known.ensures.bytes_after one)
     _
-    (c.write_table-known.ensures.bytes_after_2 one)
+    (c.write_table-known.ensures.read_back one)
     _ _
     (c.serve_known-answer.ensures.stays one)
     (c.serve_known-answer.ensures.served one)

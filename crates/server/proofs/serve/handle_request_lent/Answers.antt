@@ -2,7 +2,6 @@
 use mathlib.Core.Path.{sym, ◌∙◌}
 use lib.ListN.{length}
 use Rattle.server.proofs.Served.{lent_over}
-use borrow.Author.Rules.{rules}
 use Rattle.server.proofs.serve.handle_request_lent.Goals as goal
 
 pub serve_known-requires : goal.serve_known-requires

@@ -12,7 +12,6 @@ use Rattle.frame.specs.Answer.{within}
 use Rattle.reporting.specs.Table.{capacity, holding}
 use Rattle.reporting.specs.Carried.{table_in}
 use Rattle.server.specs.Serve.{state, typed}
-use borrow.Author.Rules.{rules}
 use borrow.Enum.Refused.{opened}
 use Rattle.server.proofs.serve.serve_frame.Goals as goal
 
@@ -26,16 +25,16 @@ pub returns-in_default-kind : goal.returns-in_default-kind
 unfolding typed
 returns-in_default-kind c =
     let told : (k : FrameType) → c.frame_type-kind.result ≡ k → typed 8 capacity c.args.store.now (holding (table_in c.args.table.now)) c.args.unicast c.args.request c.args.body.now (length c.args.reply.now) k ≡ typed 8 capacity c.args.store.now (holding (table_in c.args.table.now)) c.args.unicast c.args.request c.args.body.now (length c.args.reply.now) (frame_type_of c.args.request.frame_control.0) = λ k e. ap (typed 8 capacity c.args.store.now (holding (table_in c.args.table.now)) c.args.unicast c.args.request c.args.body.now (length c.args.reply.now)) (sym e ∙ c.frame_type-kind.ensures) in
-    record { table_after = c.requires; table_after_2 = ap (within (λ u. state c.args.store.now (holding (table_in c.args.table.now)))) c.refuse.ensures ∙ told _ (is-reserved _ (opened c.in_default.in_default-own.keys2) (opened c.in_default-kind.in_default-kind-own.keys2)) }
+    record { stays_table = c.requires; answered = ap (within (λ u. state c.args.store.now (holding (table_in c.args.table.now)))) c.refuse.ensures ∙ told _ (is-reserved _ (opened c.in_default.in_default-own.keys2) (opened c.in_default-kind.in_default-kind-own.keys2)) }
 
 pub returns-in_default : goal.returns-in_default
 unfolding typed
 returns-in_default c =
     let told : (k : FrameType) → c.frame_type-kind.result ≡ k → typed 8 capacity c.args.store.now (holding (table_in c.args.table.now)) c.args.unicast c.args.request c.args.body.now (length c.args.reply.now) k ≡ typed 8 capacity c.args.store.now (holding (table_in c.args.table.now)) c.args.unicast c.args.request c.args.body.now (length c.args.reply.now) (frame_type_of c.args.request.frame_control.0) = λ k e. ap (typed 8 capacity c.args.store.now (holding (table_in c.args.table.now)) c.args.unicast c.args.request c.args.body.now (length c.args.reply.now)) (sym e ∙ c.frame_type-kind.ensures) in
-    record { table_after = c.requires; table_after_2 = ap (within (λ u. state c.args.store.now (holding (table_in c.args.table.now)))) c.default_response.ensures ∙ told _ c.in-ClusterCommand.is }
+    record { stays_table = c.requires; answered = ap (within (λ u. state c.args.store.now (holding (table_in c.args.table.now)))) c.default_response.ensures ∙ told _ c.in-ClusterCommand.is }
 
 pub returns : goal.returns
 unfolding typed
 returns c =
     let told : (k : FrameType) → c.frame_type-kind.result ≡ k → typed 8 capacity c.args.store.now (holding (table_in c.args.table.now)) c.args.unicast c.args.request c.args.body.now (length c.args.reply.now) k ≡ typed 8 capacity c.args.store.now (holding (table_in c.args.table.now)) c.args.unicast c.args.request c.args.body.now (length c.args.reply.now) (frame_type_of c.args.request.frame_control.0) = λ k e. ap (typed 8 capacity c.args.store.now (holding (table_in c.args.table.now)) c.args.unicast c.args.request c.args.body.now (length c.args.reply.now)) (sym e ∙ c.frame_type-kind.ensures) in
-    record { table_after = c.global_command.ensures.table_after; table_after_2 = c.global_command.ensures.table_after_2 ∙ told _ c.in-GlobalCommand.is }
+    record { stays_table = c.global_command.ensures.stays_table; answered = c.global_command.ensures.answered ∙ told _ c.in-GlobalCommand.is }

@@ -6,7 +6,6 @@ use Prim.Native.Nat.{ℕ, ◌-◌, ◌≤◌}
 use native.Mathlib.Omega.{arith}
 use lib.ListN.{length, drop, length-drop}
 use lib.Seq.{take_all}
-use borrow.Author.Tests.{not-true, not-false}
 use Rattle.frame.specs.declared.header.HeaderRead.TheVariants.{Header, Short}
 use Rattle.frame.specs.Header.{frame_type_of, header_of}
 use Rattle.frame.specs.Answer.{within}
@@ -16,7 +15,6 @@ use Rattle.reporting.specs.Table.{capacity, holding}
 use Rattle.reporting.specs.Carried.{table_in}
 use Rattle.server.specs.Serve.{state, by_header, typed}
 use Rattle.server.proofs.Served.{serve_other, serve_read, over_no_store, over_no_table, over_table}
-use borrow.Author.Rules.{rules}
 use Rattle.server.proofs.serve.serve_known.Goals as goal
 
 pub returns-then-not-is_store : goal.returns-then-not-is_store
@@ -75,8 +73,8 @@ returns c =
     let is_known : c.args.known ≡ true = c.if-not-known.false in
     let is_one : is_store 8 c.args.store.now ≡ true = sym c.is_store.ensures ∙ c.if-not-is_store.false in
     let header : header_of c.args.request.now ≡ Header c.in-Header.h = sym c.read_header.ensures ∙ c.in-Header.is in
-    over_table c.args.store.now c.args.table.now c.args.cluster.0 c.args.unicast c.args.request.now (length c.args.reply.now) c.args.known c.serve_frame.result _ is_known _ _ c.serve_frame.ensures.table_after
-    (c.serve_frame.ensures.table_after_2
+    over_table c.args.store.now c.args.table.now c.args.cluster.0 c.args.unicast c.args.request.now (length c.args.reply.now) c.args.known c.serve_frame.result _ is_known _ _ c.serve_frame.ensures.stays_table
+    (c.serve_frame.ensures.answered
     ∙ ap (λ (l : List ℕ). typed 8 capacity c.args.store.now (holding (table_in c.args.table.now)) c.args.unicast c.in-Header.h l (length c.args.reply.now) (frame_type_of c.in-Header.h.frame_control.0))
     (take_all (length c.args.request.now - c.in-Header.h.body) (drop c.in-Header.h.body c.args.request.now) (simp length-drop (omega arith)))
     ∙ serve_read c.args.store.now (table_in c.args.table.now) c.args.cluster.0 c.args.unicast c.args.request.now (length c.args.reply.now) is_one _ c.cluster_of-own.ensures c.if-own-cluster.false (Header c.in-Header.h) (sym header))

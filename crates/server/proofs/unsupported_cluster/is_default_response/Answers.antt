@@ -8,7 +8,6 @@ use Rattle.frame.specs.declared.header.FrameType.{FrameType}
 use Rattle.frame.specs.declared.command_identifier.CommandIdentifier.TheVariants.{DefaultResponse}
 use Rattle.frame.specs.Header.{is_global}
 use Rattle.server.proofs.Listed.{not_global}
-use borrow.Author.Rules.{rules}
 use borrow.Enum.Refused.{opened}
 use Rattle.server.proofs.unsupported_cluster.is_default_response.Goals as goal
 

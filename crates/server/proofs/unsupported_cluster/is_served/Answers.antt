@@ -1,10 +1,6 @@
 -- What is left of the list decides as the whole does. Assumes nothing.
-use mathlib.Core.Path.{◌≡◌, refl}
-use Prim.Native.Nat.{◌-◌, ◌≤◌}
+use mathlib.Core.Path.{refl}
 use native.Mathlib.Omega.{arith}
-use lib.ListN.{length, drop}
-use borrow.Author.Rules.{rules}
-use Rattle.server.specs.UnsupportedCluster.{is_served}
 use Rattle.server.proofs.Listed.{served_here, served_further, served_nowhere}
 use Rattle.server.proofs.unsupported_cluster.is_served.Goals as goal
 

@@ -1,11 +1,8 @@
 -- What is left of the list decides as the whole does. Assumes nothing.
-use mathlib.Core.Path.{◌≡◌, refl}
+use mathlib.Core.Path.{◌≡◌}
 use Prim.Native.Nat.{◌-◌, ◌≤◌}
-use native.Mathlib.Omega.{arith}
 use lib.ListN.{length, drop}
-use borrow.Author.Rules.{rules}
 use Rattle.server.specs.UnsupportedCluster.{is_served}
-use Rattle.server.proofs.Listed.{served_here, served_further, served_nowhere}
 use Rattle.server.proofs.unsupported_cluster.is_served.Given as goal
 
 abbrev pub invariant-loop-i : goal.invariant-loop-i

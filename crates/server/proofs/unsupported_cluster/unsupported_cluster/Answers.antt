@@ -1,7 +1,6 @@
 -- Each way of the responder, in its order. Assumes nothing.
 use mathlib.Core.Path.{sym, ◌∙◌}
 use Rattle.server.proofs.Listed.{respond_served, respond_short, respond_never, respond_sent}
-use borrow.Author.Rules.{rules}
 use Rattle.server.proofs.unsupported_cluster.unsupported_cluster.Goals as goal
 
 pub returns-then-is_served : goal.returns-then-is_served

@@ -7,7 +7,7 @@ use mathlib.Core.Logic.{⊎_elim}
 use native.Mathlib.Omega.{arith}
 use lib.ListN.{take, drop}
 use lib.Dec.{leb, eqb}
-use borrow.Author.Tests.{le-leb, lt-leb, lt-ltb, le-ltb, ltb-true, ltb-false}
+use borrow.Author.Tests.{le-leb, lt-leb, lt-ltb, le-ltb, ltb-false}
 use types.Run.{OneOf, miss}
 use denote.Enum.Declared.{tag_of}
 use Rattle.types.specs.contracts.ids.Shape as shape
@@ -18,7 +18,6 @@ use Rattle.types.specs.declared.ids.Shape.TheVariants.{Fixed, Text, LongText, Se
 use Rattle.store.specs.declared.lookup.Attribute.{Attribute}
 use Rattle.store.specs.Layout.{is_text, text_length, room_ok, room_by, length_ok, unused_ok, all_of}
 use Rattle.store.proofs.Layouts.{falsy, text_length_below}
-use borrow.Author.Rules.{rules}
 use borrow.Enum.Refused.{opened}
 use Rattle.store.proofs.layout.body_ok.Goals as goal
 

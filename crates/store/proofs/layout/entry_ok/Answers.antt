@@ -9,7 +9,6 @@ use Rattle.store.specs.declared.lookup.Attribute.{Attribute}
 use Rattle.store.specs.Layout.{access_ok, room_ok, length_ok, unused_ok, all_of}
 use Rattle.store.specs.Inside.{entry_ok}
 use Rattle.store.proofs.Layouts.{falsy}
-use borrow.Author.Rules.{rules}
 use Rattle.store.proofs.layout.entry_ok.Goals as goal
 
 abbrev tests : List ℕ → ℕ → ℕ → Attribute → List Bool

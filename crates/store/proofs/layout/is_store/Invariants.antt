@@ -1,11 +1,8 @@
 -- The conditions on the attributes that are left are those on all of them. Assumes nothing.
 use Prim.Native.Nat.{◌+◌, ◌-◌, ◌*◌, ◌≤◌}
 use mathlib.Core.Path.{◌≡◌}
-use native.Mathlib.Omega.{arith}
-use borrow.Author.Rules.{rules}
-use borrow.Author.Tests.{not-true, not-false}
 use Rattle.store.specs.Layout.{is_store}
-use Rattle.store.proofs.Layouts.{left, left_start, left_many, left_cut, left_exact, left_over, left_bad, left_more}
+use Rattle.store.proofs.Layouts.{left}
 use Rattle.store.proofs.layout.is_store.Given as goal
 
 abbrev pub invariant-loop-i : goal.invariant-loop-i

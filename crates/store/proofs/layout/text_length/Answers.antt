@@ -2,7 +2,6 @@
 use mathlib.Core.Path.{◌∙◌}
 use Rattle.types.proofs.Numbers.{one_byte}
 use Rattle.types.proofs.Extents.{count_mark, count_plain}
-use borrow.Author.Rules.{rules}
 use Rattle.store.proofs.layout.text_length.Goals as goal
 
 pub returns-then-n-eq255 : goal.returns-then-n-eq255

@@ -1,9 +1,7 @@
 -- The entry is read where it stands, whole or as far as it is there. Assumes nothing.
 use mathlib.Core.Path.{ap, ◌∙◌}
-use native.Mathlib.Omega.{arith}
 use Rattle.store.specs.Contents.{attribute_at}
 use Rattle.store.proofs.Contents.{first_there}
-use borrow.Author.Rules.{rules}
 use Rattle.store.proofs.lookup.attribute_at.Goals as goal
 
 pub returns-then-s-p : goal.returns-then-s-p

@@ -5,7 +5,6 @@ use native.Mathlib.Nat.{add-sub_cancel_left}
 use lib.ListN.{take, drop}
 use Rattle.store.specs.Contents.{attribute_at}
 use Rattle.store.proofs.Contents.{first_there}
-use borrow.Author.Rules.{rules}
 use Rattle.store.proofs.lookup.attribute_in.Goals as goal
 
 pub returns : goal.returns

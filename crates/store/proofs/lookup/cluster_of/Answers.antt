@@ -2,7 +2,6 @@
 use mathlib.Core.Path.{refl, ◌∙◌}
 use native.Mathlib.Omega.{arith}
 use Rattle.store.proofs.Contents.{part_two}
-use borrow.Author.Rules.{rules}
 use Rattle.store.proofs.lookup.cluster_of.Goals as goal
 
 pub returns : goal.returns

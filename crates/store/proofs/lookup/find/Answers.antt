@@ -1,6 +1,4 @@
 -- Whole contents are scanned here, and what stands at the place that was found is read. Assumes nothing.
-use native.Mathlib.Omega.{arith}
-use borrow.Author.Rules.{rules}
 use Rattle.store.proofs.Scan.{none_there, one_there}
 use Rattle.store.proofs.lookup.find.Goals as goal
 

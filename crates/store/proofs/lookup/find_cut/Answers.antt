@@ -1,6 +1,5 @@
 -- What stands at the place that the scan found. Assumes nothing.
 use Rattle.store.proofs.Scan.{none_there, one_there}
-use borrow.Author.Rules.{rules}
 use Rattle.store.proofs.lookup.find_cut.Goals as goal
 
 pub returns-then-n-i : goal.returns-then-n-i

@@ -1,6 +1,5 @@
 -- Each field stands where the entry has it. Assumes nothing.
 use Rattle.store.specs.Contents.{attribute_at}
-use borrow.Author.Rules.{rules}
 use Rattle.store.proofs.lookup.first.Goals as goal
 
 pub returns : goal.returns

@@ -1,6 +1,5 @@
 -- The attribute has it. Assumes nothing.
 use mathlib.Core.Path.{ap}
-use borrow.Author.Rules.{rules}
 use Rattle.store.specs.declared.lookup.Attribute.{Attribute}
 use Rattle.store.proofs.lookup.name_at.Goals as goal
 

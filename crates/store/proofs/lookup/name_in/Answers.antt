@@ -3,7 +3,6 @@ use Prim.Native.Nat.{◌+◌, ◌*◌}
 use native.Mathlib.Omega.{arith}
 use Rattle.types.proofs.Numbers.{two_bytes}
 use Rattle.store.specs.Contents.{attribute_at}
-use borrow.Author.Rules.{rules}
 use Rattle.store.proofs.lookup.name_in.Goals as goal
 
 pub overflow_cast-result : goal.overflow_cast-result

@@ -1,9 +1,7 @@
 -- The scan from here finds what the scan from the start finds. Assumes nothing.
-use Prim.Native.Nat.{◌-◌, ◌≤◌}
-use mathlib.Core.Path.{◌≡◌, refl}
+use mathlib.Core.Path.{refl}
 use native.Mathlib.Omega.{arith}
-use borrow.Author.Rules.{rules}
-use Rattle.store.proofs.Scan.{scan, here, further, nowhere}
+use Rattle.store.proofs.Scan.{here, further, nowhere}
 use Rattle.store.proofs.lookup.place_cut.Goals as goal
 
 pub loop-i-init : goal.loop-i-init

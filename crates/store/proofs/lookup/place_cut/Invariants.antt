@@ -1,9 +1,7 @@
 -- The scan from here finds what the scan from the start finds. Assumes nothing.
 use Prim.Native.Nat.{◌-◌, ◌≤◌}
-use mathlib.Core.Path.{◌≡◌, refl}
-use native.Mathlib.Omega.{arith}
-use borrow.Author.Rules.{rules}
-use Rattle.store.proofs.Scan.{scan, here, further, nowhere}
+use mathlib.Core.Path.{◌≡◌}
+use Rattle.store.proofs.Scan.{scan}
 use Rattle.store.proofs.lookup.place_cut.Given as goal
 
 abbrev pub invariant-loop-i : goal.invariant-loop-i

@@ -1,8 +1,7 @@
 -- The scan from here finds what the scan from the start finds. Assumes nothing.
-use Prim.Native.Nat.{◌-◌, ◌≤◌}
-use mathlib.Core.Path.{◌≡◌, refl}
+use mathlib.Core.Path.{refl}
 use native.Mathlib.Omega.{arith}
-use Rattle.store.proofs.Scan.{scan, here, further, nowhere}
+use Rattle.store.proofs.Scan.{here, further, nowhere}
 use Rattle.store.proofs.lookup.place_in.Goals as goal
 
 pub loop-i-init : goal.loop-i-init

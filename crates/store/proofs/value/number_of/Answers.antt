@@ -1,7 +1,6 @@
 -- Each way out is one law of the definition. Assumes nothing.
 use mathlib.Core.Path.{◌≡◌, ap, sym, ◌∙◌}
 use mathlib.Core.Bool.{true}
-use borrow.Author.Tests.{not-true, not-false}
 use Rattle.types.proofs.Machine.{came_back}
 use Rattle.store.specs.declared.lookup.Found.TheVariants.{At}
 use Rattle.store.specs.declared.value.Numbered.TheVariants.{Is}
@@ -9,7 +8,6 @@ use Rattle.store.specs.Contents.{find_of}
 use Rattle.store.specs.Layout.{is_store}
 use Rattle.store.specs.Value.{telling}
 use Rattle.store.proofs.Tells.{number_no_store, number_absent, number_without, number_is}
-use borrow.Author.Rules.{rules}
 use Rattle.store.proofs.value.number_of.Goals as goal
 
 pub returns-then-not-is_store : goal.returns-then-not-is_store

@@ -3,7 +3,6 @@ use mathlib.Core.Path.{sym, refl, ◌∙◌}
 use native.Mathlib.Omega.{arith}
 use Rattle.store.specs.Value.{used_of}
 use Rattle.store.proofs.Layouts.{text_length_below}
-use borrow.Author.Rules.{rules}
 use Rattle.store.proofs.value.used_of.Goals as goal
 
 pub overflow_add-result : goal.overflow_add-result

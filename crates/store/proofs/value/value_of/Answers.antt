@@ -2,7 +2,6 @@
 use mathlib.Core.Path.{ap, ◌∙◌}
 use lib.ListN.{take, drop}
 use Rattle.store.specs.Value.{value_of}
-use borrow.Author.Rules.{rules}
 use Rattle.store.proofs.value.value_of.Goals as goal
 
 pub returns : goal.returns

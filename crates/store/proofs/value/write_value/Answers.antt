@@ -1,8 +1,7 @@
 -- What is left of the value, laid here, is the whole laid from the start. Assumes nothing.
-use Prim.Native.Nat.{◌+◌, ◌-◌}
-use mathlib.Core.Path.{◌≡◌, refl, ap, sym, ◌∙◌}
-use borrow.Author.Rules.{rules}
-use lib.ListN.{length, set, length-set}
+use Prim.Native.Nat.{◌+◌}
+use mathlib.Core.Path.{refl, ap, sym, ◌∙◌}
+use lib.ListN.{set, length-set}
 use lib.Seq.{sets}
 use Rattle.types.proofs.Numbers.{sets_out}
 use Rattle.store.proofs.Fitted.{left, lay_next, lay_done, stored_all}

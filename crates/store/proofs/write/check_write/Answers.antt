@@ -6,7 +6,6 @@ use mathlib.Core.Path.{◌≡◌, sym, ◌∙◌}
 use Rattle.store.specs.Contents.{find_of}
 use Rattle.store.specs.declared.lookup.Found.TheVariants.{At}
 use Rattle.store.proofs.Writes.{check_none, check_locked, check_type, check_long, check_fine}
-use borrow.Author.Rules.{rules}
 use Rattle.store.proofs.write.check_write.Goals as goal
 
 pub returns-in_default : goal.returns-in_default

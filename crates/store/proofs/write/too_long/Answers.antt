@@ -1,7 +1,6 @@
 -- The length byte is read, and what it counts is held against the room. Assumes nothing.
 use mathlib.Core.Path.{◌≡◌, sym, ◌∙◌}
 use mathlib.Core.Bool.{true, false}
-use borrow.Author.Tests.{not-true, not-false}
 use Rattle.types.proofs.Numbers.{one_byte}
 use Rattle.types.proofs.Extents.{count_mark, count_plain}
 use Rattle.store.specs.Layout.{is_text}
@@ -12,7 +11,6 @@ use lib.Dec.{ltb}
 use Rattle.types.specs.Extent.{count}
 use Rattle.store.specs.declared.lookup.Attribute.{Attribute}
 use Rattle.store.specs.Write.{too_long}
-use borrow.Author.Rules.{rules}
 use Rattle.store.proofs.write.too_long.Goals as goal
 
 -- only a string can be too long: by its length byte and what that counts

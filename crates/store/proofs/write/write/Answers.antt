@@ -2,7 +2,6 @@
 use mathlib.Core.Path.{ap, sym, ◌∙◌}
 use Rattle.frame.specs.declared.status.Status.TheVariants.{Success}
 use Rattle.store.specs.Write.{wrote, write_by, write_of}
-use borrow.Author.Rules.{rules}
 use Rattle.store.proofs.write.write.Goals as goal
 
 pub returns-in-Fine : goal.returns-in-Fine

@@ -1,11 +1,11 @@
 -- A collection and what it holds, one proof for the two that call each other: the levels left fall at each call, and in each loop
 -- the elements that are left, read from here, end where all do. Assumes nothing.
-use Prim.Native.Nat.{ℕ, ◌+◌, ◌-◌, ◌<◌, ◌≤◌}
+use Prim.Native.Nat.{◌-◌}
 use native.Mathlib.Omega.{arith}
 use mathlib.Core.Path.{◌≡◌, ap, sym, ◌∙◌}
 use borrow.Enum.Refused.{opened}
 use lib.ListN.{get_or}
-use Rattle.types.specs.Extent.{upto, times, by_shape, value_at, series_at, structure_at, member}
+use Rattle.types.specs.Extent.{upto, by_shape, value_at, member}
 use Rattle.types.specs.Inside.{ended}
 use Rattle.types.specs.declared.extent.Extent.TheVariants.{End}
 use Rattle.types.proofs.Extents.{upto_end, series_none, series_cut, series_from, series_fixed, structure_none, structure_cut, structure_from, member_in, member_out, ended_end, times_step, times_stop, times_cut, times_done, upto_cut, value_series, value_structure, value_plain, product_small}

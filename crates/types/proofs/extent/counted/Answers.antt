@@ -1,7 +1,6 @@
 -- The mark ffff counts nothing; any other count is itself. Assumes nothing.
 use native.Mathlib.Omega.{arith}
 use Rattle.types.proofs.Extents.{count_mark, count_plain}
-use borrow.Author.Rules.{rules}
 use Rattle.types.proofs.extent.counted.Goals as goal
 
 pub returns-then-n : goal.returns-then-n

@@ -1,5 +1,4 @@
 -- By the shape: a collection with all 15 levels, or a plain value. Assumes nothing.
-use borrow.Author.Rules.{rules}
 use mathlib.Core.Path.{sym, ◌∙◌}
 use Rattle.types.proofs.Extents.{value_series, value_structure, value_plain}
 use borrow.Enum.Refused.{opened}

@@ -1,7 +1,6 @@
 -- A number above the two is a place. Assumes nothing.
 use mathlib.Core.Path.{sym}
 use Rattle.types.proofs.Extents.{ended_end, ended_without}
-use borrow.Author.Rules.{rules}
 use Rattle.types.proofs.extent.extent_by.Goals as goal
 
 pub returns-then-place-gt-CUT : goal.returns-then-place-gt-CUT

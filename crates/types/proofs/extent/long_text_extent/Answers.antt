@@ -3,7 +3,6 @@ use mathlib.Core.Path.{◌≡◌, sym, ◌∙◌}
 use Rattle.types.specs.Extent.{upto}
 use Rattle.types.specs.declared.extent.Extent.TheVariants.{End}
 use Rattle.types.proofs.Extents.{text_from, text_cut}
-use borrow.Author.Rules.{rules}
 use borrow.Enum.Refused.{opened}
 use Rattle.types.proofs.extent.long_text_extent.Goals as goal
 

@@ -1,6 +1,5 @@
 -- Each shape by its own extent; a collection is not for this function. Assumes nothing.
 use Rattle.types.specs.Extent.{by_shape}
-use borrow.Author.Rules.{rules}
 use Rattle.types.proofs.extent.plain_extent.Goals as goal
 
 pub returns-in-Fixed : goal.returns-in-Fixed

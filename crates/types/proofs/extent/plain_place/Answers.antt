@@ -3,7 +3,6 @@ use native.Mathlib.Omega.{arith}
 use mathlib.Core.Path.{sym, ◌∙◌}
 use Rattle.types.proofs.Extents.{ended_end}
 use Rattle.types.proofs.Ends.{plain_ends}
-use borrow.Author.Rules.{rules}
 use Rattle.types.proofs.extent.plain_place.Goals as goal
 
 pub returns-in-End : goal.returns-in-End

@@ -1,5 +1,4 @@
 -- The bytes are there, or the slice ends first. Assumes nothing.
-use borrow.Author.Rules.{rules}
 use native.Mathlib.Omega.{arith}
 use mathlib.Core.Path.{sym}
 use Rattle.types.proofs.Extents.{upto_in, upto_out}

@@ -4,7 +4,6 @@ use Rattle.types.specs.Extent.{upto}
 use Rattle.types.specs.declared.extent.Extent.TheVariants.{End}
 use Rattle.types.proofs.Numbers.{one_byte}
 use Rattle.types.proofs.Extents.{count_mark, count_plain, text_from, text_cut}
-use borrow.Author.Rules.{rules}
 use borrow.Enum.Refused.{opened}
 use Rattle.types.proofs.extent.text_extent.Goals as goal
 

@@ -1,5 +1,4 @@
 -- Below 2^63 the bits are the number; above, all bits turned twice. Assumes nothing.
-use borrow.Author.Rules.{rules}
 use Rattle.types.proofs.Machine.{bits_are, bits_turned}
 use Rattle.types.proofs.number.bits_i64.Goals as goal
 

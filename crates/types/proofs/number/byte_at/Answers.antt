@@ -1,7 +1,6 @@
 -- Past the end the list's own default is 0. Assumes nothing.
 use mathlib.Core.Path.{sym}
 use lib.ListN.{get_or-eq_default}
-use borrow.Author.Rules.{rules}
 use Rattle.types.proofs.number.byte_at.Goals as goal
 
 pub returns : goal.returns

@@ -1,5 +1,4 @@
 -- Eight bytes written over eight are all there is. Assumes nothing.
-use borrow.Author.Rules.{rules}
 use mathlib.Core.Path.{sym, ◌∙◌}
 use Rattle.types.specs.Number.{bytes_of}
 use Rattle.types.proofs.Numbers.{sets_all, length_bytes}

@@ -1,5 +1,4 @@
 -- A number that is not negative is itself; of a negative one all bits turned are one less. Assumes nothing.
-use borrow.Author.Rules.{rules}
 use Rattle.types.proofs.Machine.{kept_casts, flipped_casts, flipped_fits, flipped_is}
 use Rattle.types.proofs.number.magnitude.Goals as goal
 

@@ -1,11 +1,8 @@
 -- What is left to write, written here, is the whole written from the start. Assumes nothing.
-use borrow.Author.Rules.{rules}
-use Prim.Native.Nat.{◌%◌}
-use mathlib.Core.Path.{◌≡◌, refl, sym, ◌∙◌}
-use lib.ListN.{length, length-set}
+use mathlib.Core.Path.{◌≡◌}
+use lib.ListN.{length}
 use lib.Seq.{sets}
 use Rattle.types.specs.Number.{bytes_of}
-use Rattle.types.proofs.Numbers.{put_step, put_done, sets_out}
 use Rattle.types.proofs.number.put_le.Given as goal
 
 abbrev pub invariant-loop-left : goal.invariant-loop-left

@@ -1,5 +1,4 @@
 -- Below half the numbers of a width a number is itself, from there on it is as far below zero as it is below the whole. Assumes nothing.
-use borrow.Author.Rules.{rules}
 use native.Mathlib.Omega.{arith}
 use mathlib.Core.Path.{◌∙◌}
 use Rattle.types.proofs.Machine.{came_back, half_fits, extend_low, extend_high, extend_none, extend_all}

@@ -1,5 +1,4 @@
 -- The bytes are a number of that width, so its sign may be extended. Assumes nothing.
-use borrow.Author.Rules.{rules}
 use mathlib.Core.Path.{ap, ◌∙◌}
 use Rattle.types.specs.Number.{signed_at, signed_of}
 use Rattle.types.proofs.Machine.{came_back}

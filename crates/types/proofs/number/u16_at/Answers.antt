@@ -3,7 +3,6 @@ use mathlib.Core.Path.{ap, sym, ◌∙◌}
 use Prim.Native.Nat.{◌+◌, ◌*◌}
 use lib.ListN.{get_or}
 use Rattle.types.proofs.Numbers.{unsigned_past, two_bytes}
-use borrow.Author.Rules.{rules}
 use Rattle.types.proofs.number.u16_at.Goals as goal
 
 pub returns-then-s-at : goal.returns-then-s-at

@@ -1,5 +1,4 @@
 -- Each way out is one law of the definition: no size, a float, an Int, any other. Assumes nothing.
-use borrow.Author.Rules.{rules}
 use mathlib.Core.Path.{ap, sym, ◌∙◌}
 use native.Mathlib.Omega.{arith}
 use lib.IntN.{nat_abs}

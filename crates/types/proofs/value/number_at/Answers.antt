@@ -1,5 +1,4 @@
 -- Each way out is one law of the definition: no size, too wide, an Int, any other. Assumes nothing.
-use borrow.Author.Rules.{rules}
 use mathlib.Core.Path.{ap, sym, ◌∙◌}
 use Rattle.types.specs.declared.value.Number.TheVariants.{Value}
 use Rattle.types.proofs.Machine.{came_back}

@@ -2,7 +2,6 @@
 use mathlib.Core.Path.{sym, ap}
 use Rattle.frame.specs.declared.failures.Pass.{Pass}
 use Rattle.write.specs.Inside.{is_clean}
-use borrow.Author.Rules.{rules}
 use Rattle.write.proofs.attributes.is_clean.Goals as goal
 
 pub returns-in-Through : goal.returns-in-Through

@@ -6,7 +6,6 @@ use Rattle.frame.proofs.Passes.{headed_past, headed_performs, performs}
 use Rattle.write.specs.Request.{records}
 use Rattle.write.specs.Write.{writing, write_attributes}
 use Rattle.write.proofs.Turns.{some}
-use borrow.Author.Rules.{rules}
 use Rattle.write.proofs.attributes.write_attributes.Goals as goal
 
 pub returns-in_default : goal.returns-in_default

@@ -5,7 +5,6 @@ use Rattle.frame.specs.declared.answer.Refusal.TheVariants.{NothingToSend}
 use Rattle.frame.specs.Answer.{refused}
 use Rattle.write.specs.Write.{write_silently}
 use Rattle.frame.proofs.Outcome.{refused_with}
-use borrow.Author.Rules.{rules}
 use Rattle.write.proofs.attributes.write_attributes_no_response.Goals as goal
 
 pub returns : goal.returns

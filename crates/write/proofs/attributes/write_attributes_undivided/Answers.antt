@@ -3,13 +3,11 @@ use mathlib.Core.Path.{◌≡◌, sym, ap, ◌∙◌}
 use mathlib.Core.Bool.{Bool, cond}
 use mathlib.Core.List.{List}
 use Prim.Native.Nat.{ℕ}
-use mathlib.Core.Logic.{⊎_elim}
 use lib.ListN.{length}
 use Rattle.frame.specs.declared.command_identifier.CommandIdentifier.TheVariants.{WriteAttributesResponse}
 use Rattle.frame.proofs.Passes.{headed_past}
 use Rattle.write.specs.Write.{written_all, write_undivided}
 use Rattle.write.proofs.Undivided.{undivided_run}
-use borrow.Author.Rules.{rules}
 use Rattle.write.proofs.attributes.write_attributes_undivided.Goals as goal
 use Rattle.write.proofs.attributes.write_attributes_undivided.Goals.{then-is_clean, else-is_clean}
 

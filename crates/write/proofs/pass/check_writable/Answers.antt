@@ -5,7 +5,6 @@ use Prim.Native.Nat.{ℕ}
 use Rattle.store.specs.declared.write.Checked.{Checked}
 use Rattle.store.specs.Contents.{find_of}
 use Rattle.store.specs.Write.{check_of, write_by, write_of}
-use borrow.Author.Rules.{rules}
 use Rattle.write.proofs.pass.check_writable.Goals as goal
 
 -- what a write says is what its checks say

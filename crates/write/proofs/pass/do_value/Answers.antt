@@ -1,7 +1,6 @@
 -- The task says which. Assumes nothing.
 use Rattle.store.specs.Write.{wrote}
 use Rattle.write.proofs.Turns.{checked_is, written_is}
-use borrow.Author.Rules.{rules}
 use Rattle.write.proofs.pass.do_value.Goals as goal
 
 pub returns-in-Check : goal.returns-in-Check

@@ -5,7 +5,6 @@ use mathlib.Core.List.{◌∷◌}
 use Rattle.types.specs.Number.{bytes_of}
 use Rattle.frame.specs.Inside.Failures.{noting}
 use Rattle.write.specs.Reply.{encode}
-use borrow.Author.Rules.{rules}
 use Rattle.write.proofs.pass.note.Goals as goal
 
 pub returns : goal.returns

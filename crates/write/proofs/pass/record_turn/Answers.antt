@@ -1,14 +1,13 @@
 -- The record that was read is the one that is done. Assumes nothing.
 use mathlib.Core.Path.{◌≡◌, refl, sym, ap, ◌∙◌}
-use Prim.Native.Nat.{ℕ, ◌+◌, ◌-◌, ◌≤◌}
+use Prim.Native.Nat.{◌+◌, ◌-◌, ◌≤◌}
 use native.Mathlib.Omega.{arith}
 use lib.ListN.{length, take, drop}
 use Rattle.frame.specs.Walk.{item}
-use Rattle.write.specs.Request.{WriteRecord, record_at}
+use Rattle.write.specs.Request.{record_at}
 use Rattle.write.specs.Inside.{item_of}
 use Rattle.write.proofs.Items.{record_within}
 use Rattle.write.proofs.Turns.{took_one}
-use borrow.Author.Rules.{rules}
 use Rattle.write.proofs.pass.record_turn.Goals as goal
 
 pub returns-in_default : goal.returns-in_default

@@ -6,7 +6,6 @@ use lib.ListN.{get_or, take, drop}
 use Rattle.types.specs.declared.extent.Extent.TheVariants.{End}
 use Rattle.frame.specs.Walk.{item}
 use Rattle.write.proofs.Items.{record_short, record_is, valued_none}
-use borrow.Author.Rules.{rules}
 use borrow.Enum.Refused.{opened}
 use Rattle.write.proofs.record.next_record.Goals as goal
 

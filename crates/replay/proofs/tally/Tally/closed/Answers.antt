@@ -1,6 +1,5 @@
 -- The one field. Assumes nothing.
 use Rattle.replay.specs.Tally.{closed}
-use borrow.Author.Rules.{rules}
 use Rattle.replay.proofs.tally.Tally.closed.Goals as goal
 
 pub returns : goal.returns

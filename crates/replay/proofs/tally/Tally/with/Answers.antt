@@ -2,15 +2,14 @@
 use Prim.Native.Nat.{◌+◌}
 use native.Mathlib.Omega.{arith}
 use Rattle.replay.specs.Tally.{row_of, counted}
-use borrow.Author.Rules.{rules}
 use Rattle.replay.proofs.tally.Tally.with.Goals as goal
 
 pub raised-of-requires : goal.raised-of-requires
-raised-of-requires c = let h = c.requires.at_most_2 (row_of c.args.letter) in omega (arith, h, c.requires.lines_bound)
+raised-of-requires c = let h = c.requires.of_bound (row_of c.args.letter) in omega (arith, h, c.requires.lines_bound)
 
 pub raised_if-agree-requires : goal.raised_if-agree-requires
 raised_if-agree-requires c =
-    let h = c.requires.at_most (row_of c.args.letter) in omega (arith, h, c.requires.lines_bound)
+    let h = c.requires.agree_bound (row_of c.args.letter) in omega (arith, h, c.requires.lines_bound)
 
 pub returns : goal.returns
 unfolding counted

@@ -3,7 +3,6 @@ use mir.Syntax.{w64}
 use mir.Val.{SFits}
 use mir.Facts.{to_z-of_z}
 use borrow.Author.Tests.{eq-eqb, ne_eqb}
-use borrow.Author.Rules.{rules}
 use Rattle.reporting.proofs.Due.{due_code}
 use Rattle.reporting.proofs.entry.Entry.due.Goals as goal
 

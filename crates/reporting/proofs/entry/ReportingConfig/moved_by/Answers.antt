@@ -1,6 +1,5 @@
 -- `reporting::entry::ReportingConfig::moved_by` meets its contract. Assumes nothing.
 use mir.Facts.{to_z-of_z}
-use borrow.Author.Rules.{rules}
 use Rattle.reporting.proofs.Due.{moved_code}
 use Rattle.reporting.proofs.entry.ReportingConfig.moved_by.Goals as goal
 

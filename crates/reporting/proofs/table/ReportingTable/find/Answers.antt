@@ -1,11 +1,7 @@
 -- `reporting::table::ReportingTable::find` meets its contract. The loop's invariant: the scan has passed i entries, none of them
-use mathlib.Core.Path.{◌≡◌, sym, ◌∙◌}
-use Prim.Native.Nat.{◌+◌, ◌-◌, ◌≤◌}
+use mathlib.Core.Path.{sym, ◌∙◌}
 use native.Mathlib.Omega.{arith}
-use lib.ListN.{drop}
 use borrow.Author.Rules.{rules}
-use Rattle.reporting.specs.Entries.{find_l}
-use Rattle.reporting.specs.Table.{live}
 use Rattle.reporting.proofs.Slots.{length_mapped, scan_end, scan_hit, scan_miss}
 use Rattle.reporting.proofs.table.ReportingTable.find.Goals as goal
 
@@ -13,11 +9,10 @@ pub loop-i-init : goal.loop-i-init
 loop-i-init c = (omega arith, omega arith)
 
 pub loop-i-preserved : goal.loop-i-preserved
-loop-i-preserved c =
-    (
-      search rules,
-      scan_miss c.args.self (search (length_mapped, rules)) c.requires _ c.loop-i.i _ c.if-n-i.false (sym c.is_of.ensures ∙ c.if-is_of.false) c.loop-i.invariant.1,
-    )
+loop-i-preserved c = (
+  search rules,
+  scan_miss c.args.self (search (length_mapped, rules)) c.requires _ c.loop-i.i _ c.if-n-i.false (sym c.is_of.ensures ∙ c.if-is_of.false) c.loop-i.invariant.1,
+)
 
 pub returns-then-n-i : goal.returns-then-n-i
 returns-then-n-i c =

@@ -1,12 +1,9 @@
 -- `reporting::table::ReportingTable::find` meets its contract. The loop's invariant: the scan has passed i entries, none of them
-use mathlib.Core.Path.{◌≡◌, sym, ◌∙◌}
+use mathlib.Core.Path.{◌≡◌}
 use Prim.Native.Nat.{◌+◌, ◌-◌, ◌≤◌}
-use native.Mathlib.Omega.{arith}
 use lib.ListN.{drop}
-use borrow.Author.Rules.{rules}
 use Rattle.reporting.specs.Entries.{find_l}
 use Rattle.reporting.specs.Table.{live}
-use Rattle.reporting.proofs.Slots.{length_mapped, scan_end, scan_hit, scan_miss}
 use Rattle.reporting.proofs.table.ReportingTable.find.Given as goal
 
 abbrev pub invariant-loop-i : goal.invariant-loop-i

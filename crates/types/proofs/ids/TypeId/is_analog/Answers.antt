@@ -2,7 +2,6 @@
 use mathlib.Core.Path.{◌≡◌, refl, sym, ◌∙◌}
 use mathlib.Core.Bool.{Bool, true, false, ◌||◌}
 use Rattle.types.specs.Ids.{is_analog, is_signed, is_float}
-use borrow.Author.Rules.{rules}
 use Rattle.types.proofs.ids.TypeId.is_analog.Goals as goal
 
 module _ (x y z w : Bool) where

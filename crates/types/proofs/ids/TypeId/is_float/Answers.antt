@@ -1,6 +1,5 @@
 -- The definition is that run of codes. Assumes nothing.
 use Rattle.types.specs.Ids.{is_float}
-use borrow.Author.Rules.{rules}
 use Rattle.types.proofs.ids.TypeId.is_float.Goals as goal
 
 pub returns : goal.returns
