@@ -3,13 +3,13 @@
 
 # Proves what the bench program stands on, builds it and runs it on document 01's frame 1 over store T.
 run:
-	rt check bench
-	.ci/x86-64 target/bin/bench < crates/bench/stdin && echo
+	.ci/program bench
+	.ci/x86-64 crates/bench/out/bench < crates/bench/stdin && echo
 
 # The same of the replay program: how many recorded answers ours agree with.
 replay:
-	rt check replay
-	.ci/x86-64 target/bin/replay < crates/replay/stdin
+	.ci/program replay
+	.ci/x86-64 crates/replay/out/replay < crates/replay/stdin
 
 # The archive and the header for C programs, in target/lib.
 lib:

@@ -1,13 +1,13 @@
 //! Names the proved archive to the program, where there is one, and links it in
 //! where the program is for x86-64; `cfg(archive)` says so. `HINGEDRIFT_LIB`
 //! names its folder; where it is not set, it is the repository's target/lib or
-//! target/staticlib.
+//! crates/hingedrift/out.
 
 use std::path::{Path, PathBuf};
 use std::process::Command;
 
 const NAME: &str = "libhingedrift.a";
-const FOLDERS: [&str; 2] = ["../../target/lib", "../../target/staticlib"];
+const FOLDERS: [&str; 2] = ["../../target/lib", "../../crates/hingedrift/out"];
 
 fn main() {
     println!("cargo::rerun-if-changed=build.rs");

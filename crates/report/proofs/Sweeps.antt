@@ -1,5 +1,5 @@
 -- The turn as a loop does it is the turn. Assumes nothing.
--- What is left to write does not depend on what was marked: no id comes twice (`due-still`).
+-- What is left to write does not depend on what was marked: no id comes twice (`due_still`).
 use mathlib.Core.Path.{◌≡◌, refl, sym, ap, ◌∙◌}
 use mathlib.Core.Bool.{Bool, true, false, not, cond, ◌&&◌, ◌||◌, true≢false, false≢true}
 use mathlib.Core.List.{List, [], ◌∷◌, ◌++◌, append-nil, append_assoc}

@@ -15,7 +15,7 @@ use mir.Facts.{to_z-of_z, to_z_pos, to_z-neg}
 use Rattle.types.specs.Number.{signed_of}
 use Rattle.types.proofs.Numbers.{pow_half, signed_low, signed_high}
 
--- a signed answer of a call, handed on: `came-back _ c.F.ok`
+-- a signed answer of a call, handed on: `came_back _ c.F.type_inv`
 pub came_back : (z : ℤ) → mag z < 2 ^ 63 → to_z w64 (of_z w64 z) ≡ z
 came_back z h = to_z-of_z {w = w64} (record { sfits = h })
 
