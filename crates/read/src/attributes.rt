@@ -4,7 +4,7 @@ ghost use Rattle.frame.specs.Status.{status_code};
 ghost use Rattle.frame.specs.Answer.{seen, no_state};
 ghost use Rattle.frame.specs.Inside.Buffer.{putting, put};
 ghost use Rattle.frame.specs.Inside.Shortened.{Turned, Walked};
-ghost use Rattle.read.specs.Read.{id_at, value as valueRecord, failure, encode, record_for, read_of};
+ghost use Rattle.read.specs.Read.{id_at, value as value_record, failure, encode, record_for, read_of};
 ghost use Rattle.read.specs.Inside.{item_of};
 
 use frame::answer::{Answer, Refusal, refuse};
@@ -48,7 +48,7 @@ fn put_failure(reply: &mut [u8], out: usize, id: AttributeId, why: Status) -> Pu
 
 // Puts id, 00, type and value, if all of them fit.
 fn put_value(reply: &mut [u8], out: usize, id: AttributeId, code: u8, value: &[u8]) -> Put
-    ensures { putting result reply.new ≡ put reply.old out (encode (valueRecord id.0 code value.now)) }
+    ensures { putting result reply.new ≡ put reply.old out (encode (value_record id.0 code value.now)) }
 {
     let n = id.0;
     let four = [(n % 256) as u8, (n / 256 % 256) as u8, 0x00, code];

@@ -22,7 +22,7 @@ use Rattle.store.specs.Value.{used_of, value_of}
 use Rattle.read.specs.Read.{id_at, encode, record_by, record_for, read_of}
 use Rattle.server.specs.Serve.{commanded, typed, by_header, tabled, serve}
 use Rattle.server.specs.Claims.Bench.{T, bench_answer}
-use Rattle.report.specs.Report.{encode as encodeReport, report_from, report_reply, report_of}
+use Rattle.report.specs.Report.{encode as encode_report, report_from, report_reply, report_of}
 use Rattle.readers.specs.declared.value.ValueIn.{ValueIn}
 use Rattle.readers.specs.Reading.{Read, read, unreadable, kth, body_of, spans_in, spans_from}
 use Rattle.readers.specs.Layout.{valued, length_of}
@@ -55,5 +55,5 @@ report = out_of (report_of 8 (T 0x07) 0x2e (0 ∷ 5 ∷ []) 64)
 
 report_worked : (came_with (kth 0 (report_frame_held report)) ≡ value_at_place 0x23 6 4 (pos 2147483648))
     × (came_with (kth 1 (report_frame_held report)) ≡ value_at_place 0x29 13 2 (negsuc 199))
-unfolding all_zero le bytes_of unsigned_at signed_of signed_at size_of shape_of is_signed number_at upto count by_shape value_at frame_type_of header_of reply_head padded walk encode_all fits attribute_at attributes_from attributes_of find_in find_of each ascending room_ok is_text length_ok follow_on end_from unused_ok is_store used_of value_of encodeReport report_from report_reply report_of body_of spans_in spans_from valued length_of spans_of reported_record value_in report_frame_held
+unfolding all_zero le bytes_of unsigned_at signed_of signed_at size_of shape_of is_signed number_at upto count by_shape value_at frame_type_of header_of reply_head padded walk encode_all fits attribute_at attributes_from attributes_of find_in find_of each ascending room_ok is_text length_ok follow_on end_from unused_ok is_store used_of value_of encode_report report_from report_reply report_of body_of spans_in spans_from valued length_of spans_of reported_record value_in report_frame_held
 report_worked = (refl, refl)

@@ -1,6 +1,6 @@
 // Bytes compared, and what stands behind a place. Each function answers for every place.
 ghost use Rattle.std.specs.Prelude.{◌≡◌, length, drop};
-ghost use Rattle.replay.specs.Bytes.{same as sameBytes};
+ghost use Rattle.replay.specs.Bytes.{same as same_bytes};
 ghost use Rattle.replay.specs.Inside.{matched};
 
 use frame::reply::Put;
@@ -46,7 +46,7 @@ pub(crate) fn match_run(s: &[u8], at: usize, bytes: &[u8]) -> Put
 
 // Whether a and b are the same bytes.
 pub(crate) fn same(a: &[u8], b: &[u8]) -> bool
-    ensures { result ≡ sameBytes a.now b.now }
+    ensures { result ≡ same_bytes a.now b.now }
 {
     let Put::At(end) = match_run(b, 0, a) else {
         return false;

@@ -1,7 +1,7 @@
 // What ours says to a whole frame, with every room from none to a last one, held to what was recorded.
 ghost use Rattle.std.specs.Prelude.{◌≡◌, ◌≤◌, length};
 ghost use Rattle.frame.specs.Answer.{seen};
-ghost use Rattle.replay.specs.Bytes.{same as sameBytes};
+ghost use Rattle.replay.specs.Bytes.{same as same_bytes};
 ghost use Rattle.replay.specs.Ours.{agreement};
 ghost use Rattle.replay.specs.Commands.{asked_by, asked_of, outcome_of, store_says, answer_says, answer_with, answers, of_command};
 ghost use Rattle.replay.specs.Inside.{again, Turned, matched};
@@ -214,7 +214,7 @@ fn rooms(
     requires copy_len { length copy.old ≡ length store.now }
     requires last_bound { last ≤ 63 }
     requires reply_len { length reply.old ≡ 64 }
-    ensures { result ≡ sameBytes (answers (answer_with command request body.now store.now) last) held.now }
+    ensures { result ≡ same_bytes (answers (answer_with command request body.now store.now) last) held.now }
 {
     let mut place = Place {
         from: 0,

@@ -2,10 +2,10 @@
 ghost use Rattle.std.specs.Prelude.{◌≡◌, [], ◌∷◌, ◌/◌, length, take};
 ghost use Rattle.reporting.specs.Carried.{table_length};
 ghost use Rattle.reporting.specs.Table.{table_of, holding, handed_back, zero_config, change_told, report_told, setting_told, length_told};
-ghost use Rattle.replay.specs.Bytes.{same as sameBytes};
+ghost use Rattle.replay.specs.Bytes.{same as same_bytes};
 ghost use Rattle.replay.specs.Ours.{agreement};
 ghost use Rattle.replay.specs.Methods.{key_in, config_in, time_in, change_says, report_says, length_says, config_says, setting_says};
-ghost use Rattle.replay.specs.Methods.{changing, called, table_says, history as historyOf, calls_in, are_calls, of_history};
+ghost use Rattle.replay.specs.Methods.{changing, called, table_says, history as history_of, calls_in, are_calls, of_history};
 ghost use Rattle.replay.specs.Inside.{matched, given, found as found_at};
 
 use super::bytes::{match_run, rest, same};
@@ -185,7 +185,7 @@ pub(crate) fn lay(bytes: &mut [u8], table: ReportingTable) -> usize
 }
 
 fn is_left(table: ReportingTable, held: &[u8]) -> bool
-    ensures { result ≡ sameBytes (table_says (table_of table)) held.now }
+    ensures { result ≡ same_bytes (table_says (table_of table)) held.now }
 {
     let mut bytes = [0u8; TABLE_BYTES];
     let n = lay(&mut bytes, table);
@@ -210,7 +210,7 @@ fn are_calls(input: &[u8]) -> bool
 
 // The calls from an empty table on, each answer behind the one before it, and the table at the end.
 fn history(input: &[u8], held: &[u8]) -> bool
-    ensures { result ≡ sameBytes (historyOf (calls_in (length input.now / 17) input.now) (holding [])) held.now }
+    ensures { result ≡ same_bytes (history_of (calls_in (length input.now / 17) input.now) (holding [])) held.now }
 {
     let n = input.len() / CALL;
     let mut table = ReportingTable::new();

@@ -1,6 +1,6 @@
 // How many lines of each kind agree, over a whole list.
 ghost use Rattle.std.specs.Prelude.{◌≡◌, cond, ◌&&◌, ◌||◌, not, ◌<◌, ltb, eqb, get_or};
-ghost use Rattle.replay.specs.Tally.{row_of, raise, start, counted, nothing, closed as closedBy, tally_of};
+ghost use Rattle.replay.specs.Tally.{row_of, raise, start, counted, nothing, closed as closed_by, tally_of};
 ghost use Rattle.replay.specs.Line.{split, newline};
 ghost use Rattle.replay.specs.Inside.{AtMost};
 
@@ -111,7 +111,7 @@ impl Tally {
 
     // The last line says how many stood before it, and this stands after it.
     fn closed(mut self, count: u64, after: &[u8]) -> Tally
-        ensures { result ≡ closedBy self count (split newline after.now) }
+        ensures { result ≡ closed_by self count (split newline after.now) }
     {
         self.whole = is_whole(self.lines, count, after);
         self

@@ -2,7 +2,7 @@
 ghost use Rattle.std.specs.Prelude.{◌≡◌, ◌≤◌, length};
 ghost use Rattle.replay.specs.Line.{split, space};
 ghost use Rattle.replay.specs.Ours.{agreement};
-ghost use Rattle.replay.specs.Verdict.{ours, recorded as recordedBy, case_of, listed as listedBy, difference_of, last_of, by_letter, judged};
+ghost use Rattle.replay.specs.Verdict.{ours, recorded as recorded_by, case_of, listed as listed_by, difference_of, last_of, by_letter, judged};
 
 use super::bytes::{blank, rest, same};
 use super::cases::{Agreement, of_extent, of_header, of_type};
@@ -48,7 +48,7 @@ fn held_to_ours(letter: u8, input: &[u8], held: &[u8]) -> Agreement
 
 // Whether the second field is what ours says to the first.
 fn recorded(letter: u8, first: &[u8], second: &[u8]) -> Verdict
-    ensures { result ≡ recordedBy letter first.now second.now }
+    ensures { result ≡ recorded_by letter first.now second.now }
 {
     let mut input = blank();
     let Put::At(n) = decode(first, &mut input) else {
@@ -83,7 +83,7 @@ fn case(letter: u8, fields: &[u8]) -> Verdict
 // Whether the second field is what ours says to the first, and the third, the other program's answer, is another: where
 // it is the same there is no difference to list.
 fn listed(letter: u8, first: &[u8], second: &[u8], third: &[u8]) -> Verdict
-    ensures { result ≡ listedBy letter first.now second.now third.now }
+    ensures { result ≡ listed_by letter first.now second.now third.now }
 {
     let mut held = blank();
     let Put::At(n) = decode(second, &mut held) else {

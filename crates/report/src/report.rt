@@ -2,7 +2,7 @@
 ghost use Rattle.std.specs.Prelude.{◌≡◌, length};
 ghost use Rattle.frame.specs.Answer.{seen, no_state};
 ghost use Rattle.frame.specs.Inside.Buffer.{putting, put};
-ghost use Rattle.report.specs.Report.{encode, report_record, unasked as unaskedHeader, report_of};
+ghost use Rattle.report.specs.Report.{encode, report_record, unasked as unasked_header, report_of};
 ghost use Rattle.report.specs.Inside.Report.{Reports, ReportsAll};
 
 use frame::answer::{Answer, Refusal, refuse};
@@ -67,7 +67,7 @@ fn report_records(store: &[u8], ids: &[u16], frame: &mut [u8], from: usize) -> A
 
 // A report answers no request: its header is as that of a reply to this sequence number.
 pub(crate) fn unasked(sequence: u8) -> ZclHeader
-    ensures { result ≡ unaskedHeader sequence }
+    ensures { result ≡ unasked_header sequence }
 {
     ZclHeader {
         frame_control: FrameControl(0),

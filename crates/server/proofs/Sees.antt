@@ -26,7 +26,7 @@ use Rattle.write.specs.Write.{written, checked, written_all, write_attributes, w
 use Rattle.discover.specs.Discover.{discover_of}
 use Rattle.configure.specs.Request.{ConfigureRecord, received, reported, configures}
 use Rattle.configure.specs.Configure.{failing, encode as failed, tried, configure_entries, configure_of}
-use Rattle.configure.specs.Configuration.{record_for as settingFor, configuration_of}
+use Rattle.configure.specs.Configuration.{record_for as setting_for, configuration_of}
 use Rattle.server.specs.DefaultResponse.{silences, default_reply, default_response}
 use Rattle.server.specs.Serve.{neither, storing, tabling, unsupported, commanded, typed}
 use Rattle.server.proofs.Cases.{commanded_case}
@@ -60,7 +60,7 @@ module _ (form : ℕ) (s : List ℕ) (h : ZclHeader) (body : List ℕ) (room : �
   configure_sees limit (bad t) = refl
 
   configuration_sees : (t : Table) → configuration_of form s t h body room ≡ configuration_of form s t (bare h) body room
-  unfolding configuration_of settingFor reply_head
+  unfolding configuration_of setting_for reply_head
   configuration_sees (holding l) = refl
   configuration_sees (bad t) = refl
 

@@ -1,7 +1,7 @@
 // Identifiers, and the type table (ZCL 2.6.2): after types/ids.rs.
 ghost use Rattle.std.specs.Prelude.{◌≡◌};
 ghost use Rattle.types.specs.Ids.{counted_width, size_of, shape_of, is_analog, is_reportable, is_signed, is_float};
-ghost use Rattle.types.specs.Ids.{among as codesAmong};
+ghost use Rattle.types.specs.Ids.{among as codes_among};
 
 // Three kinds of numbers that no call can take for one another.
 #[derive(Clone, Copy)]
@@ -37,7 +37,7 @@ pub enum Shape {
 
 // A code from `first` to `last`.
 fn among(first: u8, last: u8, code: u8) -> bool
-    ensures { result ≡ codesAmong first last code }
+    ensures { result ≡ codes_among first last code }
 {
     first <= code && code <= last
 }

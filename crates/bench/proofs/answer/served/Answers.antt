@@ -15,13 +15,13 @@ returns-then-n-gt4096 c =
 
 pub slice_bounds-handle_request-end : goal.slice_bounds-handle_request-end
 slice_bounds-handle_request-end c =
-    let store-copied : take (length ((c.args.store.now))) c.put_run.new.buffer ≡ (c.args.store.now) = copied _ _ _ _ (omega arith) c.put_run.ensures in
-    sym (ap length store-copied)
+    let store_copied : take (length ((c.args.store.now))) c.put_run.new.buffer ≡ (c.args.store.now) = copied _ _ _ _ (omega arith) c.put_run.ensures in
+    sym (ap length store_copied)
 
 pub returns : goal.returns
 returns c =
-    let store-copied : take (length ((c.args.store.now))) c.put_run.new.buffer ≡ (c.args.store.now) = copied _ _ _ _ (omega arith) c.put_run.ensures in
+    let store_copied : take (length ((c.args.store.now))) c.put_run.new.buffer ≡ (c.args.store.now) = copied _ _ _ _ (omega arith) c.put_run.ensures in
     let a = c.args in
     c.put_answer.ensures
     ∙ said_served a.store.now c.put_run.new.buffer a.request.now _ c.new.result _ c.handle_request-after.result.answer _
-    store-copied c.new.ensures c.cluster_of.ensures c.handle_request-after.ensures
+    store_copied c.new.ensures c.cluster_of.ensures c.handle_request-after.ensures

@@ -23,9 +23,9 @@ bounds-out-1 c = simp length-set (omega arith)
 
 pub put_hex-requires : goal.put_hex-requires
 put_hex-requires c =
-    let reply-is : c.part.result.now ≡ take (answer_length c.args.answer) c.args.reply.now = c.part.ensures ∙ ap (λ (n : ℕ). take n c.args.reply.now) c.reply_len.ensures in
+    let reply_is : c.part.result.now ≡ take (answer_length c.args.answer) c.args.reply.now = c.part.ensures ∙ ap (λ (n : ℕ). take n c.args.reply.now) c.reply_len.ensures in
     let a = c.args in
-    let k = no_longer c.part.result.now a.reply.now (answer_length a.answer) reply-is in
+    let k = no_longer c.part.result.now a.reply.now (answer_length a.answer) reply_is in
     simp length-set (omega (arith, k))
 
 pub shape_of-out : goal.shape_of-out
@@ -33,8 +33,8 @@ shape_of-out c = c.put_hex.auto.out ∙ simp length-set refl
 
 pub returns : goal.returns
 returns c =
-    let reply-is : c.part.result.now ≡ take (answer_length c.args.answer) c.args.reply.now = c.part.ensures ∙ ap (λ (n : ℕ). take n c.args.reply.now) c.reply_len.ensures in
+    let reply_is : c.part.result.now ≡ take (answer_length c.args.answer) c.args.reply.now = c.part.ensures ∙ ap (λ (n : ℕ). take n c.args.reply.now) c.reply_len.ensures in
     let a = c.args in
     c.put_hex.ensures
-    ∙ (λ i. two_laid a.out.now 0 48 32 (omega arith) i ++ hex (reply-is i))
+    ∙ (λ i. two_laid a.out.now 0 48 32 (omega arith) i ++ hex (reply_is i))
     ∙ sym (said_reply a.answer a.reply.now (sym c.number-number.ensures ∙ c.if-number-ne0.false))

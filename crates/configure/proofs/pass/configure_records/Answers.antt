@@ -16,8 +16,8 @@ loop-at-init c =
 
 pub shape_of-table-in_default : goal.shape_of-table-in_default
 shape_of-table-in_default c =
-    let size-kept : length c.loop-at.table ≡ length c.args.table.now = known_size c.loop-at.table c.loop-at.invariant.table ∙ sym (known_size c.args.table.now c.requires) in
-    size-kept
+    let size_kept : length c.loop-at.table ≡ length c.args.table.now = known_size c.loop-at.table c.loop-at.invariant.table ∙ sym (known_size c.args.table.now c.requires) in
+    size_kept
 
 pub shape_of-reply-in_default : goal.shape_of-reply-in_default
 shape_of-reply-in_default c = c.loop-at.invariant.going.reply_length
@@ -32,8 +32,8 @@ done-status-requires c = c.loop-at.invariant.table
 
 pub shape_of-table-in_default-note : goal.shape_of-table-in_default-note
 shape_of-table-in_default-note c =
-    let size-kept : length c.loop-at.table ≡ length c.args.table.now = known_size c.loop-at.table c.loop-at.invariant.table ∙ sym (known_size c.args.table.now c.requires) in
-    c.done-status.auto.table ∙ size-kept
+    let size_kept : length c.loop-at.table ≡ length c.args.table.now = known_size c.loop-at.table c.loop-at.invariant.table ∙ sym (known_size c.args.table.now c.requires) in
+    c.done-status.auto.table ∙ size_kept
 
 pub shape_of-reply-in_default-note : goal.shape_of-reply-in_default-note
 shape_of-reply-in_default-note c = c.note.auto.reply ∙ c.loop-at.invariant.going.reply_length
@@ -63,8 +63,8 @@ loop-at-preserved c =
 
 pub shape_of-table : goal.shape_of-table
 shape_of-table c =
-    let size-kept : length c.loop-at.table ≡ length c.args.table.now = known_size c.loop-at.table c.loop-at.invariant.table ∙ sym (known_size c.args.table.now c.requires) in
-    size-kept
+    let size_kept : length c.loop-at.table ≡ length c.args.table.now = known_size c.loop-at.table c.loop-at.invariant.table ∙ sym (known_size c.args.table.now c.requires) in
+    size_kept
 
 pub shape_of-reply : goal.shape_of-reply
 shape_of-reply c = c.loop-at.invariant.going.reply_length

@@ -24,19 +24,19 @@ shape_of-reply-in_default-read_turn c = c.read_turn.auto.reply ∙ c.loop-at.inv
 
 pub returns-in_default-read_turn : goal.returns-in_default-read_turn
 returns-in_default-read_turn c =
-    let read-id : item c.in-Id.id.0 c.in-Id.next ≡ id_at c.args.body.now c.loop-at.at = ap item_of (sym c.in-Id.is) ∙ c.next_id.ensures in
-    λ head w. going_stop _ _ _ _ _ _ _ _ _ (c.loop-at.invariant.1 head w) c.loop-at.invariant.0 (id_ahead _) c.loop-at-test.true _ _ read-id _ _ c.read_turn.ensures c.in_default-read_turn.is
+    let read_id : item c.in-Id.id.0 c.in-Id.next ≡ id_at c.args.body.now c.loop-at.at = ap item_of (sym c.in-Id.is) ∙ c.next_id.ensures in
+    λ head w. going_stop _ _ _ _ _ _ _ _ _ (c.loop-at.invariant.1 head w) c.loop-at.invariant.0 (id_ahead _) c.loop-at-test.true _ _ read_id _ _ c.read_turn.ensures c.in_default-read_turn.is
 
 pub loop-at-smaller : goal.loop-at-smaller
 loop-at-smaller c =
-    let read-id : item c.in-Id.id.0 c.in-Id.next ≡ id_at c.args.body.now c.loop-at.at = ap item_of (sym c.in-Id.is) ∙ c.next_id.ensures in
-    let h = id_ahead c.args.body.now c.loop-at.at c.in-Id.id.0 c.in-Id.next (sym read-id) in
+    let read_id : item c.in-Id.id.0 c.in-Id.next ≡ id_at c.args.body.now c.loop-at.at = ap item_of (sym c.in-Id.is) ∙ c.next_id.ensures in
+    let h = id_ahead c.args.body.now c.loop-at.at c.in-Id.id.0 c.in-Id.next (sym read_id) in
     omega (arith, c.loop-at-test.true, h)
 
 pub loop-at-preserved : goal.loop-at-preserved
 loop-at-preserved c =
-    let read-id : item c.in-Id.id.0 c.in-Id.next ≡ id_at c.args.body.now c.loop-at.at = ap item_of (sym c.in-Id.is) ∙ c.next_id.ensures in
-    (c.read_turn.auto.reply ∙ c.loop-at.invariant.0, λ head w. going_more _ _ _ _ _ _ _ _ _ (c.loop-at.invariant.1 head w) c.loop-at.invariant.0 (id_ahead _) c.loop-at-test.true _ _ read-id _ _ c.read_turn.ensures _ c.in-At.is)
+    let read_id : item c.in-Id.id.0 c.in-Id.next ≡ id_at c.args.body.now c.loop-at.at = ap item_of (sym c.in-Id.is) ∙ c.next_id.ensures in
+    (c.read_turn.auto.reply ∙ c.loop-at.invariant.0, λ head w. going_more _ _ _ _ _ _ _ _ _ (c.loop-at.invariant.1 head w) c.loop-at.invariant.0 (id_ahead _) c.loop-at-test.true _ _ read_id _ _ c.read_turn.ensures _ c.in-At.is)
 
 pub shape_of-reply : goal.shape_of-reply
 shape_of-reply c = c.loop-at.invariant.0

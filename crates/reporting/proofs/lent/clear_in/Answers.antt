@@ -19,9 +19,9 @@ find_slot-at-requires c = c.requires
 
 pub returns-then-n-at : goal.returns-then-n-at
 returns-then-n-at c =
-    let all-bytes : AllBytes c.args.bytes.now = λ i. (c.slice_known-1.given i).fits in
+    let all_bytes : AllBytes c.args.bytes.now = λ i. (c.slice_known-1.given i).fits in
     let found : FoundSlot c.args.bytes.now c.args.key c.find_slot-at.result = record { known = c.requires; place = c.find_slot-at.ensures } in
-    clear_seen c.args.bytes.now all-bytes c.requires c.args.key _ (clear_absent found all-bytes c.if-n-at.true)
+    clear_seen c.args.bytes.now all_bytes c.requires c.args.key _ (clear_absent found all_bytes c.if-n-at.true)
 
 pub overflow_mul-last : goal.overflow_mul-last
 overflow_mul-last c = omega (arith, known_count c.args.bytes.now c.requires)
@@ -49,29 +49,29 @@ overflow_add-last-2 c = omega (arith, known_count c.args.bytes.now c.requires)
 
 pub blank_slot-requires : goal.blank_slot-requires
 blank_slot-requires c =
-    let size-filled : length c.write_slot.new.bytes ≡ length c.args.bytes.now = c.write_slot.auto.bytes in
-    omega (arith, known_count c.args.bytes.now c.requires, known_size c.args.bytes.now c.requires, c.if-n-at.false, size-filled)
+    let size_filled : length c.write_slot.new.bytes ≡ length c.args.bytes.now = c.write_slot.auto.bytes in
+    omega (arith, known_count c.args.bytes.now c.requires, known_size c.args.bytes.now c.requires, c.if-n-at.false, size_filled)
 
 pub overflow_cast-bytes : goal.overflow_cast-bytes
 overflow_cast-bytes c = omega (arith, known_count c.args.bytes.now c.requires)
 
 pub bounds-bytes-0-2 : goal.bounds-bytes-0-2
 bounds-bytes-0-2 c =
-    let size-filled : length c.write_slot.new.bytes ≡ length c.args.bytes.now = c.write_slot.auto.bytes in
-    let size-after : length c.blank_slot.new.bytes ≡ length c.args.bytes.now = c.blank_slot.auto.bytes ∙ size-filled in
-    omega (arith, size-after, known_size c.args.bytes.now c.requires)
+    let size_filled : length c.write_slot.new.bytes ≡ length c.args.bytes.now = c.write_slot.auto.bytes in
+    let size_after : length c.blank_slot.new.bytes ≡ length c.args.bytes.now = c.blank_slot.auto.bytes ∙ size_filled in
+    omega (arith, size_after, known_size c.args.bytes.now c.requires)
 
 pub shape_of-bytes : goal.shape_of-bytes
 shape_of-bytes c =
-    let size-filled : length c.write_slot.new.bytes ≡ length c.args.bytes.now = c.write_slot.auto.bytes in
-    let size-after : length c.blank_slot.new.bytes ≡ length c.args.bytes.now = c.blank_slot.auto.bytes ∙ size-filled in
-    length-set c.blank_slot.new.bytes 0 _ ∙ size-after
+    let size_filled : length c.write_slot.new.bytes ≡ length c.args.bytes.now = c.write_slot.auto.bytes in
+    let size_after : length c.blank_slot.new.bytes ≡ length c.args.bytes.now = c.blank_slot.auto.bytes ∙ size_filled in
+    length-set c.blank_slot.new.bytes 0 _ ∙ size_after
 
 pub returns : goal.returns
 returns c =
-    let all-bytes : AllBytes c.args.bytes.now = λ i. (c.slice_known-1.given i).fits in
+    let all_bytes : AllBytes c.args.bytes.now = λ i. (c.slice_known-1.given i).fits in
     let found : FoundSlot c.args.bytes.now c.args.key c.find_slot-at.result = record { known = c.requires; place = c.find_slot-at.ensures } in
     let bs = c.args.bytes.now in
-    clear_seen bs all-bytes c.requires c.args.key _
-    (clear_moved found all-bytes (get_or bs 0 0 - 1) c.read_slot-e.result c.write_slot.new.bytes c.blank_slot.new.bytes
+    clear_seen bs all_bytes c.requires c.args.key _
+    (clear_moved found all_bytes (get_or bs 0 0 - 1) c.read_slot-e.result c.write_slot.new.bytes c.blank_slot.new.bytes
     c.if-n-at.false (omega (arith, c.if-n-at.false)) c.read_slot-e.ensures c.write_slot.ensures.bytes_after c.blank_slot.ensures)

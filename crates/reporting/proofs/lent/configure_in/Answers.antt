@@ -21,10 +21,10 @@ find_slot-at-requires c = c.requires
 
 pub returns-then-at-ge-LIMIT : goal.returns-then-at-ge-LIMIT
 returns-then-at-ge-LIMIT c =
-    let all-bytes : AllBytes c.args.bytes.now = λ i. (c.slice_known-1.given i).fits in
+    let all_bytes : AllBytes c.args.bytes.now = λ i. (c.slice_known-1.given i).fits in
     let clean : Clean (fresh c.args.key c.args.config) = fresh_clean c.args.key c.args.config (omega arith) (omega arith) (omega arith) (omega arith) (omega arith) in
     let found : FoundSlot c.args.bytes.now c.args.key c.find_slot-at.result = record { known = c.requires; place = c.find_slot-at.ensures } in
-    configure_seen c.args.bytes.now all-bytes c.requires c.args.key c.args.config ChangeV.Full _ clean (configure_full found all-bytes _ c.if-at-ge-LIMIT.true)
+    configure_seen c.args.bytes.now all_bytes c.requires c.args.key c.args.config ChangeV.Full _ clean (configure_full found all_bytes _ c.if-at-ge-LIMIT.true)
 
 pub write_slot-requires : goal.write_slot-requires
 write_slot-requires c = omega (arith, c.if-at-ge-LIMIT.false, known_size c.args.bytes.now c.requires)
@@ -34,31 +34,31 @@ overflow_cast-bytes c = omega (arith, c.if-at-ge-LIMIT.false, c.if-n-at.true)
 
 pub bounds-bytes-0-then-n-at : goal.bounds-bytes-0-then-n-at
 bounds-bytes-0-then-n-at c =
-    let size-after : length c.write_slot.new.bytes ≡ length c.args.bytes.now = c.write_slot.auto.bytes in
-    omega (arith, size-after, known_size c.args.bytes.now c.requires)
+    let size_after : length c.write_slot.new.bytes ≡ length c.args.bytes.now = c.write_slot.auto.bytes in
+    omega (arith, size_after, known_size c.args.bytes.now c.requires)
 
 pub shape_of-bytes-then-n-at : goal.shape_of-bytes-then-n-at
 shape_of-bytes-then-n-at c =
-    let size-after : length c.write_slot.new.bytes ≡ length c.args.bytes.now = c.write_slot.auto.bytes in
-    length-set c.write_slot.new.bytes 0 _ ∙ size-after
+    let size_after : length c.write_slot.new.bytes ≡ length c.args.bytes.now = c.write_slot.auto.bytes in
+    length-set c.write_slot.new.bytes 0 _ ∙ size_after
 
 pub returns-then-n-at : goal.returns-then-n-at
 returns-then-n-at c =
-    let all-bytes : AllBytes c.args.bytes.now = λ i. (c.slice_known-1.given i).fits in
+    let all_bytes : AllBytes c.args.bytes.now = λ i. (c.slice_known-1.given i).fits in
     let clean : Clean (fresh c.args.key c.args.config) = fresh_clean c.args.key c.args.config (omega arith) (omega arith) (omega arith) (omega arith) (omega arith) in
     let found : FoundSlot c.args.bytes.now c.args.key c.find_slot-at.result = record { known = c.requires; place = c.find_slot-at.ensures } in
-    configure_seen c.args.bytes.now all-bytes c.requires c.args.key c.args.config ChangeV.Done _ clean
-    (configure_new found all-bytes _ _ c.fresh.result c.fresh.ensures c.if-n-at.true c.if-at-ge-LIMIT.false c.write_slot.ensures.bytes_after)
+    configure_seen c.args.bytes.now all_bytes c.requires c.args.key c.args.config ChangeV.Done _ clean
+    (configure_new found all_bytes _ _ c.fresh.result c.fresh.ensures c.if-n-at.true c.if-at-ge-LIMIT.false c.write_slot.ensures.bytes_after)
 
 pub shape_of-bytes-else-n-at : goal.shape_of-bytes-else-n-at
 shape_of-bytes-else-n-at c =
-    let size-after : length c.write_slot.new.bytes ≡ length c.args.bytes.now = c.write_slot.auto.bytes in
-    size-after
+    let size_after : length c.write_slot.new.bytes ≡ length c.args.bytes.now = c.write_slot.auto.bytes in
+    size_after
 
 pub returns-else-n-at : goal.returns-else-n-at
 returns-else-n-at c =
-    let all-bytes : AllBytes c.args.bytes.now = λ i. (c.slice_known-1.given i).fits in
+    let all_bytes : AllBytes c.args.bytes.now = λ i. (c.slice_known-1.given i).fits in
     let clean : Clean (fresh c.args.key c.args.config) = fresh_clean c.args.key c.args.config (omega arith) (omega arith) (omega arith) (omega arith) (omega arith) in
     let found : FoundSlot c.args.bytes.now c.args.key c.find_slot-at.result = record { known = c.requires; place = c.find_slot-at.ensures } in
-    configure_seen c.args.bytes.now all-bytes c.requires c.args.key c.args.config ChangeV.Done _ clean
-    (configure_old found all-bytes _ _ c.fresh.result c.fresh.ensures c.if-n-at.false c.write_slot.ensures.bytes_after)
+    configure_seen c.args.bytes.now all_bytes c.requires c.args.key c.args.config ChangeV.Done _ clean
+    (configure_old found all_bytes _ _ c.fresh.result c.fresh.ensures c.if-n-at.false c.write_slot.ensures.bytes_after)

@@ -19,9 +19,9 @@ find_slot-at-requires c = c.requires
 
 pub returns-then-n-at : goal.returns-then-n-at
 returns-then-n-at c =
-    let all-bytes : AllBytes c.args.bytes.now = λ i. (c.slice_known-1.given i).fits in
+    let all_bytes : AllBytes c.args.bytes.now = λ i. (c.slice_known-1.given i).fits in
     let found : FoundSlot c.args.bytes.now c.args.key c.find_slot-at.result = record { known = c.requires; place = c.find_slot-at.ensures } in
-    mark_seen c.args.bytes.now all-bytes c.requires c.args.key _ _ _ c.ranges.time.fits c.ranges.value.sfits (mark_absent found all-bytes _ _ c.if-n-at.true)
+    mark_seen c.args.bytes.now all_bytes c.requires c.args.key _ _ _ c.ranges.time.fits c.ranges.value.sfits (mark_absent found all_bytes _ _ c.if-n-at.true)
 
 pub overflow_mul-place : goal.overflow_mul-place
 overflow_mul-place c = omega (arith, known_count c.args.bytes.now c.requires)
@@ -37,9 +37,9 @@ write_slot-requires c = omega (arith, known_count c.args.bytes.now c.requires, k
 
 pub returns : goal.returns
 returns c =
-    let all-bytes : AllBytes c.args.bytes.now = λ i. (c.slice_known-1.given i).fits in
+    let all_bytes : AllBytes c.args.bytes.now = λ i. (c.slice_known-1.given i).fits in
     let found : FoundSlot c.args.bytes.now c.args.key c.find_slot-at.result = record { known = c.requires; place = c.find_slot-at.ensures } in
     let m = c.mark-marked in
-    mark_seen c.args.bytes.now all-bytes c.requires c.args.key _ _ _ c.ranges.time.fits c.ranges.value.sfits
-    (mark_is found all-bytes _ m.result c.args.time c.args.value _ (to_z-of_z c.ranges.value)
+    mark_seen c.args.bytes.now all_bytes c.requires c.args.key _ _ _ c.ranges.time.fits c.ranges.value.sfits
+    (mark_is found all_bytes _ m.result c.args.time c.args.value _ (to_z-of_z c.ranges.value)
     (m.ensures ∙ ap (mark_e c.args.time _) c.read_slot-e.ensures) c.if-n-at.false c.write_slot.ensures.bytes_after)

@@ -16,16 +16,16 @@ use borrow.Enum.Refused.{opened}
 use Rattle.server.proofs.serve.serve_frame.Goals as goal
 
 -- neither a global command nor a cluster command
-is-reserved : (k : FrameType) → OneOf (1 ∷ 2 ∷ []) (tag_of frame-type.the_type k) → OneOf (0 ∷ 2 ∷ []) (tag_of frame-type.the_type k) → k ≡ Reserved
-is-reserved GlobalCommand o u = absurd (miss (1 ∷ 2 ∷ []) 0 tt o)
-is-reserved ClusterCommand o u = absurd (miss (0 ∷ 2 ∷ []) 1 tt u)
-is-reserved Reserved o u = refl
+is_reserved : (k : FrameType) → OneOf (1 ∷ 2 ∷ []) (tag_of frame-type.the_type k) → OneOf (0 ∷ 2 ∷ []) (tag_of frame-type.the_type k) → k ≡ Reserved
+is_reserved GlobalCommand o u = absurd (miss (1 ∷ 2 ∷ []) 0 tt o)
+is_reserved ClusterCommand o u = absurd (miss (0 ∷ 2 ∷ []) 1 tt u)
+is_reserved Reserved o u = refl
 
 pub returns-in_default-kind : goal.returns-in_default-kind
 unfolding typed
 returns-in_default-kind c =
     let told : (k : FrameType) → c.frame_type-kind.result ≡ k → typed 8 capacity c.args.store.now (holding (table_in c.args.table.now)) c.args.unicast c.args.request c.args.body.now (length c.args.reply.now) k ≡ typed 8 capacity c.args.store.now (holding (table_in c.args.table.now)) c.args.unicast c.args.request c.args.body.now (length c.args.reply.now) (frame_type_of c.args.request.frame_control.0) = λ k e. ap (typed 8 capacity c.args.store.now (holding (table_in c.args.table.now)) c.args.unicast c.args.request c.args.body.now (length c.args.reply.now)) (sym e ∙ c.frame_type-kind.ensures) in
-    record { stays_table = c.requires; answered = ap (within (λ u. state c.args.store.now (holding (table_in c.args.table.now)))) c.refuse.ensures ∙ told _ (is-reserved _ (opened c.in_default.in_default-own.keys2) (opened c.in_default-kind.in_default-kind-own.keys2)) }
+    record { stays_table = c.requires; answered = ap (within (λ u. state c.args.store.now (holding (table_in c.args.table.now)))) c.refuse.ensures ∙ told _ (is_reserved _ (opened c.in_default.in_default-own.keys2) (opened c.in_default-kind.in_default-kind-own.keys2)) }
 
 pub returns-in_default : goal.returns-in_default
 unfolding typed

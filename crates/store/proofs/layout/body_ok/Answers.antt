@@ -22,13 +22,13 @@ use borrow.Enum.Refused.{opened}
 use Rattle.store.proofs.layout.body_ok.Goals as goal
 
 -- the other forms stand in no store
-other-room : (k : Shape) (room : ℕ) → OneOf (2 ∷ 3 ∷ 4 ∷ 5 ∷ []) (tag_of shape.the_type k) → room_by k room ≡ false
-other-room (Fixed w) room o = absurd (miss (2 ∷ 3 ∷ 4 ∷ 5 ∷ []) 0 tt o)
-other-room Text room o = absurd (miss (2 ∷ 3 ∷ 4 ∷ 5 ∷ []) 1 tt o)
-other-room LongText room o = refl
-other-room Series room o = refl
-other-room Structure room o = refl
-other-room Unknown room o = refl
+other_room : (k : Shape) (room : ℕ) → OneOf (2 ∷ 3 ∷ 4 ∷ 5 ∷ []) (tag_of shape.the_type k) → room_by k room ≡ false
+other_room (Fixed w) room o = absurd (miss (2 ∷ 3 ∷ 4 ∷ 5 ∷ []) 0 tt o)
+other_room Text room o = absurd (miss (2 ∷ 3 ∷ 4 ∷ 5 ∷ []) 1 tt o)
+other_room LongText room o = refl
+other_room Series room o = refl
+other_room Structure room o = refl
+other_room Unknown room o = refl
 
 -- a fixed size, and none of the forms that may stand in a store; a string in too large a room, one that is too long, and one that fits
 module _ (s : List ℕ) (a : Attribute) where
@@ -41,7 +41,7 @@ module _ (s : List ℕ) (a : Attribute) where
 
   other : (k : Shape) → shape_of a.type_id.0 ≡ k → OneOf (2 ∷ 3 ∷ 4 ∷ 5 ∷ []) (tag_of shape.the_type k) → false ≡ all_of tests
   unfolding room_ok
-  other k e o = falsy tests 0 (ap (λ f. room_by f a.room) e ∙ other-room k a.room o)
+  other k e o = falsy tests 0 (ap (λ f. room_by f a.room) e ∙ other_room k a.room o)
 
   module _ (e : shape_of a.type_id.0 ≡ Text) where
     large : 255 < a.room → false ≡ all_of tests
@@ -85,14 +85,14 @@ returns-else-w-le16 c =
 
 pub returns-else-room-gt255 : goal.returns-else-room-gt255
 returns-else-room-gt255 c =
-    let is-text : shape_of c.args.a.type_id.0 ≡ Text = sym c.shape-layout.ensures ∙ c.in-Text.is in
+    let as_text : shape_of c.args.a.type_id.0 ≡ Text = sym c.shape-layout.ensures ∙ c.in-Text.is in
     let s = c.args.s.now in
     let a = c.args.a in
     let n = c.text_length-used.ensures in
     c.all_zero.ensures
     ∙ ap all_zero c.part.ensures
     ∙ ap (λ k. all_zero (take (a.room - (1 + k)) (drop (a.offset + (1 + k)) s))) n
-    ∙ short s a is-text (omega (arith, n, c.if-room-used.false)) (ltb-false 255 a.room c.if-room-gt255.false-raw)
+    ∙ short s a as_text (omega (arith, n, c.if-room-used.false)) (ltb-false 255 a.room c.if-room-gt255.false-raw)
 
 pub returns-in_default : goal.returns-in_default
 returns-in_default c = other c.args.s.now c.args.a c.shape-layout.result (sym c.shape-layout.ensures) (opened c.in_default.in_default-own.keys3)

@@ -23,14 +23,14 @@ next : (s : List ℕ) (i : ℕ) → i < length s → all_zero (take (i + 1) s) �
 next s i h = rw (add-one i, take-suc s i 0 h) (snoc (take i s) (get_or s i 0))
 
 -- two numbers have no bit set exactly where each has none
-no-bit : (a b : ℕ) → eqb (bit_or a b) 0 ≡ (eqb a 0 && eqb b 0)
-no-bit zero b = refl
-no-bit (suc a) b =
+no_bit : (a b : ℕ) → eqb (bit_or a b) 0 ≡ (eqb a 0 && eqb b 0)
+no_bit zero b = refl
+no_bit (suc a) b =
     ne_eqb (bit_or (suc a) b) 0 (λ e. omega (arith, e, or_add_and (suc a) b, and_le_r (suc a) b))
     ∙ sym (ap (λ (t : Bool). t && eqb b 0) (ne_eqb (suc a) 0 (λ e. omega arith)))
 
 more : (s : List ℕ) (i bits : ℕ) → i < length s → eqb bits 0 ≡ all_zero (take i s) → eqb (bit_or bits (get_or s i 0)) 0 ≡ all_zero (take (i + 1) s)
-more s i bits h e = no-bit bits (get_or s i 0) ∙ ap (λ (b : Bool). b && eqb (get_or s i 0) 0) e ∙ sym (next s i h)
+more s i bits h e = no_bit bits (get_or s i 0) ∙ ap (λ (b : Bool). b && eqb (get_or s i 0) 0) e ∙ sym (next s i h)
 
 pub loop-i-init : goal.loop-i-init
 unfolding all_zero

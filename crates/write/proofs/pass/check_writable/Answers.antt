@@ -8,16 +8,16 @@ use Rattle.store.specs.Write.{check_of, write_by, write_of}
 use Rattle.write.proofs.pass.check_writable.Goals as goal
 
 -- what a write says is what its checks say
-status-by : (s : List ℕ) (name t : ℕ) (v : List ℕ) (x : Checked) → x ≡ check_of (find_of 8 s name) t v → (write_by s x v).status ≡ (write_of 8 s name t v).status
+status_by : (s : List ℕ) (name t : ℕ) (v : List ℕ) (x : Checked) → x ≡ check_of (find_of 8 s name) t v → (write_by s x v).status ≡ (write_of 8 s name t v).status
 unfolding write_of
-status-by s name t v x e = ap (λ (y : Checked). (write_by s y v).status) e
+status_by s name t v x e = ap (λ (y : Checked). (write_by s y v).status) e
 
 pub returns-in_default : goal.returns-in_default
 returns-in_default c =
     let a = c.args in
-    status-by a.s.now a.name.0 a.type_id.0 a.value.now _ (sym c.in_default.is ∙ c.check_write.ensures)
+    status_by a.s.now a.name.0 a.type_id.0 a.value.now _ (sym c.in_default.is ∙ c.check_write.ensures)
 
 pub returns : goal.returns
 returns c =
     let a = c.args in
-    status-by a.s.now a.name.0 a.type_id.0 a.value.now _ (sym c.in-Failed.is ∙ c.check_write.ensures)
+    status_by a.s.now a.name.0 a.type_id.0 a.value.now _ (sym c.in-Failed.is ∙ c.check_write.ensures)

@@ -16,8 +16,8 @@ arms zero = []
 arms (suc n) = (n ∷ []) ∷ arms n
 
 -- a code that no arm names lies behind the named ones
-past-arms : (b : ℕ) → NoneOf (arms 14) b → 14 ≤ b
-past-arms b o =
+past_arms : (b : ℕ) → NoneOf (arms 14) b → 14 ≤ b
+past_arms b o =
     let none : b < 14 → ⊥ = λ h. by_rest (λ k. false) (arms 14) 0 14 tt b (omega arith) h o in
     omega (arith, none)
 
@@ -78,4 +78,4 @@ unfolding command_of
 returns-in-13 c = search rules
 
 pub returns-in_default : goal.returns-in_default
-returns-in_default c = sym (other_of _ (past-arms _ c.in_default.in_default-own.rest))
+returns-in_default c = sym (other_of _ (past_arms _ c.in_default.in_default-own.rest))
