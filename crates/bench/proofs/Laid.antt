@@ -1,10 +1,10 @@
 -- Digits laid into a buffer, one and two at a time. Assumes nothing.
 use mathlib.Core.Path.{◌≡◌, refl, sym, ap, ◌∙◌}
 use mathlib.Core.List.{List, [], ◌∷◌, ◌++◌, append_assoc}
-use Prim.Native.Nat.{ℕ, suc, ◌+◌, ◌/◌, ◌%◌, ◌≤◌, ◌<◌, min}
+use Prim.Native.Nat.{ℕ, suc, ◌+◌, ◌/◌, ◌%◌, ◌≤◌, ◌<◌}
 use native.Mathlib.Omega.{arith}
 use native.Mathlib.Numerals.{add-one}
-use lib.ListN.{length, get_or, take, drop, set, drop_of_length-le, length-take}
+use lib.ListN.{length, get_or, take, drop, set, drop_of_length-le}
 use lib.Seq.{take-suc-set, lt-length-set, append_snoc, drop-cons}
 use Rattle.io.specs.Digits.{hex_digit_ascii}
 use borrow.Author.Tests.{lt-ltb, le-ltb}
@@ -42,10 +42,6 @@ hex_step d bytes p i h k =
 pub hex_done : (bytes : List ℕ) (i : ℕ) → length bytes ≤ i → hex (drop i bytes) ≡ []
 unfolding hex
 hex_done bytes i h = rw (drop_of_length-le bytes h) refl
-
--- a start of a list is no longer than the list
-pub no_longer : (part l : List ℕ) (n : ℕ) → part ≡ take n l → length part ≤ length l
-no_longer part l n e = let k : length part ≡ min n (length l) = ap length e ∙ length-take n l in omega (arith, k)
 
 -- a number of one digit, and one of two
 pub decimal_one : (d : List ℕ) (n : ℕ) → 0 < length d → n < 10 → take 1 (set d 0 (hex_digit_ascii (n % 16))) ≡ decimal n

@@ -1,4 +1,5 @@
 -- What is said of an answer, and of a store that is none, cut or whole (`specs/Bench.antt`). Assumes nothing.
+use Rattle.std.specs.Prelude.{Option, Result, Ok, Err}
 use mathlib.Core.Path.{◌≡◌, refl, ap, ◌∙◌}
 use mathlib.Core.Bool.{Bool, true, false}
 use mathlib.Core.List.{List, [], ◌∷◌}
@@ -6,11 +7,11 @@ use Prim.Native.Nat.{ℕ, ◌+◌, ◌≤◌, ◌<◌}
 use native.Mathlib.Omega.{arith}
 use lib.ListN.{length, take, drop, length-drop}
 use lib.Seq.{take_all}
-use borrow.Author.Tests.{eq-eqb, ne_eqb, le-leb, lt-leb}
-use Rattle.frame.specs.declared.answer.Answer.{Answer}
-use Rattle.frame.specs.declared.reply.Put.{Put}
-use Rattle.frame.specs.Answer.{answer_number, answer_length, no_state, seen}
+use borrow.Author.Tests.{ne_eqb, le-leb, lt-leb}
+use Rattle.frame.specs.declared.answer.Refusal.{Refusal}
+use Rattle.frame.specs.Answer.{refusal_number, no_state, seen}
 use Rattle.frame.specs.Inside.Buffer.{Putting, putting, put}
+use Rattle.frame.proofs.Codes.{refusal_nonzero}
 use Rattle.frame.proofs.Buffer.{put_fits, part_at}
 use Rattle.store.specs.Contents.{cluster_of}
 use Rattle.store.specs.Layout.{is_store}
@@ -23,13 +24,13 @@ use Rattle.bench.specs.Bench.{decimal, hex, said, served_of, length_of, bench_of
 
 -- ---- an answer
 
-pub said_refusal : (a : Answer) (d : List ℕ) → (answer_number a ≡ 0 → ⊥) → said (seen a d no_state) ≡ decimal (answer_number a)
+pub said_refusal : (why : Refusal) (d : List ℕ) → said (seen (Err why) d no_state) ≡ decimal (refusal_number why)
 unfolding said
-said_refusal a d h = rw (ne_eqb (answer_number a) 0 h) refl
+said_refusal why d = rw (ne_eqb (refusal_number why) 0 (λ z. omega (arith, refusal_nonzero why, z))) refl
 
-pub said_reply : (a : Answer) (d : List ℕ) → answer_number a ≡ 0 → said (seen a d no_state) ≡ 48 ∷ 32 ∷ hex (take (answer_length a) d)
+pub said_reply : (n : ℕ) (d : List ℕ) → said (seen (Ok n) d no_state) ≡ 48 ∷ 32 ∷ hex (take n d)
 unfolding said
-said_reply a d h = rw (eq-eqb (answer_number a) 0 h) refl
+said_reply n d = refl
 
 -- ---- a request served
 
@@ -46,11 +47,11 @@ unfolding said serve
 said_too_long s request h = rw (no_store s h) refl
 
 -- a copy of the store stands at the start of the buffer
-pub copied : (d s after : List ℕ) (r : Put) → length s ≤ length d → putting r after ≡ put d 0 s → take (length s) after ≡ s
+pub copied : (d s after : List ℕ) (r : Option ℕ) → length s ≤ length d → putting r after ≡ put d 0 s → take (length s) after ≡ s
 copied d s after r h e = ap (λ (p : Putting). take (length s) p.buffer) (e ∙ put_fits d 0 s (omega arith)) ∙ part_at d 0 s (omega arith)
 
 -- a call on the copy, with a new table
-pub said_served : (s copy request after : List ℕ) (t : ReportingTable) (cluster : ℕ) (a : Answer) (left : State)
+pub said_served : (s copy request after : List ℕ) (t : ReportingTable) (cluster : ℕ) (a : Result ℕ Refusal) (left : State)
     → take (length s) copy ≡ s → table_of t ≡ holding [] → cluster ≡ cluster_of s
     → seen a after left ≡ serve 8 capacity (take (length s) copy) (quieted_t (table_of t)) cluster true request 64
     → said (seen a after no_state) ≡ said (served_of s request)

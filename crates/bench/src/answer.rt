@@ -25,7 +25,7 @@ fn served(store: &[u8], request: &[u8], out: &mut [u8]) -> usize
 {
     let n = store.len();
     if 4096 < n {
-        return put_number(out, Refusal::NotAStore.number());
+        return put_number(out, u8::from(Refusal::NotAStore));
     }
     let mut copy = space();
     put_run(&mut copy, 0, store);
@@ -51,7 +51,7 @@ pub(crate) fn bench(input: &[u8], out: &mut [u8]) -> usize
     let n = u16_at(input, 0) as usize;
     let end = 2 + n;
     if input.len() < end {
-        return put_number(out, Refusal::NotAStore.number());
+        return put_number(out, u8::from(Refusal::NotAStore));
     }
     let store = part(input, 2, n);
     let request = part(input, end, input.len());

@@ -23,6 +23,7 @@ fn space() -> [u8; 131073]
 }
 
 // Reads until the buffer is full or the input ends, and says how many bytes came.
+// (`read_to_end` wants a Vec, and `read_exact` does not say how many bytes came before the end.)
 fn read_full(input: &mut impl Read, buffer: &mut [u8]) -> io::Result<usize>
     ensures { IfOk result (λ n. n ≤ length buffer.new) }
 {

@@ -16,6 +16,7 @@ fn digit(n: u8) -> u8
 }
 
 // Puts a number below 100 at the start of out, and says where it ends. There must be room for two digits.
+#[tactic(auto, using(crate::proofs::Laid::decimal_one, crate::proofs::Laid::decimal_two))]
 pub(crate) fn put_number(out: &mut [u8], n: u8) -> usize
     requires { 2 ≤ length out.old }
     ensures { take result out.new ≡ decimal n }
@@ -35,13 +36,10 @@ fn put_hex(out: &mut [u8], at: usize, bytes: &[u8]) -> usize
     ensures { take result out.new ≡ take at out.old ++ hex bytes.now }
 {
     let mut p = at;
-    let mut i = 0;
-    while i < bytes.len() {
-        let b = bytes[i];
+    for &b in bytes {
         out[p] = digit(b / 16);
         out[p + 1] = digit(b);
         p += 2;
-        i += 1;
     }
     p
 }
@@ -52,11 +50,12 @@ pub(crate) fn put_answer(out: &mut [u8], answer: Answer, reply: &[u8]) -> usize
     requires { 2 + 2 * length reply.now ≤ length out.old }
     ensures { take result out.new ≡ said (seen answer reply.now no_state) }
 {
-    let number = answer.number();
-    if number != 0 {
-        return put_number(out, number);
+    match answer {
+        Err(why) => put_number(out, u8::from(why)),
+        Ok(n) => {
+            out[0] = b'0';
+            out[1] = b' ';
+            put_hex(out, 2, part(reply, 0, n))
+        }
     }
-    out[0] = b'0';
-    out[1] = b' ';
-    put_hex(out, 2, part(reply, 0, answer.reply_len()))
 }

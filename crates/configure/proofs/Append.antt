@@ -1,4 +1,5 @@
 -- The records of a configure request that can all be read, followed by another request's: the records of both. Assumes nothing.
+use Rattle.std.specs.Prelude.{None, Option, Some, unwrap_or}
 use mathlib.Core.Path.{◌≡◌, refl, sym, ap, ◌∙◌}
 use mathlib.Core.Bool.{Bool, true, false, cond}
 use mathlib.Core.List.{List, ◌++◌}
@@ -13,32 +14,30 @@ use borrow.Author.Tests.{leb-true, leb-false}
 use Rattle.types.specs.Number.{unsigned_at, signed_of, signed_at}
 use Rattle.types.specs.Ids.{size_of, is_signed, is_float, is_analog}
 use Rattle.types.specs.Value.{change_by, change_at}
-use Rattle.types.specs.declared.ids.Size.{Size}
-use Rattle.types.specs.declared.ids.Size.TheVariants.{Bytes, Varies}
 use Rattle.types.proofs.Follows.{Within, before_more, after_more, unsigned_within}
 use Rattle.frame.specs.Walk.{item, done, records_from, joined}
 use Rattle.frame.proofs.Walks.{shifted, append_records}
 use Rattle.frame.specs.Sized.{up_to}
 use Rattle.reporting.specs.Due.{compares_unsigned}
-use Rattle.configure.specs.Request.{ConfigureRecord, received, reported, width_by, change_width, config_at, configure_at, configures}
+use Rattle.configure.specs.Request.{ConfigureRecord, received, reported, change_width, config_at, configure_at, configures}
 use Rattle.configure.proofs.Items.{up_to_in, up_to_past, up_to_is, here_at, size_at, is_reported, record-at, record_within, ahead}
 
 -- ---- a part, and the whole that it stands in
 
 module _ (k : ℕ) (s l : List ℕ) (w : Within k s l) where
-  change-by : (x : Size) (signed float : Bool) (p : ℕ) → p + width_by x ≤ length s → change_by x signed float l (k + p) ≡ change_by x signed float s p
+  change-by : (x : Option ℕ) (signed float : Bool) (p : ℕ) → p + unwrap_or x 0 ≤ length s → change_by x signed float l (k + p) ≡ change_by x signed float s p
   unfolding signed_at
-  change-by (Bytes n) signed float p h =
+  change-by (Some n) signed float p h =
       let m : min n 8 ≤ n = omega arith in
       ap (λ (u : ℕ). cond signed (nat_abs (signed_of (min n 8) u)) (cond float 0 u)) (unsigned_within k s l w (min n 8) p (omega arith))
-  change-by Varies signed float p h = refl
+  change-by None signed float p h = refl
 
   -- the change field
   change_within : (t p : ℕ) → p + change_width t ≤ length s → cond (is_analog t) (change_at l (k + p) t) 0 ≡ cond (is_analog t) (change_at s p t) 0
   unfolding change_width change_at
   change_within t p h = go (is_analog t) h
     where
-      go : (b : Bool) → p + cond b (width_by (size_of t)) 0 ≤ length s → cond b (change_by (size_of t) (is_signed t) (is_float t) l (k + p)) 0 ≡ cond b (change_by (size_of t) (is_signed t) (is_float t) s p) 0
+      go : (b : Bool) → p + cond b (unwrap_or (size_of t) 0) 0 ≤ length s → cond b (change_by (size_of t) (is_signed t) (is_float t) l (k + p)) 0 ≡ cond b (change_by (size_of t) (is_signed t) (is_float t) s p) 0
       go true h = change-by (size_of t) (is_signed t) (is_float t) p h
       go false h = refl
 

@@ -1,7 +1,7 @@
 -- Read Reporting Configuration as a whole: what every reply has. Assumes nothing.
+use Rattle.std.specs.Prelude.{None, Option, Some}
 use mathlib.Core.Path.{◌≡◌, refl}
 use mathlib.Core.Bool.{Bool, true, false}
-use mathlib.Core.Option.{Option, none, some}
 use mathlib.Core.List.{List, [], map}
 use Prim.Native.Nat.{ℕ, ◌≤◌}
 use native.Mathlib.Omega.{arith}
@@ -11,8 +11,7 @@ use Rattle.frame.specs.declared.command_identifier.CommandIdentifier.TheVariants
 use Rattle.frame.specs.Header.{reply_head}
 use Rattle.frame.specs.Shortened.{shortened_from}
 use Rattle.frame.proofs.Shortened.{did, Prefix, shortened_within, shortened_prefix}
-use Rattle.store.specs.declared.lookup.Found.{Found}
-use Rattle.store.specs.declared.lookup.Found.TheVariants.{At, Nothing}
+use Rattle.store.specs.declared.lookup.Attribute.{Attribute}
 use Rattle.store.specs.Contents.{name_of, find_of, reportable}
 use Rattle.reporting.specs.declared.entry.Key.{Key}
 use Rattle.reporting.specs.declared.entry.Entry.{Entry}
@@ -29,14 +28,14 @@ asked_of (setting direction id t g) = asked direction id
 asked_of (failure why direction id) = asked direction id
 
 -- a record is for what was asked
-pub record_asked : (l : List Entry) (k : Key) (r : Asked) (f : Found) → asked_of (record_by l k r f) ≡ r
+pub record_asked : (l : List Entry) (k : Key) (r : Asked) (f : Option Attribute) → asked_of (record_by l k r f) ≡ r
 unfolding record_by
-record_asked l k r Nothing = refl
-record_asked l k r (At a) = go (eqb r.direction 0) refl (reportable a) refl (lookup_l k l) refl
+record_asked l k r None = refl
+record_asked l k r (Some a) = go (eqb r.direction 0) refl (reportable a) refl (lookup_l k l) refl
   where
-    go : (b : Bool) → eqb r.direction 0 ≡ b → (c : Bool) → reportable a ≡ c → (o : Option Entry) → lookup_l k l ≡ o → asked_of (record_by l k r (At a)) ≡ r
-    go true p true q none e = rw (p, q, e)
-    go true p true q (some x) e = rw (p, q, e)
+    go : (b : Bool) → eqb r.direction 0 ≡ b → (c : Bool) → reportable a ≡ c → (o : Option Entry) → lookup_l k l ≡ o → asked_of (record_by l k r (Some a)) ≡ r
+    go true p true q None e = rw (p, q, e)
+    go true p true q (Some x) e = rw (p, q, e)
     go true p false q o e = rw (p, q)
     go false p c q o e = rw p
 

@@ -1,4 +1,5 @@
 -- The events of a Configure Reporting frame tell the truth, and the entries that it leaves are what they leave. Assumes nothing.
+use Rattle.std.specs.Prelude.{None, Option, Some}
 use mathlib.Core.Path.{◌≡◌, refl, sym, ap, ◌∙◌, subst}
 use mathlib.Core.Bool.{Bool, true, false, cond}
 use mathlib.Core.List.{List, [], ◌∷◌, ◌++◌}
@@ -17,8 +18,7 @@ use Rattle.frame.specs.Walk.{Ending, done, cut, stopped, walk, reached, taken, A
 use Rattle.frame.specs.Encoded.{fits}
 use Rattle.frame.specs.Failures.{Did, did, Doing, Sofar, sofar, done_with, pass_from, pass, performed, headed}
 use Rattle.frame.proofs.States.{state_concluded, folded}
-use Rattle.store.specs.declared.lookup.Found.{Found}
-use Rattle.store.specs.declared.lookup.Found.TheVariants.{At, Nothing}
+use Rattle.store.specs.declared.lookup.Attribute.{Attribute}
 use Rattle.store.specs.Contents.{name_of, find_of, reportable}
 use Rattle.reporting.specs.declared.entry.ReportingConfig.{ReportingConfig}
 use Rattle.reporting.specs.declared.entry.Entry.{Entry}
@@ -60,10 +60,10 @@ taken_all {S} {R} step fine Q (r ∷ rs) x h = (h.0, go (fine (step x r)) (taken
 -- ---- one record
 
 -- a check fails it, and leaves the entries; or its intervals and the table say
-pub checked_case : (P : Did (List Entry) → Type 0) (f : Found) (t : ℕ) (l : List Entry) (fine : Did (List Entry))
+pub checked_case : (P : Did (List Entry) → Type 0) (f : Option Attribute) (t : ℕ) (l : List Entry) (fine : Did (List Entry))
     → ((why : Status) → eqb (status_code why) 0 ≡ false → P (did why l)) → P fine → P (checked f t l fine)
-checked_case P Nothing t l fine h k = h UnsupportedAttribute refl
-checked_case P (At a) t l fine h k = go (reportable a) (eqb a.type_id.0 t)
+checked_case P None t l fine h k = h UnsupportedAttribute refl
+checked_case P (Some a) t l fine h k = go (reportable a) (eqb a.type_id.0 t)
   where
     go : (b c : Bool) → P (cond b (cond c fine (did InvalidDataType l)) (did UnreportableAttribute l))
     go true true = k

@@ -9,23 +9,11 @@ use lib.ListN.{length, get_or}
 use lib.Dec.{leb, eqb}
 use borrow.Author.Tests.{le-leb, lt-leb, leb-true, eq-eqb, ne_eqb}
 use Rattle.types.specs.Number.{unsigned_at}
-use Rattle.types.specs.Ids.{size_of, is_analog}
-use Rattle.types.specs.declared.ids.Size.{Size}
 use Rattle.frame.specs.Walk.{item, unread}
 use Rattle.frame.proofs.Walks.{Ahead}
 use Rattle.reporting.specs.declared.entry.ReportingConfig.{ReportingConfig}
 use Rattle.frame.specs.Sized.{up_to}
-use Rattle.configure.specs.Request.{ConfigureRecord, received, reported, width_by, change_width, config_at, configure_at}
-
--- ---- the width of a change
-
-pub width_none : (t : ℕ) → is_analog t ≡ false → 0 ≡ change_width t
-unfolding change_width
-width_none t e = rw e
-
-pub width_some : (t : ℕ) → is_analog t ≡ true → (x : Size) → x ≡ size_of t → width_by x ≡ change_width t
-unfolding change_width
-width_some t e x q = rw e (ap width_by q)
+use Rattle.configure.specs.Request.{ConfigureRecord, received, reported, change_width, config_at, configure_at}
 
 -- ---- a record up to its end
 

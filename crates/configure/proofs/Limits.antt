@@ -1,4 +1,5 @@
 -- A Configure Reporting frame under two limits (specs/Claims/Limits.antt). Assumes nothing.
+use Rattle.std.specs.Prelude.{None, Option, Some}
 use mathlib.Core.Path.{◌≡◌, refl, ap, ◌∙◌}
 use mathlib.Core.Bool.{Bool, true, false, cond}
 use mathlib.Core.List.{List, [], ◌∷◌}
@@ -12,8 +13,7 @@ use Rattle.frame.specs.Header.{reply_head}
 use Rattle.frame.specs.Walk.{Ending, done, cut, Way, stopped, walk, taken}
 use Rattle.frame.specs.Encoded.{fits}
 use Rattle.frame.specs.Failures.{Did, did, Sofar, sofar, noted, done_with, pass_from, concluded, performed, headed}
-use Rattle.store.specs.declared.lookup.Found.{Found}
-use Rattle.store.specs.declared.lookup.Found.TheVariants.{At, Nothing}
+use Rattle.store.specs.declared.lookup.Attribute.{Attribute}
 use Rattle.store.specs.Contents.{name_of, find_of, reportable}
 use Rattle.reporting.specs.declared.entry.Entry.{Entry}
 use Rattle.reporting.specs.Wish.{wish}
@@ -26,9 +26,9 @@ use Rattle.configure.specs.Claims.Limits.{RecordsWithin, ConfigureLimitsAgree}
 module _ (form small large : ℕ) (order : small ≤ large) (s : List ℕ) (request : ZclHeader) where
   -- ---- a record
 
-  checked_same : (x : Found) (t : ℕ) (l : List Entry) (a b : Did (List Entry)) → (length b.state ≤ small → a ≡ b) → length (checked x t l b).state ≤ small → checked x t l a ≡ checked x t l b
-  checked_same Nothing t l a b f h = refl
-  checked_same (At y) t l a b f h = go (reportable y) (eqb y.type_id.0 t) h
+  checked_same : (x : Option Attribute) (t : ℕ) (l : List Entry) (a b : Did (List Entry)) → (length b.state ≤ small → a ≡ b) → length (checked x t l b).state ≤ small → checked x t l a ≡ checked x t l b
+  checked_same None t l a b f h = refl
+  checked_same (Some y) t l a b f h = go (reportable y) (eqb y.type_id.0 t) h
     where
       go : (p q : Bool) → length (cond p (cond q b (did InvalidDataType l)) (did UnreportableAttribute l)).state ≤ small
           → cond p (cond q a (did InvalidDataType l)) (did UnreportableAttribute l) ≡ cond p (cond q b (did InvalidDataType l)) (did UnreportableAttribute l)

@@ -1,4 +1,5 @@
 -- Which requests the mark concerns (specs/Claims/Marks.antt). Assumes nothing.
+use Rattle.std.specs.Prelude.{None, Option, Some}
 use mathlib.Core.Path.{◌≡◌, refl}
 use mathlib.Core.Bool.{Bool, true, false, not, cond, ◌&&◌, false≢true}
 use mathlib.Core.List.{List}
@@ -6,17 +7,15 @@ use Prim.Native.Nat.{ℕ, ◌+◌, ◌≤◌}
 use native.Mathlib.Omega.{arith}
 use Rattle.types.specs.Ids.{size_of, is_analog, is_signed, is_float}
 use Rattle.types.specs.Value.{change_by, change_at}
-use Rattle.types.specs.declared.ids.Size.{Size}
-use Rattle.types.specs.declared.ids.Size.TheVariants.{Bytes, Varies}
 use Rattle.reporting.specs.Claims.Unsigned.{eight_bytes, keeps_bits}
 use Rattle.reporting.proofs.Unsigned.{only_uint64}
 use Rattle.configure.specs.Claims.Marks.{LargeChangesOfUint64}
 
 -- a float that is no Int has no change
-float_change : (z : Size) (signed : Bool) (x : List ℕ) (p : ℕ) → (not signed && eight_bytes z) ≡ true → change_by z signed true x p ≡ 0
-float_change (Bytes w) true x p k = absurd (false≢true k)
-float_change (Bytes w) false x p k = refl
-float_change Varies signed x p k = refl
+float_change : (z : Option ℕ) (signed : Bool) (x : List ℕ) (p : ℕ) → (not signed && eight_bytes z) ≡ true → change_by z signed true x p ≡ 0
+float_change (Some w) true x p k = absurd (false≢true k)
+float_change (Some w) false x p k = refl
+float_change None signed x p k = refl
 
 -- the change that a record gives, by whether its type is analog and a float
 change_if : (a f : Bool) (t : ℕ) → List ℕ → ℕ → ℕ

@@ -22,6 +22,6 @@ read_reporting_configuration_once store table request body reply r q x y e f = o
 -- src/configure.rt
 
 pub configure_reporting_once : ConfigureReportingOnce
-configure_reporting_once store table request body reply r q x y t u a b e f =
-    let w = only_one (configure_of 8 capacity store (holding (table_in table)) request body (length reply)) r q x y (holding (table_in t)) (holding (table_in u)) e.1 f.1 in
-    (w.0, (w.1.0, one_carried t u a b e.0 f.0 w.1.1))
+configure_reporting_once store table request body reply r q x y t u a b g h e f =
+    let w = only_one (configure_of 8 capacity store (holding (table_in table)) request body (length reply)) r q x y (holding (table_in t)) (holding (table_in u)) e f in
+    (w.0, (w.1.0, one_carried t u a b g h w.1.1))

@@ -1,4 +1,5 @@
 -- The width of a type's change. Assumes nothing.
+use Rattle.std.specs.Prelude.{None, Option, Some, unwrap_or}
 use mathlib.Core.Path.{◌≡◌, refl, sym, ap}
 use mathlib.Core.Bool.{Bool, true, false, cond, ◌&&◌}
 use Prim.Native.Nat.{ℕ, ◌≤◌}
@@ -6,29 +7,22 @@ use native.Mathlib.Omega.{arith}
 use lib.Dec.{T, leb, leb→le}
 use borrow.Author.Tests.{le-leb, lt-leb, leb-true, leb-false}
 use Rattle.types.specs.Ids.{size_of, is_analog}
-use Rattle.types.specs.declared.ids.Size.{Size}
-use Rattle.types.specs.declared.ids.Size.TheVariants.{Bytes, Varies}
 use Rattle.types.proofs.Rules.{only, within, analog_sizes}
-use Rattle.configure.specs.Request.{width_by, change_width}
+use Rattle.configure.specs.Request.{change_width}
 
 module _ (t : ℕ) where
   -- a type that is not analog has none
   pub width_none : is_analog t ≡ false → 0 ≡ change_width t
   unfolding change_width
-  width_none e = sym (ap (λ (b : Bool). cond b (width_by (size_of t)) 0) e)
+  width_none e = sym (ap (λ (b : Bool). cond b (unwrap_or (size_of t) 0) 0) e)
 
-  -- an analog one has its size
-  pub width_of : (x : Size) → is_analog t ≡ true → size_of t ≡ x → width_by x ≡ change_width t
-  unfolding change_width
-  width_of x e g = rw (e, g)
-
-by_size : (b : Bool) (x : Size) → T (only b (within 1 8 x)) → cond b (width_by x) 0 ≤ 8
-by_size true (Bytes w) h = go (leb 1 w) h
+by_size : (b : Bool) (x : Option ℕ) → T (only b (within 1 8 x)) → cond b (unwrap_or x 0) 0 ≤ 8
+by_size true (Some w) h = go (leb 1 w) h
   where
     go : (a : Bool) → T (a && leb w 8) → w ≤ 8
     go true k = leb→le w 8 k
     go false k = absurd k
-by_size true Varies h = absurd h
+by_size true None h = absurd h
 by_size false x h = omega arith
 
 not_analog : (t : ℕ) → 256 ≤ t → is_analog t ≡ false

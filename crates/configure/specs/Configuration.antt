@@ -1,6 +1,5 @@
 -- Definitions. Read Reporting Configuration (document 01, "Commands, step by step", Read configuration; ZCL 2.5.9, 2.5.10).
-use Rattle.std.specs.Prelude.{ℕ, ◌*◌, ◌%◌, ◌^◌, false, cond, List, ◌∷◌, ◌++◌, eqb}
-use Rattle.std.proofs.Math.Option.{Option, none, some}
+use Rattle.std.specs.Prelude.{ℕ, ◌*◌, ◌%◌, ◌^◌, false, cond, List, ◌∷◌, ◌++◌, eqb, None, Option, Some}
 use Rattle.types.specs.Number.{bytes_of}
 use Rattle.frame.specs.declared.header.ZclHeader.{ZclHeader}
 use Rattle.frame.specs.declared.command_identifier.CommandIdentifier.TheVariants.{ReadReportingConfigurationResponse}
@@ -10,8 +9,7 @@ use Rattle.frame.specs.Status.{status_code}
 use Rattle.frame.specs.Header.{reply_head}
 use Rattle.frame.specs.Answer.{Outcome, no_state, refused}
 use Rattle.frame.specs.Shortened.{shortened}
-use Rattle.store.specs.declared.lookup.Found.{Found}
-use Rattle.store.specs.declared.lookup.Found.TheVariants.{At, Nothing}
+use Rattle.store.specs.declared.lookup.Attribute.{Attribute}
 use Rattle.store.specs.Contents.{name_of, find_of, reportable}
 use Rattle.reporting.specs.declared.entry.Key.{Key}
 use Rattle.reporting.specs.declared.entry.ReportingConfig.{ReportingConfig}
@@ -46,13 +44,13 @@ sent_as t g =
 
 -- no entry 8b
 abbrev pub setting_by : Option Entry → Asked → ℕ → SettingRecord
-setting_by none r t = failure (status_code NotFound) r.direction r.id
-setting_by (some e) r t = setting r.direction r.id t (sent_as t e.config)
+setting_by None r t = failure (status_code NotFound) r.direction r.id
+setting_by (Some e) r t = setting r.direction r.id t (sent_as t e.config)
 
 -- not found 86; direction not 0, 8c; not reportable 8c
-unfoldable pub record_by : List Entry → Key → Asked → Found → SettingRecord
-record_by l k r Nothing = failure (status_code UnsupportedAttribute) r.direction r.id
-record_by l k r (At a) =
+unfoldable pub record_by : List Entry → Key → Asked → Option Attribute → SettingRecord
+record_by l k r None = failure (status_code UnsupportedAttribute) r.direction r.id
+record_by l k r (Some a) =
     cond (eqb r.direction 0)
     (cond (reportable a) (setting_by (lookup_l k l) r a.type_id.0) (failure (status_code UnreportableAttribute) r.direction r.id))
     (failure (status_code UnreportableAttribute) r.direction r.id)

@@ -1,5 +1,5 @@
 -- Definitions. Configure Reporting (document 01, "Commands, step by step", Configure; ZCL 2.5.7, 2.5.8), on the entries of the reporting table.
-use Rattle.std.specs.Prelude.{ℕ, cond, List, ◌∷◌, eqb}
+use Rattle.std.specs.Prelude.{ℕ, cond, List, ◌∷◌, eqb, None, Option, Some}
 use Rattle.types.specs.Number.{bytes_of}
 use Rattle.frame.specs.declared.header.ZclHeader.{ZclHeader}
 use Rattle.frame.specs.declared.command_identifier.CommandIdentifier.TheVariants.{ConfigureReportingResponse}
@@ -9,8 +9,7 @@ use Rattle.frame.specs.declared.answer.Refusal.TheVariants.{NotATable}
 use Rattle.frame.specs.Status.{status_code}
 use Rattle.frame.specs.Answer.{Outcome, within, refused}
 use Rattle.frame.specs.Failures.{Did, did, Doing, performed, headed}
-use Rattle.store.specs.declared.lookup.Found.{Found}
-use Rattle.store.specs.declared.lookup.Found.TheVariants.{At, Nothing}
+use Rattle.store.specs.declared.lookup.Attribute.{Attribute}
 use Rattle.store.specs.Contents.{name_of, find_of, reportable}
 use Rattle.reporting.specs.declared.entry.Key.{Key}
 use Rattle.reporting.specs.declared.entry.ReportingConfig.{ReportingConfig}
@@ -40,9 +39,9 @@ encode f = f.status ∷ f.direction ∷ bytes_of 2 f.id
 -- ---- a record: its status, and the entries afterwards
 
 -- not found 86; not reportable 8c; other type 8d; else as the intervals and the table say
-abbrev pub checked : Found → ℕ → List Entry → Did (List Entry) → Did (List Entry)
-checked Nothing t l fine = did UnsupportedAttribute l
-checked (At a) t l fine =
+abbrev pub checked : Option Attribute → ℕ → List Entry → Did (List Entry) → Did (List Entry)
+checked None t l fine = did UnsupportedAttribute l
+checked (Some a) t l fine =
     cond (reportable a)
     (cond (eqb a.type_id.0 t) fine (did InvalidDataType l))
     (did UnreportableAttribute l)

@@ -1,10 +1,8 @@
 -- Definitions. The records of the two requests: Configure Reporting (ZCL 2.5.7) and Read Reporting Configuration (2.5.9).
-use Rattle.std.specs.Prelude.{ℕ, ◌+◌, cond, List, length, get_or, eqb}
+use Rattle.std.specs.Prelude.{ℕ, ◌+◌, cond, List, length, get_or, eqb, unwrap_or}
 use Rattle.types.specs.Number.{unsigned_at}
 use Rattle.types.specs.Ids.{size_of, is_analog}
 use Rattle.types.specs.Value.{change_at}
-use Rattle.types.specs.declared.ids.Size.{Size}
-use Rattle.types.specs.declared.ids.Size.TheVariants.{Bytes, Varies}
 use Rattle.frame.specs.Walk.{Item, Records, records_from}
 use Rattle.frame.specs.Sized.{up_to}
 use Rattle.frame.specs.declared.header.ZclHeader.{ZclHeader}
@@ -15,13 +13,9 @@ use Rattle.reporting.specs.Due.{compares_unsigned}
 
 -- ---- the change field
 
-abbrev pub width_by : Size → ℕ
-width_by (Bytes w) = w
-width_by Varies = 0
-
 -- an analog type has a change of its width; any other, an unknown type too, has no change field
 unfoldable pub change_width : ℕ → ℕ
-change_width t = cond (is_analog t) (width_by (size_of t)) 0
+change_width t = cond (is_analog t) (unwrap_or (size_of t) 0) 0
 
 -- ---- 06: direction (1), id (2)
 

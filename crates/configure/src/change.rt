@@ -4,20 +4,18 @@ ghost use Rattle.types.specs.Ids.{is_analog};
 ghost use Rattle.types.specs.Value.{change_at};
 ghost use Rattle.configure.specs.Request.{change_width};
 
-use types::ids::{Size, TypeId};
+use types::ids::TypeId;
 use types::value::change_at;
 
 // How many bytes the change of a type has: none where the type is not analog.
+#[tactic(auto, unfolding(crate::specs::Request::change_width))]
 pub fn change_width(type_id: TypeId) -> usize
     ensures { result ≡ change_width type_id.0 }
 {
     if !type_id.is_analog() {
         return 0;
     }
-    let Size::Bytes(w) = type_id.fixed_size() else {
-        return 0;
-    };
-    w
+    type_id.fixed_size().unwrap_or(0)
 }
 
 // The change of a type at `at`: 0 where the type is not analog.

@@ -1,86 +1,85 @@
 // One pass over the records of a request: each is done in the table's bytes, and its failure is listed in the reply.
-ghost use Rattle.std.specs.Prelude.{◌≡◌, true};
+ghost use Rattle.std.specs.Prelude.{◌≡◌};
 ghost use Rattle.frame.specs.Status.{status_code};
 ghost use Rattle.frame.specs.Inside.Buffer.{putting};
 ghost use Rattle.frame.specs.Inside.Failures.{noting};
-ghost use Rattle.reporting.specs.Table.{capacity};
-ghost use Rattle.reporting.specs.Carried.{is_table};
 ghost use Rattle.configure.specs.Configure.{failure, encode};
 ghost use Rattle.configure.specs.Inside.{Settles, Turns, Runs};
 
-use super::record::{DIRECTION_REPORTED, Next, next_record};
+use super::record::{DIRECTION_REPORTED, Record, next_record};
 use super::settle::{Deed, judge, status_of};
-use frame::failures::{Pass, list_failure};
+use frame::failures::{Unfinished, list_failure};
 use frame::header::ZclHeader;
-use frame::reply::Put;
 use frame::status::Status;
-use reporting::lent::{clear_in, configure_in};
+use reporting::held::TableMut;
 use types::ids::AttributeId;
 
-// A record, where the next one starts, and what is to be done; or none that can be read.
+// A record, what is to be done or the failure, and where the next record starts.
 #[derive(Clone, Copy)]
-enum Turn {
-    Read {
-        end: usize,
-        direction: u8,
-        id: AttributeId,
-        deed: Deed,
-    },
-    Cut,
+struct Turn {
+    direction: u8,
+    id: AttributeId,
+    deed: Result<Deed, Status>,
+    end: usize,
 }
 
-// One record read and judged.
-fn configure_turn(store: &[u8], request: ZclHeader, body: &[u8], at: usize) -> Turn
+// One record read and judged, if it is not cut.
+#[tactic(auto, using(crate::proofs::Turns::took_received, crate::proofs::Turns::took_reported))]
+fn configure_turn(store: &[u8], request: ZclHeader, body: &[u8], at: usize) -> Option<Turn>
     ensures { Turns store.now request body.now at result }
 {
-    let next = next_record(body, at);
-    match next {
-        Next::Received { direction, id, end } => Turn::Read {
-            end,
+    let turn = match next_record(body, at)? {
+        Record::Received { direction, id, end } => Turn {
             direction,
             id,
-            deed: Deed::Fails(Status::UnreportableAttribute),
+            deed: Err(Status::UnreportableAttribute),
+            end,
         },
-        Next::Reported {
+        Record::Reported {
             id,
             type_id,
             config,
             end,
-        } => Turn::Read {
-            end,
+        } => Turn {
             direction: DIRECTION_REPORTED,
             id,
             deed: judge(store, request, id, type_id, config),
+            end,
         },
-        Next::Cut => Turn::Cut,
-    }
+    };
+    Some(turn)
 }
 
 // Lists a failure: status, direction, id.
-fn note(reply: &mut [u8], out: usize, status: Status, direction: u8, id: AttributeId) -> Put
+#[tactic(auto, unfolding(types::specs::Number::bytes_of))]
+fn note(
+    reply: &mut [u8],
+    out: usize,
+    status: Status,
+    direction: u8,
+    id: AttributeId,
+) -> Option<usize>
     ensures { putting result reply.new ≡ noting reply.old out status (encode (failure (status_code status) direction id.0)) }
 {
-    let n = id.0;
-    let low = (n % 256) as u8;
-    let high = (n / 256 % 256) as u8;
-    let four = [status.to_u8(), direction, low, high];
+    let [low, high] = id.0.to_le_bytes();
+    let four = [u8::from(status), direction, low, high];
     list_failure(reply, out, status, &four)
 }
 
-// A deed done in the table, and what it came to.
-fn done(table: &mut [u8], deed: Deed) -> Status
-    requires { is_table capacity table.old ≡ true }
-    ensures { Settles deed table.old table.new result }
+// A deed done in the table, and what it came to. A failure leaves the table.
+fn done(table: &mut TableMut<'_>, deed: Result<Deed, Status>) -> Status
+    ensures same_reference { table.new.bytes.ghost_name ≡ table.old.bytes.ghost_name }
+    ensures settled { Settles deed table.old.bytes.now table.new.bytes.now result }
 {
     match deed {
-        Deed::Fails(why) => why,
-        Deed::Clears(key) => {
-            clear_in(table, key);
+        Err(why) => why,
+        Ok(Deed::Clears(key)) => {
+            table.clear(key);
             Status::Success
         }
-        Deed::Sets(key, config) => {
-            let answer = configure_in(table, key, config);
-            status_of(answer)
+        Ok(Deed::Sets(key, config)) => {
+            let accepted = table.configure(key, config);
+            status_of(accepted)
         }
     }
 }
@@ -88,34 +87,22 @@ fn done(table: &mut [u8], deed: Deed) -> Status
 // Every record of the body, its failures listed from `start` on, until one cannot be read or does not fit.
 pub(crate) fn configure_records(
     store: &[u8],
-    table: &mut [u8],
+    table: &mut TableMut<'_>,
     request: ZclHeader,
     body: &[u8],
     reply: &mut [u8],
     start: usize,
-) -> Pass
-    requires { is_table capacity table.old ≡ true }
-    ensures { Runs store.now request body.now start table.old reply.old result table.new reply.new }
+) -> Result<usize, Unfinished>
+    ensures same_reference { table.new.bytes.ghost_name ≡ table.old.bytes.ghost_name }
+    ensures run { Runs store.now request body.now start table.old.bytes.now reply.old result table.new.bytes.now reply.new }
 {
     let mut at: usize = 0;
     let mut out = start;
     while at < body.len() {
-        let turn = configure_turn(store, request, body, at);
-        let Turn::Read {
-            end,
-            direction,
-            id,
-            deed,
-        } = turn
-        else {
-            return Pass::Cut;
-        };
-        let status = done(table, deed);
-        let Put::At(next) = note(reply, out, status, direction, id) else {
-            return Pass::Full;
-        };
-        at = end;
-        out = next;
+        let turn = configure_turn(store, request, body, at).ok_or(Unfinished::Cut)?;
+        let status = done(table, turn.deed);
+        out = note(reply, out, status, turn.direction, turn.id).ok_or(Unfinished::Full)?;
+        at = turn.end;
     }
-    Pass::Through(out)
+    Ok(out)
 }

@@ -11,9 +11,9 @@ use types::number::u16_at;
 // The direction of a record for what this device reports; with any other it is for what the device receives.
 pub(crate) const DIRECTION_REPORTED: u8 = 0x00;
 
-// A record of the request and where the next one starts, or none that can be read.
+// A record of the request, and where the next one starts.
 #[derive(Clone, Copy)]
-pub(crate) enum Next {
+pub(crate) enum Record {
     // Of what this device receives: the two bytes of timeout are passed over.
     Received {
         direction: u8,
@@ -26,7 +26,6 @@ pub(crate) enum Next {
         config: ReportingConfig,
         end: usize,
     },
-    Cut,
 }
 
 // Minimum, maximum and change at `at`, behind a type, and the type's mark. Not public: the four bytes of the intervals must be there.
@@ -42,35 +41,36 @@ fn config_at(body: &[u8], at: usize, type_id: TypeId) -> ReportingConfig
     }
 }
 
-// The record at a place: direction, id, and a timeout; or, for direction 0, type, minimum, maximum and change.
-pub(crate) fn next_record(body: &[u8], at: usize) -> Next
+// The record at a place, if it is not cut: direction, id, and a timeout; or, for direction 0, type, minimum, maximum and change.
+#[tactic(auto, using(crate::proofs::Items::record_short, crate::proofs::Items::received_is, crate::proofs::Items::reported_short, crate::proofs::Items::reported_is))]
+pub(crate) fn next_record(body: &[u8], at: usize) -> Option<Record>
     ensures { item_of result ≡ configure_at body.now at }
 {
-    if body.len() < at {
-        return Next::Cut;
-    }
-    let left = body.len() - at;
+    let left = body.len().checked_sub(at)?;
     if left < 5 {
-        return Next::Cut;
+        return None;
     }
     let direction = body[at];
     let id = AttributeId(u16_at(body, at + 1));
     if direction != DIRECTION_REPORTED {
-        let end = at + 5;
-        return Next::Received { direction, id, end };
+        return Some(Record::Received {
+            direction,
+            id,
+            end: at + 5,
+        });
     }
     if left < 8 {
-        return Next::Cut;
+        return None;
     }
     let type_id = TypeId(body[at + 3]);
     let width = change_width(type_id);
     if left - 8 < width {
-        return Next::Cut;
+        return None;
     }
-    Next::Reported {
+    Some(Record::Reported {
         id,
         type_id,
         config: config_at(body, at + 4, type_id),
         end: at + 8 + width,
-    }
+    })
 }

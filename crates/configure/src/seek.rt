@@ -6,31 +6,23 @@ use super::record::DIRECTION_REPORTED;
 use frame::header::ZclHeader;
 use frame::status::Status;
 use reporting::entry::Key;
-use store::lookup::{Found, find, is_reportable, name_of};
+use store::lookup::{find, is_reportable, name_of};
 use types::ids::{AttributeId, TypeId};
 
-// What is to be looked up in the table, or the failure that is sent without it.
-#[derive(Clone, Copy)]
-pub(crate) enum Sought {
-    Fails(Status),
-    Entry(Key, TypeId),
-}
-
-// By the store alone: 86, 8c, 8c, or the entry, and the type beside which it is sent.
-pub(crate) fn seek(store: &[u8], request: ZclHeader, direction: u8, id: AttributeId) -> Sought
+// The key of the entry to be looked up, and the type beside which it is sent; or the failure that is sent without the table: 86, 8c.
+#[tactic(auto, unfolding(crate::specs::Configuration::record_for, crate::specs::Configuration::record_by))]
+pub(crate) fn seek(
+    store: &[u8],
+    request: ZclHeader,
+    direction: u8,
+    id: AttributeId,
+) -> Result<(Key, TypeId), Status>
     ensures { Seeks store.now request direction id.0 result }
 {
     let name = name_of(request.manufacturer_code, id);
-    let Found::At(a) = find(store, name) else {
-        return Sought::Fails(Status::UnsupportedAttribute);
-    };
-    if direction != DIRECTION_REPORTED {
-        return Sought::Fails(Status::UnreportableAttribute);
+    let a = find(store, name).ok_or(Status::UnsupportedAttribute)?;
+    if direction != DIRECTION_REPORTED || !is_reportable(a) {
+        return Err(Status::UnreportableAttribute);
     }
-    if !is_reportable(a) {
-        return Sought::Fails(Status::UnreportableAttribute);
-    }
-    let key = key_for(store, request, id);
-    let own = a.type_id;
-    Sought::Entry(key, own)
+    Ok((key_for(store, request, id), a.type_id))
 }

@@ -1,7 +1,7 @@
 // One configuration: what is to be done with the table, judged without it.
 ghost use Rattle.std.specs.Prelude.{◌≡◌};
 ghost use Rattle.store.specs.Contents.{name_of, find_of};
-ghost use Rattle.reporting.specs.Table.{capacity, change_told};
+ghost use Rattle.reporting.specs.Table.{capacity};
 ghost use Rattle.reporting.specs.declared.entry.Wish.TheVariants.{ToSet};
 ghost use Rattle.reporting.specs.Wish.{status_w};
 ghost use Rattle.configure.specs.Request.{key_for};
@@ -12,26 +12,25 @@ use super::key::key_for;
 use frame::header::ZclHeader;
 use frame::status::Status;
 use reporting::entry::{Key, ReportingConfig, Wish};
-use reporting::table::Change;
-use store::lookup::{Found, find, is_reportable, name_of};
+use store::lookup::{find, is_reportable, name_of};
 use types::ids::{AttributeId, TypeId};
 
-// What is to be done: a failure leaves the table.
+// What is to be done with the table.
 #[derive(Clone, Copy)]
 pub(crate) enum Deed {
-    Fails(Status),
     Clears(Key),
     Sets(Key, ReportingConfig),
 }
 
 // By its intervals: what is cleared, what is wrong, 87, and what is set.
-fn wished(key: Key, config: ReportingConfig) -> Deed
+#[tactic(auto, unfolding(crate::specs::Configure::setting))]
+fn wished(key: Key, config: ReportingConfig) -> Result<Deed, Status>
     ensures { Judges (setting capacity key config) result }
 {
     match config.wish() {
-        Wish::ToClear => Deed::Clears(key),
-        Wish::ToRefuse => Deed::Fails(Status::InvalidValue),
-        Wish::ToSet => Deed::Sets(key, config),
+        Wish::ToClear => Ok(Deed::Clears(key)),
+        Wish::ToRefuse => Err(Status::InvalidValue),
+        Wish::ToSet => Ok(Deed::Sets(key, config)),
     }
 }
 
@@ -42,30 +41,27 @@ pub(crate) fn judge(
     id: AttributeId,
     type_id: TypeId,
     config: ReportingConfig,
-) -> Deed
+) -> Result<Deed, Status>
     ensures { Judges (λ l. checked (find_of 8 store.now (name_of request.manufacturer_code.0 id.0)) type_id.0 l (setting capacity (key_for store.now request id.0) config l)) result }
 {
     let name = name_of(request.manufacturer_code, id);
-    let Found::At(a) = find(store, name) else {
-        return Deed::Fails(Status::UnsupportedAttribute);
-    };
+    let a = find(store, name).ok_or(Status::UnsupportedAttribute)?;
     if !is_reportable(a) {
-        return Deed::Fails(Status::UnreportableAttribute);
+        return Err(Status::UnreportableAttribute);
     }
-    let own = a.type_id;
-    if own.0 != type_id.0 {
-        return Deed::Fails(Status::InvalidDataType);
+    if a.type_id.0 != type_id.0 {
+        return Err(Status::InvalidDataType);
     }
-    let key = key_for(store, request, id);
-    wished(key, config)
+    wished(key_for(store, request, id), config)
 }
 
 // What a configuration that was to be set came to: 89 where there was no room.
-pub(crate) fn status_of(answer: Change) -> Status
-    ensures { result ≡ status_w ToSet (change_told answer).accepted }
+pub(crate) fn status_of(accepted: bool) -> Status
+    ensures { result ≡ status_w ToSet accepted }
 {
-    let Change::Done = answer else {
-        return Status::InsufficientSpace;
-    };
-    Status::Success
+    if accepted {
+        Status::Success
+    } else {
+        Status::InsufficientSpace
+    }
 }

@@ -1,4 +1,5 @@
 -- The loop that puts the records: what the buffer shows and what is left are always the same bytes. Assumes nothing.
+use Rattle.std.specs.Prelude.{None, Option, Some}
 use mathlib.Core.Path.{◌≡◌, refl, sym, ap, ◌∙◌, subst}
 use mathlib.Core.List.{List, [], ◌∷◌, ◌++◌, append_assoc, append-nil}
 use Prim.Native.Nat.{ℕ, suc, ◌+◌, ◌-◌, ◌≤◌, ◌<◌}
@@ -7,8 +8,6 @@ use lib.ListN.{length, take, length-append}
 use lib.Seq.{take-nil}
 use Rattle.frame.specs.Inside.Buffer.{putting, put, Shows}
 use Rattle.frame.specs.Encoded.{encode_all}
-use Rattle.frame.specs.declared.reply.Put.{Put}
-use Rattle.frame.specs.declared.reply.Put.TheVariants.{At, Full}
 use Rattle.frame.proofs.Buffer.{shows_put, shows_full}
 use Rattle.store.specs.declared.lookup.Attribute.{Attribute}
 use Rattle.store.specs.Contents.{count_of, attribute_at, attributes_of}
@@ -63,7 +62,7 @@ module _ (s : List ℕ) (n start wanted : ℕ) (whole reply : List ℕ) (left ou
           counts = omega (arith, g.counts, ap length (onward_skip s n start i a h is k));
         }
 
-    module _ (l : 0 < left) (k : start ≤ a.name.0) (r : Put) (after : List ℕ) (p : putting r after ≡ put reply out (encode (discovered a))) where
+    module _ (l : 0 < left) (k : start ≤ a.name.0) (r : Option ℕ) (after : List ℕ) (p : putting r after ≡ put reply out (encode (discovered a))) where
       rest : List ℕ
       rest = records_of (take (left - 1) (onward s n start (i + 1)))
 
@@ -75,7 +74,7 @@ module _ (s : List ℕ) (n start wanted : ℕ) (whole reply : List ℕ) (left ou
           ∙ g.same
 
       -- its record fits
-      pub going_put : (o : ℕ) → r ≡ At o → Going s n start wanted whole after (left - 1) o (i + 1)
+      pub going_put : (o : ℕ) → r ≡ Some o → Going s n start wanted whole after (left - 1) o (i + 1)
       unfolding rest
       going_put o q =
           record {
@@ -86,7 +85,7 @@ module _ (s : List ℕ) (n start wanted : ℕ) (whole reply : List ℕ) (left ou
           }
 
       -- it does not
-      pub going_full : r ≡ Full → length reply < length whole
+      pub going_full : r ≡ None → length reply < length whole
       going_full q =
           let w = shows_full reply out g.shown (encode (discovered a)) r after g.shows p q in
           let m : length (g.shown ++ encode (discovered a) ++ rest) ≡ length (g.shown ++ encode (discovered a)) + length rest = length-append (g.shown ++ encode (discovered a)) rest in

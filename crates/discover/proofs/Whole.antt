@@ -1,4 +1,5 @@
 -- The command: its body, its header, and the list. Assumes nothing.
+use Rattle.std.specs.Prelude.{Err, None, Ok, Option, Some}
 use mathlib.Core.Path.{◌≡◌, ap, ◌∙◌, subst}
 use mathlib.Core.List.{List, [], ◌∷◌, ◌++◌}
 use Prim.Native.Nat.{ℕ, ◌+◌, ◌-◌, ◌/◌, ◌≤◌, ◌<◌, min}
@@ -11,9 +12,6 @@ use Rattle.frame.specs.Header.{reply_head}
 use Rattle.frame.specs.Answer.{no_state, seen, replied, refused}
 use Rattle.frame.specs.declared.header.ZclHeader.{ZclHeader}
 use Rattle.frame.specs.declared.command_identifier.CommandIdentifier.TheVariants.{DiscoverAttributesResponse}
-use Rattle.frame.specs.declared.reply.Put.{Put}
-use Rattle.frame.specs.declared.reply.Put.TheVariants.{At, Full}
-use Rattle.frame.specs.declared.answer.Answer.TheVariants.{Reply, Refused}
 use Rattle.frame.specs.declared.answer.Refusal.TheVariants.{RecordCut, ReplyTooLong}
 use Rattle.frame.proofs.Buffer.{PutAt, shows_cleared, shows_put, shows_full}
 use Rattle.frame.proofs.Outcome.{seen_reply, seen_refused}
@@ -38,7 +36,7 @@ module _ (s : List ℕ) (request : ZclHeader) (body : List ℕ) (room : ℕ) whe
   whole = head ++ complete_byte all some ∷ records_of some
 
   -- a body without start and maximum
-  pub discover_cut : (d : List ℕ) → d ≡ zeros room → length body < 3 → seen (Refused RecordCut) d no_state ≡ discover_of 8 s request body room
+  pub discover_cut : (d : List ℕ) → d ≡ zeros room → length body < 3 → seen (Err RecordCut) d no_state ≡ discover_of 8 s request body room
   unfolding discover_of
   discover_cut d z h = seen_refused room d RecordCut no_state z ∙ rw (lt-leb 3 (length body) h)
 
@@ -63,18 +61,18 @@ module _ (s : List ℕ) (request : ZclHeader) (body : List ℕ) (room : ℕ) whe
         omega arith
 
     -- a cleared buffer, and the header put there
-    module _ (d₀ : List ℕ) (z : d₀ ≡ zeros room) (r₁ : Put) (d₁ : List ℕ) (p : putting r₁ d₁ ≡ put d₀ 0 head) where
+    module _ (d₀ : List ℕ) (z : d₀ ≡ zeros room) (r₁ : Option ℕ) (d₁ : List ℕ) (p : putting r₁ d₁ ≡ put d₀ 0 head) where
       len : length d₀ ≡ room
       len = ap length z ∙ length-replicate room 0
 
       -- it does not fit
-      pub discover_headless : r₁ ≡ Full → seen (Refused ReplyTooLong) d₁ no_state ≡ discover_of 8 s request body room
+      pub discover_headless : r₁ ≡ None → seen (Err ReplyTooLong) d₁ no_state ≡ discover_of 8 s request body room
       discover_headless q =
           let w = shows_full d₀ 0 [] head r₁ d₁ (shows_cleared room d₀ z) p q in
           let l : length d₀ ≡ room = len in
           seen_refused room d₁ ReplyTooLong no_state (w.1 ∙ z) ∙ too_long (omega (arith, w.0)) ∙ by_body
 
-      module _ (from : ℕ) (q : r₁ ≡ At from) where
+      module _ (from : ℕ) (q : r₁ ≡ Some from) where
         headed : PutAt d₀ [] head from d₁
         headed = shows_put d₀ 0 [] head r₁ from d₁ (shows_cleared room d₀ z) p q
 
@@ -94,7 +92,7 @@ module _ (s : List ℕ) (request : ZclHeader) (body : List ℕ) (room : ℕ) whe
 
         -- the numbers that the code has of the list, and the list put behind the header
         module _ (start m n : ℕ) (es : start ≡ name_of request.manufacturer_code.0 (unsigned_at body 0 2)) (em : m ≡ get_or body 2 0) (en : n ≡ min m ((length d₁ - from - 1) / 3))
-            (k : from < length d₁) (r₂ : Put) (d₂ : List ℕ) (lists : Lists s start n d₁ from r₂ d₂) where
+            (k : from < length d₁) (r₂ : Option ℕ) (d₂ : List ℕ) (lists : Lists s start n d₁ from r₂ d₂) where
           taken : take n all ≡ some
           unfolding listed
           taken =
@@ -108,18 +106,18 @@ module _ (s : List ℕ) (request : ZclHeader) (body : List ℕ) (room : ℕ) whe
           shown =
               ap (λ (i : ℕ). head ++ list_of (at_or_after i (attributes_of 8 s)) n) es ∙ ap (λ (l : List Attribute). head ++ complete_byte all l ∷ records_of l) taken
 
-          fills : (r : Put) → r₂ ≡ r → Fills whole room r d₂
+          fills : (r : Option ℕ) → r₂ ≡ r → Fills whole room r d₂
           fills r e =
-              subst (λ (x : Put). Fills whole room x d₂) e
+              subst (λ (x : Option ℕ). Fills whole room x d₂) e
               (subst (λ (l : List ℕ). Fills l room r₂ d₂) shown (subst (λ (i : ℕ). Fills (head ++ list_of (at_or_after start (attributes_of 8 s)) n) i r₂ d₂) room_is (lists head headed.shows)))
 
           -- there was room for the list
-          pub discover_listless : r₂ ≡ Full → refused (length d₂) ReplyTooLong no_state ≡ discover_of 8 s request body room
+          pub discover_listless : r₂ ≡ None → refused (length d₂) ReplyTooLong no_state ≡ discover_of 8 s request body room
           discover_listless e =
-              let w : room < length whole = fills Full e in
+              let w : room < length whole = fills None e in
               absurd (omega (arith, whole_within room_left))
 
           -- all is put
-          pub discover_listed : (o : ℕ) → r₂ ≡ At o → length d₂ ≡ length d₁ → seen (Reply o) d₂ no_state ≡ discover_of 8 s request body room
+          pub discover_listed : (o : ℕ) → r₂ ≡ Some o → length d₂ ≡ length d₁ → seen (Ok o) d₂ no_state ≡ discover_of 8 s request body room
           discover_listed o e l =
-              seen_reply room d₂ o whole no_state (fills (At o) e) (l ∙ room_is) ∙ fits_in room_left ∙ by_body
+              seen_reply room d₂ o whole no_state (fills (Some o) e) (l ∙ room_is) ∙ fits_in room_left ∙ by_body

@@ -7,6 +7,8 @@ use native.Mathlib.Omega.{arith}
 use lib.ListN.{get_or-eq_default}
 use lib.Dec.{ltb, eqb, eqb→eq}
 use borrow.Author.Tests.{ltb-true, ltb-false}
+use denote.Enum.Bare.{sameb}
+use Rattle.frame.specs.contracts.status.Status as status
 use Rattle.types.proofs.Finite.{by_run}
 use Rattle.frame.specs.CommandIdentifier.{command_code, commands, command_of}
 use Rattle.frame.specs.declared.command_identifier.CommandIdentifier.TheVariants.{Other}
@@ -106,3 +108,16 @@ not_zero w z =
 
 pub refusal_nonzero : (w : Refusal) → 0 < refusal_number w
 refusal_nonzero w = omega (arith, not_zero w)
+
+-- the derived equality tells SUCCESS from the others as its code does
+pub is_success : (s : Status) → sameb status.the_type s Success ≡ eqb (status_code s) 0
+is_success Success = refl
+is_success UnsupCommand = refl
+is_success UnsupportedAttribute = refl
+is_success InvalidValue = refl
+is_success ReadOnly = refl
+is_success InsufficientSpace = refl
+is_success NotFound = refl
+is_success UnreportableAttribute = refl
+is_success InvalidDataType = refl
+is_success UnsupportedCluster = refl

@@ -1,4 +1,5 @@
 -- The laws of records as bytes (`specs/Encoded.antt`), for any record. Assumes nothing.
+use Rattle.std.specs.Prelude.{None, Option, Some}
 use mathlib.Core.Path.{◌≡◌, refl, sym, ap, ◌∙◌, subst}
 use mathlib.Core.Bool.{true, false}
 use mathlib.Core.List.{List, [], ◌∷◌, ◌++◌, append_assoc, append-nil}
@@ -7,8 +8,6 @@ use native.Mathlib.Omega.{arith}
 use lib.ListN.{length, length-append}
 use borrow.Author.Tests.{le-leb, lt-leb, leb-true}
 use Rattle.frame.specs.Inside.Buffer.{putting, put, Shows, Ways}
-use Rattle.frame.specs.declared.reply.Put.{Put}
-use Rattle.frame.specs.declared.reply.Put.TheVariants.{At, Full}
 use Rattle.frame.specs.Encoded.{encode_all, fits}
 use Rattle.frame.proofs.Buffer.{shows_put, shows_full}
 
@@ -44,11 +43,11 @@ module _ {R : Type 0} (encode : R → List ℕ) where
     past_one h = lt-leb (length head + length (encode_all encode (rs ++ (r ∷ [])))) room (omega (arith, size))
 
   -- a record put behind those that the buffer shows
-  pub put_record : (head : List ℕ) (rs : List R) (r : R) (d : List ℕ) (out : ℕ) (p : Put) (after : List ℕ)
+  pub put_record : (head : List ℕ) (rs : List R) (r : R) (d : List ℕ) (out : ℕ) (p : Option ℕ) (after : List ℕ)
       → Shows d out (head ++ encode_all encode rs) → putting p after ≡ put d out (encode r) → Ways encode head (rs ++ (r ∷ [])) (length d) d p after
-  put_record head rs r d out (At o) after s p =
-      let w = shows_put d out (head ++ encode_all encode rs) (encode r) (At o) o after s p refl in
+  put_record head rs r d out (Some o) after s p =
+      let w = shows_put d out (head ++ encode_all encode rs) (encode r) (Some o) o after s p refl in
       record { shows = subst (Shows after o) (joined_as (length d) head rs r) w.shows; same = w.same; fit = fits_one (length d) head rs r w.fits }
-  put_record head rs r d out Full after s p =
-      let w = shows_full d out (head ++ encode_all encode rs) (encode r) Full after s p refl in
+  put_record head rs r d out None after s p =
+      let w = shows_full d out (head ++ encode_all encode rs) (encode r) None after s p refl in
       record { unfit = past_one (length d) head rs r w.0; same = w.1 }

@@ -1,4 +1,5 @@
 -- A pass over the records, whatever is done with each: one record, the loop, and the whole command (`specs/Inside/Passes.antt`). Assumes nothing.
+use Rattle.std.specs.Prelude.{Err, None, Ok, Option, Result, Some}
 use mathlib.Core.Path.{◌≡◌, refl, sym, ap, ◌∙◌, subst}
 use mathlib.Core.Bool.{Bool, true, false}
 use mathlib.Core.List.{List, [], ◌++◌, append-nil}
@@ -10,11 +11,9 @@ use Rattle.types.specs.Number.{zeros}
 use Rattle.frame.specs.declared.header.ZclHeader.{ZclHeader}
 use Rattle.frame.specs.declared.command_identifier.CommandIdentifier.{CommandIdentifier}
 use Rattle.frame.specs.declared.status.Status.{Status}
-use Rattle.frame.specs.declared.reply.Put.{Put}
-use Rattle.frame.specs.declared.reply.Put.TheVariants.{At, Full}
-use Rattle.frame.specs.declared.answer.Answer.{Answer}
+use Rattle.frame.specs.declared.answer.Refusal.{Refusal}
 use Rattle.frame.specs.declared.answer.Refusal.TheVariants.{ReplyTooLong}
-use Rattle.frame.specs.declared.failures.Pass.{Pass}
+use Rattle.frame.specs.declared.failures.Unfinished.{Unfinished}
 use Rattle.frame.specs.Header.{reply_head}
 use Rattle.frame.specs.Inside.Buffer.{putting, put, Shows, Longer, Stays, Ways}
 use Rattle.frame.specs.Answer.{Outcome, no_state, seen, refused}
@@ -85,44 +84,44 @@ going_first doing next len start s d = record {
 
 module _ {S R F : Type 0} {doing : Doing S R F} {next : ℕ → Item R} {len start : ℕ} {s₀ : S} {d₀ : List ℕ} {s : S} {d : List ℕ} {at out : ℕ}
     (g : Going doing next len start s₀ d₀ s d at out) where
-  pub going_done : len ≤ at → Passed doing (records_from next len 0) start s₀ d₀ (Pass.Through out) s d
+  pub going_done : len ≤ at → Passed doing (records_from next len 0) start s₀ d₀ (Ok out) s d
   going_done h head w =
       let x = g.since head w in
       record { failures = x.failures; is = sym x.same ∙ done_here doing (fits doing.bytes (length d₀) (length head)) next len s x.failures at h; shows = x.shows }
 
   module _ (lt : at < len) where
-    pub going_cut : (t : S) (after : List ℕ) → TookNone next s at t → Passed doing (records_from next len 0) start s₀ d₀ Pass.Cut t after
+    pub going_cut : (t : S) (after : List ℕ) → TookNone next s at t → Passed doing (records_from next len 0) start s₀ d₀ (Err Unfinished.Cut) t after
     going_cut t after k head w =
         let x = g.since head w in
         record { failures = x.failures; is = sym x.same ∙ cut_here doing (fits doing.bytes (length d₀) (length head)) next len s x.failures at lt t k }
 
     module _ (ahead : Ahead next) (end : ℕ) (status : Status) (f : F) (t : S) (k : TookOne doing next s at end status f t)
-        (r : Put) (after : List ℕ) (p : putting r after ≡ noting d out status (doing.bytes f)) where
+        (r : Option ℕ) (after : List ℕ) (p : putting r after ≡ noting d out status (doing.bytes f)) where
       -- the failures with this record's, by the answer of the put
-      ways : (head : List ℕ) (h : Shows d₀ start head) (q : Put) → r ≡ q → Ways doing.bytes head (also (g.since head h).failures status f) (length d₀) d q after
+      ways : (head : List ℕ) (h : Shows d₀ start head) (q : Option ℕ) → r ≡ q → Ways doing.bytes head (also (g.since head h).failures status f) (length d₀) d q after
       ways head h q e =
           let x = g.since head h in
-          subst (λ (y : Put). Ways doing.bytes head (also x.failures status f) (length d₀) d y after) e
+          subst (λ (y : Option ℕ). Ways doing.bytes head (also x.failures status f) (length d₀) d y after) e
           (subst (λ (n : ℕ). Ways doing.bytes head (also x.failures status f) n d r after) g.reply_length
           (note_ways doing.bytes head x.failures d out x.shows status f r after p))
 
-      more_since : (o : ℕ) → r ≡ At o → (head : List ℕ) → Shows d₀ start head → Since doing next len s₀ (length d₀) head t after end o
+      more_since : (o : ℕ) → r ≡ Some o → (head : List ℕ) → Shows d₀ start head → Since doing next len s₀ (length d₀) head t after end o
       more_since o e head h =
           let x = g.since head h in
-          let w : Longer doing.bytes head (also x.failures status f) (length d₀) o after = ways head h (At o) e in
+          let w : Longer doing.bytes head (also x.failures status f) (length d₀) o after = ways head h (Some o) e in
           record {
             failures = also x.failures status f;
             shows = w.shows;
             same = sym (more ahead k (fits doing.bytes (length d₀) (length head)) x.failures len lt w.fit) ∙ x.same;
           }
 
-      pub going_more : (o : ℕ) → r ≡ At o → length after ≡ length d → Going doing next len start s₀ d₀ t after end o
+      pub going_more : (o : ℕ) → r ≡ Some o → length after ≡ length d → Going doing next len start s₀ d₀ t after end o
       going_more o e l = record { reply_length = l ∙ g.reply_length; since = more_since o e }
 
-      pub going_stop : r ≡ Full → Passed doing (records_from next len 0) start s₀ d₀ Pass.Full t after
+      pub going_stop : r ≡ None → Passed doing (records_from next len 0) start s₀ d₀ (Err Unfinished.Full) t after
       going_stop e head h =
           let x = g.since head h in
-          let w : Stays doing.bytes head (also x.failures status f) (length d₀) d after = ways head h Full e in
+          let w : Stays doing.bytes head (also x.failures status f) (length d₀) d after = ways head h None e in
           record {
             last = sofar s x.failures;
             failures = also x.failures status f;
@@ -131,8 +130,8 @@ module _ {S R F : Type 0} {doing : Doing S R F} {next : ℕ → Item R} {len sta
 
 -- ---- a pass and its answer
 
-pub performs : {S R F : Type 0} (doing : Doing S R F) → ((f : F) → 0 < length (doing.bytes f)) → (rs : Records R) (start : ℕ) (s : S) (d : List ℕ) (done : Pass) (t : S) (after : List ℕ)
-    → Passed doing rs start s d done t after → length after ≡ length d → (r : Answer) (last : List ℕ) → seen r last no_state ≡ concluded_at after start done
+pub performs : {S R F : Type 0} (doing : Doing S R F) → ((f : F) → 0 < length (doing.bytes f)) → (rs : Records R) (start : ℕ) (s : S) (d : List ℕ) (done : Result ℕ Unfinished) (t : S) (after : List ℕ)
+    → Passed doing rs start s d done t after → length after ≡ length d → (r : Result ℕ Refusal) (last : List ℕ) → seen r last no_state ≡ concluded_at after start done
     → Performs doing rs start s d r t last
 unfolding performed
 performs doing some rs start s d done t after w l r last e head h =
@@ -141,10 +140,10 @@ performs doing some rs start s d done t after w l r last e head h =
 
 -- ---- the header first
 
-module _ {S : Type 0} (request : ZclHeader) (command : CommandIdentifier) (s : S) (room : ℕ) (r : Put) (after : List ℕ)
+module _ {S : Type 0} (request : ZclHeader) (command : CommandIdentifier) (s : S) (room : ℕ) (r : Option ℕ) (after : List ℕ)
     (p : putting r after ≡ put (zeros room) 0 (reply_head request command)) where
   -- a header that fits: the buffer shows it, and the rest comes
-  pub headed_in : (rest : List ℕ → Outcome S) (start : ℕ) → r ≡ At start
+  pub headed_in : (rest : List ℕ → Outcome S) (start : ℕ) → r ≡ Some start
       → (Shows after start (reply_head request command) × (length after ≡ room)) × (rest (reply_head request command) ≡ headed request command s room rest)
   unfolding headed
   headed_in rest start e =
@@ -154,7 +153,7 @@ module _ {S : Type 0} (request : ZclHeader) (command : CommandIdentifier) (s : S
       ((w.shows, w.same ∙ n), rw (le-leb (length head) room (omega (arith, w.fits))))
 
   -- one that does not is 5
-  pub headed_past : (rest : List ℕ → Outcome S) → r ≡ Full → (x : Answer) (d : List ℕ) → seen x d no_state ≡ refused (length after) ReplyTooLong no_state
+  pub headed_past : (rest : List ℕ → Outcome S) → r ≡ None → (x : Result ℕ Refusal) (d : List ℕ) → seen x d no_state ≡ refused (length after) ReplyTooLong no_state
       → seen x d s ≡ headed request command s room rest
   unfolding headed
   headed_past rest e x d q =
@@ -166,7 +165,7 @@ module _ {S : Type 0} (request : ZclHeader) (command : CommandIdentifier) (s : S
       ∙ rw (lt-leb (length head) room (omega (arith, w.0)))
 
   -- THE WHOLE COMMAND: the header, and every record done behind it
-  pub headed_performs : {R F : Type 0} (doing : Doing S R F) (rs : Records R) (start : ℕ) → r ≡ At start → (x : Answer) (t : S) (d : List ℕ) → Performs doing rs start s after x t d
+  pub headed_performs : {R F : Type 0} (doing : Doing S R F) (rs : Records R) (start : ℕ) → r ≡ Some start → (x : Result ℕ Refusal) (t : S) (d : List ℕ) → Performs doing rs start s after x t d
       → seen x d t ≡ headed request command s room (performed doing rs s room)
   headed_performs doing rs start e x t d w =
       let f = headed_in (performed doing rs s room) start e in

@@ -1,4 +1,5 @@
 -- The laws of a reply that lists records as long as they fit (`specs/Shortened.antt`), for any records. Assumes nothing.
+use Rattle.std.specs.Prelude.{Err, None, Ok, Option, Result, Some}
 use mathlib.Core.Path.{◌≡◌, refl, sym, ap, ◌∙◌, subst}
 use mathlib.Core.Bool.{Bool, true, false, cond}
 use mathlib.Core.List.{List, [], ◌∷◌, ◌++◌, append-nil, map, map-append}
@@ -15,10 +16,7 @@ use Rattle.frame.specs.Walk.{Item, item, unread, Ending, done, cut, Records, rec
 use Rattle.frame.specs.Encoded.{encode_all, fits}
 use Rattle.frame.specs.Shortened.{Making, with_record_for, shortened_from, shortened_reply, shortened}
 use Rattle.frame.specs.Inside.Shortened.{Turned, Walked}
-use Rattle.frame.specs.declared.reply.Put.{Put}
-use Rattle.frame.specs.declared.reply.Put.TheVariants.{At, Full}
-use Rattle.frame.specs.declared.answer.Answer.{Answer}
-use Rattle.frame.specs.declared.answer.Answer.TheVariants.{Reply, Refused}
+use Rattle.frame.specs.declared.answer.Refusal.{Refusal}
 use Rattle.frame.specs.declared.answer.Refusal.TheVariants.{RecordCut, ReplyTooLong}
 use Rattle.frame.proofs.Buffer.{PutAt, shows_cleared, shows_put, shows_full}
 use Rattle.frame.proofs.Outcome.{seen_reply, seen_refused}
@@ -29,34 +27,34 @@ use Rattle.frame.proofs.Encoded.{fits_within, put_record}
 
 module _ {Q R : Type 0} (encode : R → List ℕ) (making : Making Q R) (q : Q) (d : List ℕ) (out : ℕ) where
   -- the turn, by the record that is made
-  turned_as : (head : List ℕ) (rs : List R) (r : R) (p : Put) (after : List ℕ) → making (λ x. fits encode (length d) (length head) (rs ++ (x ∷ []))) q ≡ r
+  turned_as : (head : List ℕ) (rs : List R) (r : R) (p : Option ℕ) (after : List ℕ) → making (λ x. fits encode (length d) (length head) (rs ++ (x ∷ []))) q ≡ r
       → Ways encode head (rs ++ (r ∷ [])) (length d) d p after → Ways encode head (with_record_for encode making (length d) (length head) rs q) (length d) d p after
   unfolding with_record_for
   turned_as head rs r p after e w = subst (λ (x : R). Ways encode head (rs ++ (x ∷ [])) (length d) d p after) (sym e) w
 
   -- the record does not depend on the room
-  pub turned_put : (r : R) → ((fit : R → Bool) → making fit q ≡ r) → (p : Put) (after : List ℕ) → putting p after ≡ put d out (encode r) → Turned encode making q d out p after
+  pub turned_put : (r : R) → ((fit : R → Bool) → making fit q ≡ r) → (p : Option ℕ) (after : List ℕ) → putting p after ≡ put d out (encode r) → Turned encode making q d out p after
   turned_put r is p after g head rs w =
       turned_as head rs r p after (is (λ x. fits encode (length d) (length head) (rs ++ (x ∷ [])))) (put_record encode head rs r d out p after w g)
 
   -- or one is tried, and another is made where it does not fit
-  module _ (v r : R) (is : (fit : R → Bool) → making fit q ≡ cond (fit v) v r) (p : Put) (after : List ℕ) (g : putting p after ≡ put d out (encode v)) where
+  module _ (v r : R) (is : (fit : R → Bool) → making fit q ≡ cond (fit v) v r) (p : Option ℕ) (after : List ℕ) (g : putting p after ≡ put d out (encode v)) where
     made : (head : List ℕ) (rs : List R) (b : Bool) → fits encode (length d) (length head) (rs ++ (v ∷ [])) ≡ b → making (λ x. fits encode (length d) (length head) (rs ++ (x ∷ []))) q ≡ cond b v r
     made head rs b e = is (λ x. fits encode (length d) (length head) (rs ++ (x ∷ []))) ∙ ap (λ (c : Bool). cond c v r) e
 
-    tried : (k : Put) → p ≡ k → putting k after ≡ put d out (encode v)
-    tried k e = ap (λ (x : Put). putting x after) (sym e) ∙ g
+    tried : (k : Option ℕ) → p ≡ k → putting k after ≡ put d out (encode v)
+    tried k e = ap (λ (x : Option ℕ). putting x after) (sym e) ∙ g
 
     -- it fits
-    pub turned_tried : (o : ℕ) → p ≡ At o → Turned encode making q d out (At o) after
+    pub turned_tried : (o : ℕ) → p ≡ Some o → Turned encode making q d out (Some o) after
     turned_tried o e head rs w =
-        let x : Longer encode head (rs ++ (v ∷ [])) (length d) o after = put_record encode head rs v d out (At o) after w (tried (At o) e) in
-        turned_as head rs v (At o) after (made head rs true x.fit) x
+        let x : Longer encode head (rs ++ (v ∷ [])) (length d) o after = put_record encode head rs v d out (Some o) after w (tried (Some o) e) in
+        turned_as head rs v (Some o) after (made head rs true x.fit) x
 
     -- it does not
-    pub turned_else : p ≡ Full → (p₂ : Put) (after₂ : List ℕ) → putting p₂ after₂ ≡ put after out (encode r) → Turned encode making q d out p₂ after₂
+    pub turned_else : p ≡ None → (p₂ : Option ℕ) (after₂ : List ℕ) → putting p₂ after₂ ≡ put after out (encode r) → Turned encode making q d out p₂ after₂
     turned_else e p₂ after₂ g₂ head rs w =
-        let x : Stays encode head (rs ++ (v ∷ [])) (length d) d after = put_record encode head rs v d out Full after w (tried Full e) in
+        let x : Stays encode head (rs ++ (v ∷ [])) (length d) d after = put_record encode head rs v d out None after w (tried None e) in
         turned_as head rs r p₂ after₂ (made head rs false x.unfit)
         (put_record encode head rs r d out p₂ after₂ w (g₂ ∙ ap (λ (l : List ℕ). put l out (encode r)) x.same))
 
@@ -82,7 +80,7 @@ module _ {Q R : Type 0} (encode : R → List ℕ) (making : Making Q R) (next : 
     ends_as y e = ap (shortened_reply encode room head) (sym e ∙ g.same)
 
     -- no record is left
-    pub going_done : len ≤ at → seen (Reply out) reply no_state ≡ whole
+    pub going_done : len ≤ at → seen (Ok out) reply no_state ≡ whole
     unfolding shortened_from shortened_reply
     going_done h =
         seen_reply room reply out (head ++ encode_all encode g.records) no_state g.shows same
@@ -95,20 +93,20 @@ module _ {Q R : Type 0} (encode : R → List ℕ) (making : Making Q R) (next : 
         ap (λ (k : ℕ). refused k RecordCut no_state) same
         ∙ ends_as (broken g.records) (walk_cut next len (with_record_for encode making room (length head)) (fits encode room (length head)) g.records at h (sym e))
 
-    module _ (ahead : Ahead next) (h : at < len) (q : Q) (to : ℕ) (e : item q to ≡ next at) (r : Put) (after : List ℕ) (turned : Turned encode making q reply out r after) where
+    module _ (ahead : Ahead next) (h : at < len) (q : Q) (to : ℕ) (e : item q to ≡ next at) (r : Option ℕ) (after : List ℕ) (turned : Turned encode making q reply out r after) where
       abbrev longer : List R
       longer = with_record_for encode making room (length head) g.records q
 
-      way : (p : Put) → r ≡ p → Ways encode head longer room reply p after
+      way : (p : Option ℕ) → r ≡ p → Ways encode head longer room reply p after
       way p k =
-          subst (λ (x : Put). Ways encode head longer room reply x after) k
+          subst (λ (x : Option ℕ). Ways encode head longer room reply x after) k
           (subst (λ (n : ℕ). Ways encode head (with_record_for encode making n (length head) g.records q) n reply r after) same (turned head g.records g.shows))
 
       -- the next one's record fits
-      pub going_more : (o : ℕ) → r ≡ At o → Going encode making next len room head after to o
+      pub going_more : (o : ℕ) → r ≡ Some o → Going encode making next len room head after to o
       unfolding shortened_from
       going_more o k =
-          let w : Longer encode head longer room o after = way (At o) k in
+          let w : Longer encode head longer room o after = way (Some o) k in
           record {
             records = longer;
             shows = w.shows;
@@ -116,11 +114,11 @@ module _ {Q R : Type 0} (encode : R → List ℕ) (making : Making Q R) (next : 
           }
 
       -- it does not: the reply is without it
-      pub going_stop : r ≡ Full → seen (Reply out) after no_state ≡ whole
+      pub going_stop : r ≡ None → seen (Ok out) after no_state ≡ whole
       unfolding shortened_from shortened_reply
       going_stop k =
-          let w : Stays encode head longer room reply after = way Full k in
-          ap (λ (l : List ℕ). seen (Reply out) l no_state) w.same
+          let w : Stays encode head longer room reply after = way None k in
+          ap (λ (l : List ℕ). seen (Ok out) l no_state) w.same
           ∙ seen_reply room reply out (head ++ encode_all encode g.records) no_state g.shows same
           ∙ ends_as (stopped g.records longer) (walk_stop next len (with_record_for encode making room (length head)) (fits encode room (length head)) g.records at ahead q to h (sym e) w.unfit)
 
@@ -136,19 +134,19 @@ module _ {Q R : Type 0} (encode : R → List ℕ) (making : Making Q R) (head : 
   walks requests h = rw (le-leb (length head) room h)
 
   -- a cleared buffer, and the header put there
-  module _ (d₀ : List ℕ) (z : d₀ ≡ zeros room) (r : Put) (d₁ : List ℕ) (p : putting r d₁ ≡ put d₀ 0 head) where
+  module _ (d₀ : List ℕ) (z : d₀ ≡ zeros room) (r : Option ℕ) (d₁ : List ℕ) (p : putting r d₁ ≡ put d₀ 0 head) where
     cleared : length d₀ ≡ room
     cleared = ap length z ∙ length-replicate room 0
 
     -- it does not fit
-    pub shortened_headless : (requests : Records Q) → r ≡ Full → seen (Refused ReplyTooLong) d₁ no_state ≡ shortened encode making head requests room
+    pub shortened_headless : (requests : Records Q) → r ≡ None → seen (Err ReplyTooLong) d₁ no_state ≡ shortened encode making head requests room
     shortened_headless requests q =
         let w = shows_full d₀ 0 [] head r d₁ (shows_cleared room d₀ z) p q in
         let l : length d₀ ≡ room = cleared in
         seen_refused room d₁ ReplyTooLong no_state (w.1 ∙ z) ∙ headless requests (omega (arith, w.0))
 
     -- it fits, and the walk goes on behind it
-    pub shortened_walked : (next : ℕ → Item Q) (len from : ℕ) → r ≡ At from → (a : Answer) (after : List ℕ) → Walked encode making next len d₁ from a after
+    pub shortened_walked : (next : ℕ → Item Q) (len from : ℕ) → r ≡ Some from → (a : Result ℕ Refusal) (after : List ℕ) → Walked encode making next len d₁ from a after
         → seen a after no_state ≡ shortened encode making head (records_from next len 0) room
     shortened_walked next len from q a after walked =
         let w : PutAt d₀ [] head from d₁ = shows_put d₀ 0 [] head r from d₁ (shows_cleared room d₀ z) p q in

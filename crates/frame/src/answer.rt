@@ -4,7 +4,7 @@ ghost use Rattle.frame.specs.Answer.{refusal_number, answer_number, answer_lengt
 
 use super::reply::clear;
 
-#[derive(Clone, Copy)]
+#[derive(Clone, Copy, PartialEq, Eq)]
 pub enum Refusal {
     OtherCluster,
     HeaderShort,
@@ -21,12 +21,12 @@ pub enum Refusal {
     NotASavedForm,
 }
 
-impl Refusal {
-    // The only place in the code that gives a refusal its number.
-    pub fn number(self) -> u8
-        ensures { result ≡ refusal_number self }
-    {
-        match self {
+// The only place in the code that gives a refusal its number.
+impl From<Refusal> for u8 {
+    ghost from_gives = { λ why n. n ≡ refusal_number why };
+
+    fn from(why: Refusal) -> u8 {
+        match why {
             Refusal::OtherCluster => 1,
             Refusal::HeaderShort => 2,
             Refusal::ReservedFrameType => 3,
@@ -45,31 +45,23 @@ impl Refusal {
 }
 
 // A reply of so many bytes, or a refusal.
-#[derive(Clone, Copy)]
-pub enum Answer {
-    Reply(usize),
-    Refused(Refusal),
+pub type Answer = Result<usize, Refusal>;
+
+// Document 01's number of an answer: 0 of a reply.
+pub fn answer_number(answer: Answer) -> u8
+    ensures { result ≡ answer_number answer }
+{
+    match answer {
+        Ok(_) => 0,
+        Err(why) => u8::from(why),
+    }
 }
 
-impl Answer {
-    pub fn number(self) -> u8
-        ensures { result ≡ answer_number self }
-    {
-        match self {
-            Answer::Reply(_) => 0,
-            Answer::Refused(why) => why.number(),
-        }
-    }
-
-    // The length of the reply; 0 of a refusal.
-    pub fn reply_len(self) -> usize
-        ensures { result ≡ answer_length self }
-    {
-        match self {
-            Answer::Reply(n) => n,
-            Answer::Refused(_) => 0,
-        }
-    }
+// The length of the reply; 0 of a refusal.
+pub fn reply_len(answer: Answer) -> usize
+    ensures { result ≡ answer_length answer }
+{
+    answer.unwrap_or(0)
 }
 
 // Refuses: nothing of a reply is left in the buffer.
@@ -77,5 +69,5 @@ pub fn refuse(reply: &mut [u8], why: Refusal) -> Answer
     ensures { seen result reply.new no_state ≡ refused (length reply.old) why no_state }
 {
     clear(reply);
-    Answer::Refused(why)
+    Err(why)
 }

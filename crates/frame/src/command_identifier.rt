@@ -2,7 +2,7 @@
 ghost use Rattle.std.specs.Prelude.{◌≡◌};
 ghost use Rattle.frame.specs.CommandIdentifier.{command_code, command_of};
 
-#[derive(Clone, Copy)]
+#[derive(Clone, Copy, PartialEq, Eq)]
 pub enum CommandIdentifier {
     ReadAttributes,
     ReadAttributesResponse,
@@ -21,10 +21,10 @@ pub enum CommandIdentifier {
     Other(u8),
 }
 
-impl CommandIdentifier {
-    pub fn from_bits(b: u8) -> CommandIdentifier
-        ensures { result ≡ command_of b }
-    {
+impl From<u8> for CommandIdentifier {
+    ghost from_gives = { λ b command. command ≡ command_of b };
+
+    fn from(b: u8) -> CommandIdentifier {
         match b {
             0x00 => CommandIdentifier::ReadAttributes,
             0x01 => CommandIdentifier::ReadAttributesResponse,
@@ -43,11 +43,13 @@ impl CommandIdentifier {
             _ => CommandIdentifier::Other(b),
         }
     }
+}
 
-    pub fn raw(self) -> u8
-        ensures { result ≡ command_code self }
-    {
-        match self {
+impl From<CommandIdentifier> for u8 {
+    ghost from_gives = { λ command b. b ≡ command_code command };
+
+    fn from(command: CommandIdentifier) -> u8 {
+        match command {
             CommandIdentifier::ReadAttributes => 0x00,
             CommandIdentifier::ReadAttributesResponse => 0x01,
             CommandIdentifier::WriteAttributes => 0x02,

@@ -5,20 +5,20 @@ ghost use Rattle.frame.specs.Header.{frame_type_of, has_code, header_of, reply_h
 ghost use Rattle.frame.specs.Inside.Buffer.{putting, put};
 
 use super::command_identifier::CommandIdentifier;
-use super::reply::{Put, clear, put_run};
+use super::reply::{clear, put_run};
 use types::ids::CommandId;
 use types::number::u16_at;
 
 // The control byte of a reply: a global command from server to client that wants no Default Response.
 pub const RESPONSE_FRAME_CONTROL: u8 = 0x18;
 
-#[derive(Clone, Copy)]
+#[derive(Clone, Copy, PartialEq, Eq)]
 pub struct FrameControl(pub u8);
 
-#[derive(Clone, Copy)]
+#[derive(Clone, Copy, PartialEq, Eq)]
 pub struct ManufacturerCode(pub u16);
 
-#[derive(Clone, Copy)]
+#[derive(Clone, Copy, PartialEq, Eq)]
 pub enum FrameType {
     GlobalCommand,
     ClusterCommand,
@@ -57,22 +57,16 @@ pub struct ZclHeader {
     pub body: usize,
 }
 
-#[derive(Clone, Copy)]
-pub enum HeaderRead {
-    Header(ZclHeader),
-    Short,
-}
-
-// The header at the start of a frame, or that the frame is too short to have one.
-pub fn read_header(frame: &[u8]) -> HeaderRead
+// The header at the start of a frame, if the frame is long enough to have one.
+pub fn read_header(frame: &[u8]) -> Option<ZclHeader>
     ensures { result ≡ header_of frame.now }
 {
     if frame.len() < 3 {
-        return HeaderRead::Short;
+        return None;
     }
     let control = FrameControl(frame[0]);
     if !control.is_manufacturer_specific() {
-        return HeaderRead::Header(ZclHeader {
+        return Some(ZclHeader {
             frame_control: control,
             manufacturer_code: ManufacturerCode(0),
             sequence_number: frame[1],
@@ -81,9 +75,9 @@ pub fn read_header(frame: &[u8]) -> HeaderRead
         });
     }
     if frame.len() < 5 {
-        return HeaderRead::Short;
+        return None;
     }
-    HeaderRead::Header(ZclHeader {
+    Some(ZclHeader {
         frame_control: control,
         manufacturer_code: ManufacturerCode(u16_at(frame, 1)),
         sequence_number: frame[3],
@@ -97,19 +91,23 @@ pub fn write_response_header(
     reply: &mut [u8],
     request: ZclHeader,
     command: CommandIdentifier,
-) -> Put
+) -> Option<usize>
     ensures { putting result reply.new ≡ put reply.old 0 (reply_head request command) }
 {
     let head = [
         RESPONSE_FRAME_CONTROL,
         request.sequence_number,
-        command.raw(),
+        u8::from(command),
     ];
     put_run(reply, 0, &head)
 }
 
 // A reply is begun: its first bytes, and zeros behind.
-pub fn begin_reply(reply: &mut [u8], request: ZclHeader, command: CommandIdentifier) -> Put
+pub fn begin_reply(
+    reply: &mut [u8],
+    request: ZclHeader,
+    command: CommandIdentifier,
+) -> Option<usize>
     ensures { putting result reply.new ≡ put (zeros (length reply.old)) 0 (reply_head request command) }
 {
     clear(reply);

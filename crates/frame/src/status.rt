@@ -2,7 +2,7 @@
 ghost use Rattle.std.specs.Prelude.{◌≡◌};
 ghost use Rattle.frame.specs.Status.{status_code};
 
-#[derive(Clone, Copy)]
+#[derive(Clone, Copy, PartialEq, Eq)]
 pub enum Status {
     Success,
     UnsupCommand,
@@ -16,11 +16,11 @@ pub enum Status {
     UnsupportedCluster,
 }
 
-impl Status {
-    pub fn to_u8(self) -> u8
-        ensures { result ≡ status_code self }
-    {
-        match self {
+impl From<Status> for u8 {
+    ghost from_gives = { λ status code. code ≡ status_code status };
+
+    fn from(status: Status) -> u8 {
+        match status {
             Status::Success => 0x00,
             Status::UnsupCommand => 0x81,
             Status::UnsupportedAttribute => 0x86,

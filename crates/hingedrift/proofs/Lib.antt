@@ -1,10 +1,7 @@
 -- Laws, a file for an idea. The proofs of the functions stand in the directories, under the functions' names.
 -- from what the functions of crate `reporting` ensure to what the functions towards C leave
 pub mod Bridge
--- from what the functions of crate `server` ensure to what C has after a call
-pub mod Handed
--- from what the functions of crate `readers` ensure to what C has after a call
-pub mod Telling
+-- no second answer fits a contract
 pub mod Unique
 -- entries that fit a table's bytes, after events
 pub mod Kept

@@ -1,5 +1,6 @@
 -- What the functions towards C left, by their contracts, is what the uses of the table that were made leave and tell: the bytes are always those of the
 -- table. So demand 3 holds of it. Assumes nothing.
+use Rattle.std.specs.Prelude.{Err, Ok}
 use mathlib.Core.Path.{◌≡◌, refl, sym, ap, ◌∙◌, subst}
 use mathlib.Core.Bool.{Bool, true, false, cond}
 use mathlib.Core.List.{List, [], ◌∷◌, ◌++◌, map}
@@ -13,9 +14,8 @@ use Rattle.frame.specs.declared.answer.Refusal.TheVariants.{NotAStore, NotATable
 use Rattle.frame.specs.Answer.{Outcome, within, refusal_number, refused}
 use Rattle.store.specs.Layout.{is_store}
 use Rattle.reporting.specs.declared.entry.Entry.{Entry}
-use Rattle.reporting.specs.declared.table.Change.TheVariants as ChangeV
 use Rattle.reporting.specs.Entries.{accepts_l}
-use Rattle.reporting.specs.Table.{capacity, holding, change_told, ReportTold}
+use Rattle.reporting.specs.Table.{capacity, holding, ReportTold}
 use Rattle.reporting.specs.Carried.{size_ok, is_table, table_in, table_bytes, Written}
 use Rattle.reporting.specs.Lent.{on_lent, ask_lent, mark_lent, clear_lent, ChangeLeft, left_as, configure_lent, bytes_after, table_number}
 use Rattle.reporting.specs.Claims.RoundTrip.{AllClean}
@@ -85,11 +85,6 @@ module _ (bs : List ℕ) (l : List Entry) (h : Held bs l) where
   are_sized : size_ok capacity bs ≡ true
   are_sized = eq-eqb _ _ (ap length h.bytes ∙ length_table capacity l h.kept.small)
 
--- what configuring says of whether it was accepted
-accepted_back : (b : Bool) → eqb (bit (change_told (cond b ChangeV.Done ChangeV.Full)).accepted) 1 ≡ b
-accepted_back true = refl
-accepted_back false = refl
-
 bit_back : (b : Bool) → eqb (bit b) 1 ≡ b
 bit_back true = refl
 bit_back false = refl
@@ -106,8 +101,8 @@ module _ (was form : List ℕ) (number : ℕ) (table : List ℕ) (p : left numbe
   abbrev Said : Bool → Bool → ChangeLeft
   Said size is =
       cond size
-      (cond is (left_as ChangeV.Done (table_bytes capacity (saved_in (form_in form) form))) (left_as (ChangeV.Refused NotASavedForm) (table_bytes capacity [])))
-      (left_as (ChangeV.Refused NotATable) was)
+      (cond is (left_as (Ok true) (table_bytes capacity (saved_in (form_in form) form))) (left_as (Err NotASavedForm) (table_bytes capacity [])))
+      (left_as (Err NotATable) was)
 
   abbrev IsSaid : Bool → Bool → Type 0
   IsSaid size is = left number table no_result ≡ left (Said size is).told.number (Said size is).bytes no_result
@@ -204,7 +199,7 @@ call_is (configure a g number accepted table) bs l h p = go (ltb 1 g.mark) (p �
         record {
           events =
               ap (λ (x : Left ℕ). cond (eqb x.result 1) (configured (key_at a) (config_as g) ∷ []) []) o
-              ∙ ap (λ (b : Bool). cond b (configured (key_at a) (config_as g) ∷ []) []) (accepted_back (accepts_l capacity (key_at a) l));
+              ∙ ap (λ (b : Bool). cond b (configured (key_at a) (config_as g) ∷ []) []) (bit_back _);
           table = ap (λ (x : Left ℕ). x.table) o;
         }
 call_is (clear a number table) bs l h p =

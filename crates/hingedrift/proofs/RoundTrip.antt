@@ -1,4 +1,5 @@
 -- The saved form towards C: what its two calls leave (specs/Claims/Left.antt), and both ways (specs/Claims/RoundTrip.antt). Assumes nothing.
+use Rattle.std.specs.Prelude.{Err, Ok}
 use mathlib.Core.Path.{◌≡◌, refl, sym, ap, ◌∙◌}
 use mathlib.Core.Bool.{Bool, true, false, cond}
 use mathlib.Core.List.{List, []}
@@ -13,7 +14,6 @@ use Rattle.frame.specs.Reply.{padded}
 use Rattle.frame.specs.Answer.{refusal_number, Outcome, no_state, replied, refused}
 use Rattle.frame.proofs.Buffer.{take_padded}
 use Rattle.reporting.specs.declared.entry.Entry.{Entry}
-use Rattle.reporting.specs.declared.table.Change.TheVariants.{Done, Refused}
 use Rattle.reporting.specs.Table.{capacity}
 use Rattle.reporting.specs.Carried.{count_in, size_ok, table_in, table_bytes, is_table}
 use Rattle.reporting.specs.Lent.{on_lent, left_as, ChangeLeft}
@@ -63,7 +63,7 @@ hd_save_length bs size = says_long [] size _ (save_says bs size)
 -- by the table's size and by whether the bytes are a saved form
 by : List ℕ → List ℕ → Bool → Bool → ChangeLeft
 by was form sized saved =
-    cond sized (cond saved (left_as Done (table_bytes capacity (saved_in (form_in form) form))) (left_as (Refused NotASavedForm) (table_bytes capacity []))) (left_as (Refused NotATable) was)
+    cond sized (cond saved (left_as (Ok true) (table_bytes capacity (saved_in (form_in form) form))) (left_as (Err NotASavedForm) (table_bytes capacity []))) (left_as (Err NotATable) was)
 
 as_left : ChangeLeft → Left (Unit {0})
 as_left x = left x.told.number x.bytes no_result

@@ -1,38 +1,32 @@
 // The readers' functions: for each reply, a check of the whole frame and record k of a frame that passes it. Results are set to 0 first,
 // so that a refusal leaves zeros, and a frame without a record k as well.
 ghost use Rattle.std.specs.Prelude.{◌≡◌};
-ghost use Rattle.readers.specs.Answers.{count_is};
 ghost use Rattle.readers.specs.Told.{told, count_told, value_as, value_fields, read_as, report_as, write_as, configure_as, setting_as, sized_as, discover_as, response_as};
 ghost use Rattle.hingedrift.specs.Reading.{read_checked, write_checked, configure_checked, configuration_checked, report_checked, discover_checked, read_recorded, report_recorded, write_recorded, configure_recorded, configuration_recorded, discover_recorded, response_told};
 
+use frame::answer::Refusal;
 use readers::configuration_reply::{
     ConfigurationReplyRecord, check_configuration_reply, configuration_reply_record,
 };
-use readers::configure_reply::{
-    ConfigureReplyRecord, check_configure_reply, configure_reply_record,
-};
-use readers::default_reply::{DefaultReply, read_default_response};
-use readers::discover_reply::{
-    DiscoverReply, DiscoverReplyRecord, check_discover_reply, discover_reply_record,
-};
-use readers::pass::Count;
+use readers::configure_reply::{check_configure_reply, configure_reply_record};
+use readers::default_reply::read_default_response;
+use readers::discover_reply::{check_discover_reply, discover_reply_record};
 use readers::read_reply::{ReadReplyRecord, check_read_reply, read_reply_record};
-use readers::report_frame::{ReportFrameRecord, check_report_frame, report_frame_record};
+use readers::report_frame::{check_report_frame, report_frame_record};
 use readers::value::ValueIn;
-use readers::write_reply::{WriteReplyRecord, check_write_reply, write_reply_record};
-use types::value::Number;
+use readers::write_reply::{check_write_reply, write_reply_record};
 
 // Hands over a count.
-fn hand_count(count: Count, records: &mut usize) -> u8
-    ensures { told result records.new ≡ count_told (count_is count) }
+fn hand_count(count: Result<usize, Refusal>, records: &mut usize) -> u8
+    ensures { told result records.new ≡ count_told count }
 {
     *records = 0;
     match count {
-        Count::Records(n) => {
+        Ok(n) => {
             *records = n;
             0
         }
-        Count::Refused(why) => why.number(),
+        Err(why) => u8::from(why),
     }
 }
 
@@ -53,8 +47,7 @@ fn hand_value(
     *value_len = v.len;
     *numbered = 0;
     *number = 0;
-    let says = v.number;
-    if let Number::Value(z) = says {
+    if let Some(z) = v.number {
         *numbered = 1;
         *number = z;
     }
@@ -65,8 +58,7 @@ fn hand_value(
 pub extern "C" fn hd_read_check(frame: &[u8], records: &mut usize) -> u8
     ensures { told result records.new ≡ read_checked frame.now }
 {
-    let count = check_read_reply(frame);
-    hand_count(count, records)
+    hand_count(check_read_reply(frame), records)
 }
 
 #[unsafe(no_mangle)]
@@ -92,28 +84,35 @@ pub extern "C" fn hd_read_record(
     *value_len = 0;
     *numbered = 0;
     *number = 0;
-    let says = read_reply_record(frame, k);
-    match says {
-        ReadReplyRecord::Value {
-            id: attribute,
-            value: v,
-        } => {
+    match read_reply_record(frame, k) {
+        Ok(
+            Some(
+                ReadReplyRecord::Value {
+                    id: attribute,
+                    value: v,
+                },
+            ),
+        ) => {
             *found = 1;
             *id = attribute.0;
             hand_value(v, type_id, value, value_len, numbered, number);
             0
         }
-        ReadReplyRecord::Failure {
-            id: attribute,
-            status: why,
-        } => {
+        Ok(
+            Some(
+                ReadReplyRecord::Failure {
+                    id: attribute,
+                    status: why,
+                },
+            ),
+        ) => {
             *found = 1;
             *id = attribute.0;
             *status = why;
             0
         }
-        ReadReplyRecord::Past => 0,
-        ReadReplyRecord::Refused(why) => why.number(),
+        Ok(None) => 0,
+        Err(why) => u8::from(why),
     }
 }
 
@@ -122,8 +121,7 @@ pub extern "C" fn hd_read_record(
 pub extern "C" fn hd_write_check(frame: &[u8], failures: &mut usize) -> u8
     ensures { told result failures.new ≡ write_checked frame.now }
 {
-    let count = check_write_reply(frame);
-    hand_count(count, failures)
+    hand_count(check_write_reply(frame), failures)
 }
 
 #[unsafe(no_mangle)]
@@ -139,19 +137,15 @@ pub extern "C" fn hd_write_record(
     *found = 0;
     *status = 0;
     *id = 0;
-    let says = write_reply_record(frame, k);
-    match says {
-        WriteReplyRecord::Failure {
-            status: why,
-            id: attribute,
-        } => {
+    match write_reply_record(frame, k) {
+        Ok(Some(failure)) => {
             *found = 1;
-            *status = why;
-            *id = attribute.0;
+            *status = failure.status;
+            *id = failure.id.0;
             0
         }
-        WriteReplyRecord::Past => 0,
-        WriteReplyRecord::Refused(why) => why.number(),
+        Ok(None) => 0,
+        Err(why) => u8::from(why),
     }
 }
 
@@ -160,8 +154,7 @@ pub extern "C" fn hd_write_record(
 pub extern "C" fn hd_configure_check(frame: &[u8], failures: &mut usize) -> u8
     ensures { told result failures.new ≡ configure_checked frame.now }
 {
-    let count = check_configure_reply(frame);
-    hand_count(count, failures)
+    hand_count(check_configure_reply(frame), failures)
 }
 
 #[unsafe(no_mangle)]
@@ -179,21 +172,16 @@ pub extern "C" fn hd_configure_record(
     *status = 0;
     *direction = 0;
     *id = 0;
-    let says = configure_reply_record(frame, k);
-    match says {
-        ConfigureReplyRecord::Failure {
-            status: why,
-            direction: way,
-            id: attribute,
-        } => {
+    match configure_reply_record(frame, k) {
+        Ok(Some(failure)) => {
             *found = 1;
-            *status = why;
-            *direction = way;
-            *id = attribute.0;
+            *status = failure.status;
+            *direction = failure.direction;
+            *id = failure.id.0;
             0
         }
-        ConfigureReplyRecord::Past => 0,
-        ConfigureReplyRecord::Refused(why) => why.number(),
+        Ok(None) => 0,
+        Err(why) => u8::from(why),
     }
 }
 
@@ -202,8 +190,7 @@ pub extern "C" fn hd_configure_record(
 pub extern "C" fn hd_configuration_check(frame: &[u8], records: &mut usize) -> u8
     ensures { told result records.new ≡ configuration_checked frame.now }
 {
-    let count = check_configuration_reply(frame);
-    hand_count(count, records)
+    hand_count(check_configuration_reply(frame), records)
 }
 
 #[unsafe(no_mangle)]
@@ -229,14 +216,17 @@ pub extern "C" fn hd_configuration_record(
     *minimum = 0;
     *maximum = 0;
     *change = 0;
-    let says = configuration_reply_record(frame, k);
-    match says {
-        ConfigurationReplyRecord::Setting {
-            direction: way,
-            id: attribute,
-            type_id: code,
-            config,
-        } => {
+    match configuration_reply_record(frame, k) {
+        Ok(
+            Some(
+                ConfigurationReplyRecord::Setting {
+                    direction: way,
+                    id: attribute,
+                    type_id: code,
+                    config,
+                },
+            ),
+        ) => {
             *found = 1;
             *direction = way;
             *id = attribute.0;
@@ -246,19 +236,23 @@ pub extern "C" fn hd_configuration_record(
             *change = config.reportable_change;
             0
         }
-        ConfigurationReplyRecord::Failure {
-            status: why,
-            direction: way,
-            id: attribute,
-        } => {
+        Ok(
+            Some(
+                ConfigurationReplyRecord::Failure {
+                    status: why,
+                    direction: way,
+                    id: attribute,
+                },
+            ),
+        ) => {
             *found = 1;
             *status = why;
             *direction = way;
             *id = attribute.0;
             0
         }
-        ConfigurationReplyRecord::Past => 0,
-        ConfigurationReplyRecord::Refused(why) => why.number(),
+        Ok(None) => 0,
+        Err(why) => u8::from(why),
     }
 }
 
@@ -269,17 +263,13 @@ pub extern "C" fn hd_discover_check(frame: &[u8], complete: &mut u8, records: &m
 {
     *complete = 0;
     *records = 0;
-    let says = check_discover_reply(frame);
-    match says {
-        DiscoverReply::Records {
-            complete: all,
-            count,
-        } => {
-            *complete = all;
-            *records = count;
+    match check_discover_reply(frame) {
+        Ok(list) => {
+            *complete = list.complete;
+            *records = list.count;
             0
         }
-        DiscoverReply::Refused(why) => why.number(),
+        Err(why) => u8::from(why),
     }
 }
 
@@ -296,19 +286,15 @@ pub extern "C" fn hd_discover_record(
     *found = 0;
     *id = 0;
     *type_id = 0;
-    let says = discover_reply_record(frame, k);
-    match says {
-        DiscoverReplyRecord::Attribute {
-            id: attribute,
-            type_id: code,
-        } => {
+    match discover_reply_record(frame, k) {
+        Ok(Some(attribute)) => {
             *found = 1;
-            *id = attribute.0;
-            *type_id = code.0;
+            *id = attribute.id.0;
+            *type_id = attribute.type_id.0;
             0
         }
-        DiscoverReplyRecord::Past => 0,
-        DiscoverReplyRecord::Refused(why) => why.number(),
+        Ok(None) => 0,
+        Err(why) => u8::from(why),
     }
 }
 
@@ -319,17 +305,13 @@ pub extern "C" fn hd_default_response(frame: &[u8], command: &mut u8, status: &m
 {
     *command = 0;
     *status = 0;
-    let says = read_default_response(frame);
-    match says {
-        DefaultReply::Status {
-            command: of,
-            status: why,
-        } => {
-            *command = of.0;
-            *status = why;
+    match read_default_response(frame) {
+        Ok(response) => {
+            *command = response.command.0;
+            *status = response.status;
             0
         }
-        DefaultReply::Refused(why) => why.number(),
+        Err(why) => u8::from(why),
     }
 }
 
@@ -338,8 +320,7 @@ pub extern "C" fn hd_default_response(frame: &[u8], command: &mut u8, status: &m
 pub extern "C" fn hd_report_check(frame: &[u8], records: &mut usize) -> u8
     ensures { told result records.new ≡ report_checked frame.now }
 {
-    let count = check_report_frame(frame);
-    hand_count(count, records)
+    hand_count(check_report_frame(frame), records)
 }
 
 #[unsafe(no_mangle)]
@@ -363,18 +344,14 @@ pub extern "C" fn hd_report_record(
     *value_len = 0;
     *numbered = 0;
     *number = 0;
-    let says = report_frame_record(frame, k);
-    match says {
-        ReportFrameRecord::Value {
-            id: attribute,
-            value: v,
-        } => {
+    match report_frame_record(frame, k) {
+        Ok(Some(record)) => {
             *found = 1;
-            *id = attribute.0;
-            hand_value(v, type_id, value, value_len, numbered, number);
+            *id = record.id.0;
+            hand_value(record.value, type_id, value, value_len, numbered, number);
             0
         }
-        ReportFrameRecord::Past => 0,
-        ReportFrameRecord::Refused(why) => why.number(),
+        Ok(None) => 0,
+        Err(why) => u8::from(why),
     }
 }

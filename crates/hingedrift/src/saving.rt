@@ -5,7 +5,7 @@ ghost use Rattle.hingedrift.specs.Tables.{left, no_result};
 ghost use Rattle.hingedrift.specs.Serving.{handed};
 ghost use Rattle.hingedrift.specs.Saving.{save_left, restore_left};
 
-use reporting::table::Change;
+use frame::answer::{answer_number, reply_len};
 use saved::restore::restore;
 use saved::save::save;
 
@@ -15,8 +15,8 @@ pub extern "C" fn hd_save(table: &[u8], saved: &mut [u8], saved_used: &mut usize
     ensures { handed result saved_used.new saved.new no_state ≡ save_left table.now (length saved.old) }
 {
     let answer = save(table, saved);
-    *saved_used = answer.reply_len();
-    answer.number()
+    *saved_used = reply_len(answer);
+    answer_number(answer)
 }
 
 // Makes a table of a saved form; of other bytes an empty one.
@@ -24,8 +24,8 @@ pub extern "C" fn hd_save(table: &[u8], saved: &mut [u8], saved_used: &mut usize
 pub extern "C" fn hd_restore(table: &mut [u8], saved: &[u8]) -> u8
     ensures { left result table.new no_result ≡ restore_left table.old saved.now }
 {
-    let Change::Refused(why) = restore(table, saved) else {
-        return 0;
-    };
-    why.number()
+    match restore(table, saved) {
+        Ok(()) => 0,
+        Err(why) => u8::from(why),
+    }
 }

@@ -5,13 +5,14 @@ ghost use Rattle.report.specs.Turn.{after_turn};
 ghost use Rattle.server.specs.Lent.{lent};
 ghost use Rattle.hingedrift.specs.Serving.{handed, number_handed, number_left, unsupported_left, report_left, turn_left, handle_left};
 
+use frame::answer::{answer_number, reply_len};
 use frame::header::ManufacturerCode;
 use report::report::report;
 use report::turn::report_turn;
 use server::serve::handle_request_lent;
 use server::unsupported_cluster::unsupported_cluster;
 use store::lookup::name_of;
-use store::value::{Numbered, number_of};
+use store::value::number_of;
 use types::ids::{AttributeId, ClusterId};
 
 // The number of an attribute's value. A Uint32 with its top bit set is not negative.
@@ -21,13 +22,12 @@ pub extern "C" fn hd_number(store: &[u8], attribute: u16, value: &mut i64) -> u8
 {
     *value = 0;
     let name = name_of(ManufacturerCode(0), AttributeId(attribute));
-    let says = number_of(store, name);
-    match says {
-        Numbered::Is(z) => {
+    match number_of(store, name) {
+        Ok(z) => {
             *value = z;
             0
         }
-        Numbered::Refused(why) => why.number(),
+        Err(why) => u8::from(why),
     }
 }
 
@@ -52,8 +52,8 @@ pub extern "C" fn hd_handle_request(
         request,
         reply,
     );
-    *reply_used = answer.reply_len();
-    answer.number()
+    *reply_used = reply_len(answer);
+    answer_number(answer)
 }
 
 // Answers a request for a cluster that is not served.
@@ -69,8 +69,8 @@ pub extern "C" fn hd_unsupported_cluster(
     ensures { handed result reply_used.new reply.new no_state ≡ unsupported_left served.now cluster unicast request.now (length reply.old) }
 {
     let answer = unsupported_cluster(served, ClusterId(cluster), unicast != 0, request, reply);
-    *reply_used = answer.reply_len();
-    answer.number()
+    *reply_used = reply_len(answer);
+    answer_number(answer)
 }
 
 // Writes a Report Attributes frame.
@@ -85,8 +85,8 @@ pub extern "C" fn hd_report(
     ensures { handed result frame_used.new frame.new no_state ≡ report_left store.now sequence ids.now (length frame.old) }
 {
     let answer = report(store, sequence, ids, frame);
-    *frame_used = answer.reply_len();
-    answer.number()
+    *frame_used = reply_len(answer);
+    answer_number(answer)
 }
 
 // Writes a Report Attributes frame of all that is due, and marks what is in it. `last` goes in and comes back: above ffff it is none. The parameter
@@ -106,6 +106,6 @@ pub extern "C" fn hd_report_turn(
     let turned = report_turn(store, table, sequence, now, *last, frame);
     let answer = turned.answer;
     *last = turned.last;
-    *frame_used = answer.reply_len();
-    answer.number()
+    *frame_used = reply_len(answer);
+    answer_number(answer)
 }

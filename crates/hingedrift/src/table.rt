@@ -6,8 +6,8 @@ use frame::answer::Refusal;
 use frame::reply::clear;
 use reporting::carried::{TABLE_BYTES, is_table};
 use reporting::entry::{Key, ReportingConfig};
-use reporting::lent::{ask_lent, clear_lent, configuration_lent, configure_in, mark_lent};
-use reporting::table::{Change, Report, Setting};
+use reporting::held::TableMut;
+use reporting::lent::{ask_lent, clear_lent, configuration_lent, mark_lent};
 use types::ids::{AttributeId, ClusterId};
 
 // The key of a cluster and an attribute, as C hands them over.
@@ -21,12 +21,13 @@ fn key_of(cluster: u16, attribute: u16) -> Key
 }
 
 // An empty table, which is all zeros.
+#[tactic(auto, using(crate::proofs::Bridge::new_refused, crate::proofs::Bridge::new_cleared))]
 #[unsafe(no_mangle)]
 pub extern "C" fn hd_table_new(table: &mut [u8]) -> u8
     ensures { left result table.new no_result ≡ new_left table.old }
 {
     if table.len() != TABLE_BYTES {
-        return Refusal::NotATable.number();
+        return u8::from(Refusal::NotATable);
     }
     clear(table);
     0
@@ -48,10 +49,10 @@ pub extern "C" fn hd_configure(
 {
     *accepted = 0;
     if !is_table(table) {
-        return Refusal::NotATable.number();
+        return u8::from(Refusal::NotATable);
     }
     if 1 < mark {
-        return Refusal::NotASavedForm.number();
+        return u8::from(Refusal::NotASavedForm);
     }
     let config = ReportingConfig {
         min_interval: minimum,
@@ -59,14 +60,9 @@ pub extern "C" fn hd_configure(
         reportable_change: change,
         unsigned: mark == 1,
     };
-    match configure_in(table, key_of(cluster, attribute), config) {
-        Change::Done => {
-            *accepted = 1;
-            0
-        }
-        Change::Full => 0,
-        Change::Refused(why) => why.number(),
-    }
+    let mut held = TableMut { bytes: table };
+    *accepted = u8::from(held.configure(key_of(cluster, attribute), config));
+    0
 }
 
 // Takes an attribute's configuration out of the table.
@@ -77,7 +73,7 @@ pub extern "C" fn hd_clear(table: &mut [u8], cluster: u16, attribute: u16) -> u8
     if clear_lent(table, key_of(cluster, attribute)) {
         return 0;
     }
-    Refusal::NotATable.number()
+    u8::from(Refusal::NotATable)
 }
 
 // An attribute's configuration: 1 through `found` where it has one, its three numbers and its mark.
@@ -100,16 +96,16 @@ pub extern "C" fn hd_configuration(
     *change = 0;
     *mark = 0;
     match configuration_lent(table, key_of(cluster, attribute)) {
-        Setting::Given(config) => {
+        Ok(Some(config)) => {
             *found = 1;
             *minimum = config.min_interval;
             *maximum = config.max_interval;
             *change = config.reportable_change;
-            *mark = if config.unsigned { 1 } else { 0 };
+            *mark = u8::from(config.unsigned);
             0
         }
-        Setting::Nothing => 0,
-        Setting::Refused(why) => why.number(),
+        Ok(None) => 0,
+        Err(why) => u8::from(why),
     }
 }
 
@@ -127,12 +123,11 @@ pub extern "C" fn hd_ask(
 {
     *due = 0;
     match ask_lent(table, key_of(cluster, attribute), now, value) {
-        Report::Due => {
-            *due = 1;
+        Ok(is_due) => {
+            *due = u8::from(is_due);
             0
         }
-        Report::NotDue => 0,
-        Report::Refused(why) => why.number(),
+        Err(why) => u8::from(why),
     }
 }
 
@@ -150,5 +145,5 @@ pub extern "C" fn hd_mark(
     if mark_lent(table, key_of(cluster, attribute), now, value) {
         return 0;
     }
-    Refusal::NotATable.number()
+    u8::from(Refusal::NotATable)
 }

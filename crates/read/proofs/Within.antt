@@ -1,4 +1,5 @@
 -- What every reply to a read has: it fits its room, and its records are for the first ids of the request. Assumes nothing.
+use Rattle.std.specs.Prelude.{None, Option, Some}
 use mathlib.Core.Path.{◌≡◌, refl}
 use mathlib.Core.Bool.{Bool, true, false, cond}
 use mathlib.Core.List.{List, [], map}
@@ -10,8 +11,7 @@ use Rattle.frame.specs.declared.header.ZclHeader.{ZclHeader}
 use Rattle.frame.specs.declared.command_identifier.CommandIdentifier.TheVariants.{ReadAttributesResponse}
 use Rattle.frame.specs.declared.status.Status.TheVariants.{InsufficientSpace}
 use Rattle.frame.proofs.Shortened.{did, Prefix, shortened_within, shortened_prefix}
-use Rattle.store.specs.declared.lookup.Found.{Found}
-use Rattle.store.specs.declared.lookup.Found.TheVariants.{At, Nothing}
+use Rattle.store.specs.declared.lookup.Attribute.{Attribute}
 use Rattle.store.specs.Contents.{name_of, find_of}
 use Rattle.store.specs.Value.{value_of}
 use Rattle.read.specs.Read.{ReadRecord, value, failure, encode, ids_from, record_by, record_for, read_of}
@@ -21,10 +21,10 @@ id_of (value id t v) = id
 id_of (failure id why) = id
 
 -- a record is for the id that was asked
-pub record_id : (s : List ℕ) (fit : ReadRecord → Bool) (id : ℕ) (f : Found) → id_of (record_by s fit id f) ≡ id
+pub record_id : (s : List ℕ) (fit : ReadRecord → Bool) (id : ℕ) (f : Option Attribute) → id_of (record_by s fit id f) ≡ id
 unfolding record_by
-record_id s fit id Nothing = refl
-record_id s fit id (At a) = go (fit (value id a.type_id.0 (value_of s a)))
+record_id s fit id None = refl
+record_id s fit id (Some a) = go (fit (value id a.type_id.0 (value_of s a)))
   where
     go : (b : Bool) → id_of (cond b (value id a.type_id.0 (value_of s a)) (failure id (status_code InsufficientSpace))) ≡ id
     go true = refl

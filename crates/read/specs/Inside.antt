@@ -1,10 +1,9 @@
 -- Inside. What inner functions say; nothing that a caller must believe.
-use Rattle.std.specs.Prelude.{ℕ}
+use Rattle.std.specs.Prelude.{ℕ, Option, Some, None}
 use Rattle.frame.specs.Walk.{Item, item, unread}
-use Rattle.read.specs.declared.attributes.NextId.{NextId}
-use Rattle.read.specs.declared.attributes.NextId.TheVariants.{Id, Cut}
+use Rattle.types.specs.declared.ids.AttributeId.{AttributeId}
 
 -- what an answer says of the id that stands somewhere
-abbrev pub item_of : NextId → Item ℕ
-item_of (Id id next) = item id.0 next
-item_of Cut = unread
+abbrev pub item_of : Option (AttributeId × ℕ) → Item ℕ
+item_of (Some (id, next)) = item id.0 next
+item_of None = unread

@@ -1,5 +1,7 @@
 -- From what a command sends to what is read of it: where its bytes are those of a reply's content that can be sent, reading gives that
 -- content. Assumes nothing.
+use Rattle.frame.specs.declared.answer.Refusal.{Refusal}
+use Rattle.std.specs.Prelude.{Ok, Result}
 use mathlib.Core.Path.{◌≡◌, sym, ap, ◌∙◌}
 use mathlib.Core.Bool.{Bool, true}
 use mathlib.Core.List.{List, ◌++◌}
@@ -8,7 +10,6 @@ use lib.ListN.{take, drop}
 use Rattle.types.proofs.Numbers.{bytes_drop}
 use Rattle.frame.specs.declared.header.ZclHeader.{ZclHeader}
 use Rattle.frame.specs.declared.command_identifier.CommandIdentifier.{CommandIdentifier}
-use Rattle.frame.specs.declared.answer.Answer.TheVariants.{Reply}
 use Rattle.frame.specs.Header.{reply_head}
 use Rattle.frame.specs.Answer.{Outcome, seen}
 use Rattle.store.specs.Layout.{is_store}
@@ -16,14 +17,13 @@ use Rattle.reporting.specs.declared.entry.Entry.{Entry}
 use Rattle.reporting.specs.Table.{holding}
 use Rattle.server.specs.Serve.{State, commanded, serve}
 use Rattle.server.specs.Claims.Asks.{Asks}
-use Rattle.readers.specs.Reading.{Read, read}
 use Rattle.readers.specs.Claims.Back.{ReadsBack}
 use Rattle.readers.specs.Claims.Served.{OfRequest, Typed, Answered, Serves}
 use Rattle.readers.proofs.Reaching.{Reached, by_command}
 use Rattle.readers.proofs.Outs.{out_of, Sends}
 
 -- what is seen of an outcome are its bytes, and its number is 0
-module _ {S : Type 0} (o : Outcome S) (size : ℕ) (reply : List ℕ) (after : S) (e : seen (Reply size) reply after ≡ o) where
+module _ {S : Type 0} (o : Outcome S) (size : ℕ) (reply : List ℕ) (after : S) (e : seen (Ok size) reply after ≡ o) where
   pub seen_zero : o.number ≡ 0
   seen_zero = sym (ap (λ (x : Outcome S). x.number) e)
 
@@ -55,10 +55,10 @@ Reaches command Asking =
 
 -- ---- what is read of it
 
-module _ {A : Type 0} (reader : List ℕ → Read A) (reply : CommandIdentifier) (bytes : A → List ℕ) (Sendable : A → Type 0)
+module _ {A : Type 0} (reader : List ℕ → Result A Refusal) (reply : CommandIdentifier) (bytes : A → List ℕ) (Sendable : A → Type 0)
     (back : ReadsBack reader reply bytes Sendable) where
   pub read_sent : {S : Type 0} (h : ZclHeader) (o : Outcome S) (x : A) → Sent reply bytes Sendable h o x
-      → (size : ℕ) (d : List ℕ) (after : S) → seen (Reply size) d after ≡ o → reader (take size d) ≡ read x
+      → (size : ℕ) (d : List ℕ) (after : S) → seen (Ok size) d after ≡ o → reader (take size d) ≡ Ok x
   read_sent h o x w size d after e =
       ap reader (seen_out o size d after e ∙ w.sends (seen_zero o size d after e)) ∙ back h x w.sendable
 

@@ -1,5 +1,6 @@
 -- The failures that write and configure replies list, and the attributes that a discover reply lists: records of a fixed length. Assumes
 -- nothing.
+use Rattle.std.specs.Prelude.{Ok}
 use mathlib.Core.Path.{◌≡◌, sym, ap, subst}
 use mathlib.Core.List.{List, [], ◌∷◌, ◌++◌}
 use Prim.Native.Nat.{ℕ, ◌^◌, ◌<◌}
@@ -10,7 +11,6 @@ use Rattle.write.specs.Reply as Write
 use Rattle.configure.specs.Configure as Configure
 use Rattle.discover.specs.Discover as Discover
 use Rattle.readers.specs.declared.layout.Layout.TheVariants.{WriteFailure, ConfigureFailure, Discovered}
-use Rattle.readers.specs.declared.layout.Length.TheVariants.{Bytes}
 use Rattle.readers.specs.Layout.{length_of}
 use Rattle.readers.specs.Replies.{write_failure, configure_failure, discovered_record}
 use Rattle.readers.specs.Claims.Sendable.{Failed, WriteSendable, ConfigureSendable}
@@ -20,7 +20,7 @@ use Rattle.readers.proofs.Fields.{two_back, two_below, two_there, behind, by_fir
 
 -- ---- a write reply's failure: status, id
 
-write_forth : (r : Write.Failure) (rest : List ℕ) → WriteSendable r → length_of WriteFailure (Write.encode r ++ rest) ≡ Bytes (length (Write.encode r))
+write_forth : (r : Write.Failure) (rest : List ℕ) → WriteSendable r → length_of WriteFailure (Write.encode r ++ rest) ≡ Ok (length (Write.encode r))
 unfolding length_of Write.encode bytes_of
 write_forth r rest h = failing_bytes 3 (Write.encode r ++ rest) h.0 (omega arith)
 
@@ -35,7 +35,7 @@ write_there_of : (a b c : ℕ) (rest : List ℕ) → WriteThere 3 (a ∷ b ∷ c
 unfolding write_failure Write.encode unsigned_at
 write_there_of a b c rest k h = ((k, two_below b c [] (h 1) (h 2)), ap (λ (l : List ℕ). a ∷ l) (two_there b c [] (h 1) (h 2)))
 
-write_there : (l : List ℕ) (m : ℕ) → AllBytes l → length_of WriteFailure l ≡ Bytes m
+write_there : (l : List ℕ) (m : ℕ) → AllBytes l → length_of WriteFailure l ≡ Ok m
     → Wrote write_failure Write.encode WriteSendable (take m l)
 unfolding length_of
 write_there l m h e =
@@ -48,7 +48,7 @@ write_codec = record { moves = advancing WriteFailure; forth = write_forth; back
 -- ---- a configure reply's failure: status, direction, id
 
 configure_forth : (r : Configure.Failure) (rest : List ℕ) → ConfigureSendable r
-    → length_of ConfigureFailure (Configure.encode r ++ rest) ≡ Bytes (length (Configure.encode r))
+    → length_of ConfigureFailure (Configure.encode r ++ rest) ≡ Ok (length (Configure.encode r))
 unfolding length_of bytes_of
 configure_forth r rest h = failing_bytes 4 (Configure.encode r ++ rest) h.0 (omega arith)
 
@@ -64,7 +64,7 @@ configure_there_of : (a b c d : ℕ) (rest : List ℕ) → ConfigureThere 4 (a �
 unfolding configure_failure unsigned_at
 configure_there_of a b c d rest k h = ((k, two_below c d [] (h 2) (h 3)), ap (λ (l : List ℕ). a ∷ b ∷ l) (two_there c d [] (h 2) (h 3)))
 
-configure_there : (l : List ℕ) (m : ℕ) → AllBytes l → length_of ConfigureFailure l ≡ Bytes m
+configure_there : (l : List ℕ) (m : ℕ) → AllBytes l → length_of ConfigureFailure l ≡ Ok m
     → Wrote configure_failure Configure.encode ConfigureSendable (take m l)
 unfolding length_of
 configure_there l m h e =
@@ -79,7 +79,7 @@ configure_codec = record { moves = advancing ConfigureFailure; forth = configure
 abbrev pub Fits : Discover.Discovered → Type 0
 Fits r = r.id < 2 ^ 16
 
-discovered_forth : (r : Discover.Discovered) (rest : List ℕ) → Fits r → length_of Discovered (Discover.encode r ++ rest) ≡ Bytes (length (Discover.encode r))
+discovered_forth : (r : Discover.Discovered) (rest : List ℕ) → Fits r → length_of Discovered (Discover.encode r ++ rest) ≡ Ok (length (Discover.encode r))
 unfolding length_of Discover.encode bytes_of
 discovered_forth r rest h = up_to_bytes 3 (Discover.encode r ++ rest) (omega arith)
 
@@ -94,7 +94,7 @@ discovered_there_of : (a b c : ℕ) (rest : List ℕ) → DiscoveredThere 3 (a �
 unfolding discovered_record Discover.encode
 discovered_there_of a b c rest h = (two_below a b (c ∷ []) (h 0) (h 1), ap (λ (l : List ℕ). l ++ c ∷ []) (two_there a b (c ∷ []) (h 0) (h 1)))
 
-discovered_there : (l : List ℕ) (m : ℕ) → AllBytes l → length_of Discovered l ≡ Bytes m
+discovered_there : (l : List ℕ) (m : ℕ) → AllBytes l → length_of Discovered l ≡ Ok m
     → Wrote discovered_record Discover.encode Fits (take m l)
 unfolding length_of
 discovered_there l m h e =

@@ -1,4 +1,5 @@
 -- A record of a read reply: id, and 00, type and value, or another status. Assumes nothing.
+use Rattle.std.specs.Prelude.{Err, Ok}
 use mathlib.Core.Path.{◌≡◌, refl, sym, ap, ◌∙◌, subst}
 use mathlib.Core.Bool.{Bool, true, false, cond}
 use mathlib.Core.List.{List, [], ◌∷◌, ◌++◌}
@@ -12,20 +13,20 @@ use Rattle.types.specs.Number.{bytes_of, AllBytes}
 use Rattle.read.specs.Read.{ReadRecord, value, failure, encode}
 use Rattle.frame.specs.declared.answer.Refusal.TheVariants.{RecordCut}
 use Rattle.readers.specs.declared.layout.Layout.TheVariants.{ReadStatus}
-use Rattle.readers.specs.declared.layout.Length.TheVariants.{Bytes, Refused}
 use Rattle.readers.specs.Layout.{valued, length_of}
 use Rattle.readers.specs.Replies.{read_record}
 use Rattle.readers.specs.Claims.Sendable.{Whole, Failed, ReadSendable}
-use Rattle.readers.proofs.Lengths.{advancing, bytes_is, refused_not}
+use Rattle.readers.proofs.Lengths.{advancing}
+use Rattle.readers.proofs.Spans.{read_is, unread_not}
 use Rattle.readers.proofs.Codec.{Codec, Wrote}
 use Rattle.readers.proofs.Fields.{two_back, two_below, two_there, behind, by_firsts}
 use Rattle.readers.proofs.Valued.{valued_forth, valued_there, valued_long}
 
-read_forth : (r : ReadRecord) (rest : List ℕ) → ReadSendable r → length_of ReadStatus (encode r ++ rest) ≡ Bytes (length (encode r))
+read_forth : (r : ReadRecord) (rest : List ℕ) → ReadSendable r → length_of ReadStatus (encode r ++ rest) ≡ Ok (length (encode r))
 unfolding length_of encode bytes_of
 read_forth (value id t v) rest h =
     rw (le-leb 3 (length (encode (value id t v) ++ rest)) (omega arith))
-    (valued_forth (bytes_of 2 id ++ 0x00 ∷ t ∷ []) 3 refl v rest h.1 ∙ ap Bytes (omega arith))
+    (valued_forth (bytes_of 2 id ++ 0x00 ∷ t ∷ []) 3 refl v rest h.1 ∙ ap Ok (omega arith))
 read_forth (failure id status) rest h = rw (le-leb 3 (length (encode (failure id status) ++ rest)) (omega arith), ne_eqb status 0 h.1)
 
 read_back : (r : ReadRecord) → ReadSendable r → read_record (encode r) ≡ r
@@ -51,7 +52,7 @@ value_there a b t v h k w =
     ((two_below a b more h k, w), ap (λ (l : List ℕ). l ++ more) (two_there a b more h k))
 
 abbrev ValueThere : ℕ → List ℕ → Type 0
-ValueThere m l = AllBytes l → get_or l 2 0 ≡ 0 → valued 3 l ≡ Bytes m → Is (take m l)
+ValueThere m l = AllBytes l → get_or l 2 0 ≡ 0 → valued 3 l ≡ Ok m → Is (take m l)
 
 value_there_of : (a b c t : ℕ) (rest : List ℕ) (m : ℕ) → ValueThere m (a ∷ b ∷ c ∷ t ∷ rest)
 value_there_of a b c t rest m h z e =
@@ -67,18 +68,18 @@ FailureThere l = AllBytes l → Failed (get_or l 2 0) → Is (take 3 l)
 failure_there_of : (a b c : ℕ) (rest : List ℕ) → FailureThere (a ∷ b ∷ c ∷ rest)
 failure_there_of a b c rest h f = failure_there a b c (h 0) (h 1) f
 
-read_there : (l : List ℕ) (m : ℕ) → AllBytes l → length_of ReadStatus l ≡ Bytes m → Is (take m l)
+read_there : (l : List ℕ) (m : ℕ) → AllBytes l → length_of ReadStatus l ≡ Ok m → Is (take m l)
 unfolding length_of
 read_there l m h e = go (leb 3 (length l)) refl (eqb (get_or l 2 0) 0) refl e
   where
     go : (b : Bool) → leb 3 (length l) ≡ b → (c : Bool) → eqb (get_or l 2 0) 0 ≡ c
-        → cond b (cond c (valued 3 l) (Bytes 3)) (Refused RecordCut) ≡ Bytes m → Is (take m l)
+        → cond b (cond c (valued 3 l) (Ok 3)) (Err RecordCut) ≡ Ok m → Is (take m l)
     go true b true c e =
         subst (ValueThere m) (by_firsts 4 l (valued_long 3 l m e)) (value_there_of _ _ _ _ (behind 4 l) m) h (eqb-true (get_or l 2 0) 0 c) e
     go true b false c e =
-        subst (λ (k : ℕ). Is (take k l)) (bytes_is 3 m e)
+        subst (λ (k : ℕ). Is (take k l)) (read_is 3 m e)
         (subst FailureThere (by_firsts 3 l (leb-true 3 (length l) b)) (failure_there_of _ _ _ (behind 3 l)) h (eqb-false (get_or l 2 0) 0 c))
-    go false b c d e = refused_not RecordCut m e
+    go false b c d e = unread_not RecordCut m e
 
 pub read_codec : Codec (length_of ReadStatus) read_record encode ReadSendable
 read_codec = record { moves = advancing ReadStatus; forth = read_forth; back = read_back; there = read_there }

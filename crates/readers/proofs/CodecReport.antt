@@ -1,4 +1,5 @@
 -- A record of a report: id, type and value. Assumes nothing.
+use Rattle.std.specs.Prelude.{Ok}
 use mathlib.Core.Path.{◌≡◌, refl, sym, ap, ◌∙◌, subst}
 use mathlib.Core.List.{List, [], ◌∷◌, ◌++◌}
 use Prim.Native.Nat.{ℕ}
@@ -8,7 +9,6 @@ use lib.Seq.{take-append-add}
 use Rattle.types.specs.Number.{bytes_of, AllBytes}
 use Rattle.report.specs.Report.{ReportRecord, report_record, encode}
 use Rattle.readers.specs.declared.layout.Layout.TheVariants.{Report}
-use Rattle.readers.specs.declared.layout.Length.TheVariants.{Bytes}
 use Rattle.readers.specs.Layout.{valued, length_of}
 use Rattle.readers.specs.Replies.{reported_record}
 use Rattle.readers.specs.Claims.Sendable.{Whole, ReportSendable}
@@ -17,9 +17,9 @@ use Rattle.readers.proofs.Codec.{Codec, Wrote}
 use Rattle.readers.proofs.Fields.{two_back, two_below, two_there, behind, by_firsts}
 use Rattle.readers.proofs.Valued.{valued_forth, valued_there, valued_long}
 
-report_forth : (r : ReportRecord) (rest : List ℕ) → ReportSendable r → length_of Report (encode r ++ rest) ≡ Bytes (length (encode r))
+report_forth : (r : ReportRecord) (rest : List ℕ) → ReportSendable r → length_of Report (encode r ++ rest) ≡ Ok (length (encode r))
 unfolding length_of encode bytes_of
-report_forth r rest h = valued_forth (bytes_of 2 r.id ++ r.type ∷ []) 2 refl r.value rest h.1 ∙ ap Bytes (omega arith)
+report_forth r rest h = valued_forth (bytes_of 2 r.id ++ r.type ∷ []) 2 refl r.value rest h.1 ∙ ap Ok (omega arith)
 
 report_back : (r : ReportRecord) → ReportSendable r → reported_record (encode r) ≡ r
 unfolding reported_record encode bytes_of
@@ -29,7 +29,7 @@ abbrev Is : List ℕ → Type 0
 Is = Wrote reported_record encode ReportSendable
 
 abbrev There : ℕ → List ℕ → Type 0
-There m l = AllBytes l → valued 2 l ≡ Bytes m → Is (take m l)
+There m l = AllBytes l → valued 2 l ≡ Ok m → Is (take m l)
 
 module _ (a b t : ℕ) (rest : List ℕ) where
   there_at : (n : ℕ) → AllBytes (a ∷ b ∷ t ∷ rest) → Whole t (take n rest)
@@ -46,7 +46,7 @@ module _ (a b t : ℕ) (rest : List ℕ) where
       let s : take m (head ++ rest) ≡ head ++ take w.0 rest = ap (λ (k : ℕ). take k (head ++ rest)) w.1 ∙ take-append-add head rest w.0 in
       subst Is (sym s) (there_at w.0 h w.2)
 
-report_there : (l : List ℕ) (m : ℕ) → AllBytes l → length_of Report l ≡ Bytes m → Is (take m l)
+report_there : (l : List ℕ) (m : ℕ) → AllBytes l → length_of Report l ≡ Ok m → Is (take m l)
 unfolding length_of
 report_there l m h e = subst (There m) (by_firsts 3 l (valued_long 2 l m e)) (there_of _ _ _ (behind 3 l) m) h e
 

@@ -1,4 +1,5 @@
 -- A record of a read configuration reply: status, direction, id, and on success type, minimum, maximum and change. Assumes nothing.
+use Rattle.std.specs.Prelude.{Err, Ok}
 use mathlib.Core.Path.{◌≡◌, refl, sym, ap, ◌∙◌, subst}
 use mathlib.Core.Bool.{Bool, true, false, cond}
 use mathlib.Core.List.{List, [], ◌∷◌, ◌++◌, append-nil}
@@ -16,18 +17,18 @@ use Rattle.configure.specs.Request.{change_width}
 use Rattle.configure.specs.Configuration.{SettingRecord, setting, failure, encode}
 use Rattle.frame.specs.declared.answer.Refusal.TheVariants.{RecordCut}
 use Rattle.readers.specs.declared.layout.Layout.TheVariants.{Setting}
-use Rattle.readers.specs.declared.layout.Length.TheVariants.{Bytes, Refused}
 use Rattle.readers.specs.Layout.{up_to, length_of}
 use Rattle.readers.specs.Replies.{setting_record}
 use Rattle.readers.specs.Claims.Sendable.{Failed, SettingSendable}
-use Rattle.readers.proofs.Lengths.{advancing, bytes_is, refused_not}
+use Rattle.readers.proofs.Lengths.{advancing}
+use Rattle.readers.proofs.Spans.{read_is, unread_not}
 use Rattle.readers.proofs.Codec.{Codec, Wrote}
 use Rattle.readers.proofs.Fields.{number_back, two_back, two_below, two_there, bytes_take, behind, by_firsts, up_to_bytes, up_to_is}
 
 abbrev config : ℕ → ℕ → ℕ → Bool → ReportingConfig
 config min max change mark = record { min_interval = min; max_interval = max; reportable_change = change; unsigned = mark }
 
-setting_forth : (r : SettingRecord) (rest : List ℕ) → SettingSendable r → length_of Setting (encode r ++ rest) ≡ Bytes (length (encode r))
+setting_forth : (r : SettingRecord) (rest : List ℕ) → SettingSendable r → length_of Setting (encode r ++ rest) ≡ Ok (length (encode r))
 unfolding length_of encode bytes_of
 setting_forth (setting direction id t g) rest h =
     let w : ℕ = change_width t in
@@ -35,7 +36,7 @@ setting_forth (setting direction id t g) rest h =
     let n : length x ≡ w = length_bytes w g.reportable_change in
     let m : length (x ++ rest) ≡ length x + length rest = length-append x rest in
     rw (le-leb 4 (length (encode (setting direction id t g) ++ rest)) (omega arith))
-    (up_to_bytes (9 + w) (encode (setting direction id t g) ++ rest) (omega arith) ∙ ap Bytes (omega arith))
+    (up_to_bytes (9 + w) (encode (setting direction id t g) ++ rest) (omega arith) ∙ ap Ok (omega arith))
 setting_forth (failure status direction id) rest h =
     rw (le-leb 4 (length (encode (failure status direction id) ++ rest)) (omega arith), ne_eqb status 0 h.0)
 
@@ -107,20 +108,20 @@ setting_there_of a b i j t m n p q rest h z l =
     take-append-add head rest w ∙ ap (λ (k : ℕ). k ∷ b ∷ i ∷ j ∷ t ∷ m ∷ n ∷ p ∷ q ∷ take w rest) z in
     subst Is (sym o) (setting_is b i j t m n p q rest (λ k. h (suc k)) (omega arith))
 
-setting_there : (l : List ℕ) (m : ℕ) → AllBytes l → length_of Setting l ≡ Bytes m → Is (take m l)
+setting_there : (l : List ℕ) (m : ℕ) → AllBytes l → length_of Setting l ≡ Ok m → Is (take m l)
 unfolding length_of
 setting_there l m h e = go (leb 4 (length l)) refl (eqb (get_or l 0 0) 0) refl e
   where
     go : (b : Bool) → leb 4 (length l) ≡ b → (c : Bool) → eqb (get_or l 0 0) 0 ≡ c
-        → cond b (cond c (up_to (9 + change_width (get_or l 4 0)) l) (Bytes 4)) (Refused RecordCut) ≡ Bytes m → Is (take m l)
+        → cond b (cond c (up_to (9 + change_width (get_or l 4 0)) l) (Ok 4)) (Err RecordCut) ≡ Ok m → Is (take m l)
     go true b true c e =
         let u = up_to_is (9 + change_width (get_or l 4 0)) l m e in
         subst (λ (k : ℕ). Is (take k l)) (sym u.0)
         (subst SettingThere (by_firsts 9 l (omega arith)) (setting_there_of _ _ _ _ _ _ _ _ _ (behind 9 l)) h (eqb-true (get_or l 0 0) 0 c) u.1)
     go true b false c e =
-        subst (λ (k : ℕ). Is (take k l)) (bytes_is 4 m e)
+        subst (λ (k : ℕ). Is (take k l)) (read_is 4 m e)
         (subst FailureThere (by_firsts 4 l (leb-true 4 (length l) b)) (failure_there _ _ _ _ (behind 4 l)) h (eqb-false (get_or l 0 0) 0 c))
-    go false b c d e = refused_not RecordCut m e
+    go false b c d e = unread_not RecordCut m e
 
 pub setting_codec : Codec (length_of Setting) setting_record encode SettingSendable
 setting_codec = record { moves = advancing Setting; forth = setting_forth; back = setting_back; there = setting_there }

@@ -1,70 +1,39 @@
--- A discover reply: its complete byte, the pass over the records behind it, and what that says of the whole. Assumes nothing.
-use mathlib.Core.Path.{◌≡◌, refl, sym, ap, ◌∙◌, subst}
+-- A discover reply: its complete byte, and how many records are behind it. Assumes nothing.
+use Rattle.std.specs.Prelude.{Err, Ok, Result}
+use mathlib.Core.Path.{◌≡◌, refl, ap, ◌∙◌}
 use mathlib.Core.List.{List}
-use Prim.Native.Nat.{ℕ, ◌+◌, ◌≤◌, ◌<◌}
-use lib.ListN.{length, get_or}
-use borrow.Author.Tests.{le-leb, lt-leb}
+use Prim.Native.Nat.{ℕ}
+use lib.ListN.{get_or}
 use Rattle.frame.specs.declared.answer.Refusal.{Refusal}
-use Rattle.frame.specs.declared.answer.Refusal.TheVariants.{RecordCut, NotSuchAReply}
 use Rattle.frame.specs.declared.command_identifier.CommandIdentifier.TheVariants.{DiscoverAttributesResponse}
 use Rattle.discover.specs.Discover.{Discovered}
-use Rattle.readers.specs.declared.layout.Layout.TheVariants.{Discovered as DiscoveredLayout}
 use Rattle.readers.specs.declared.pass.Swept.{Swept}
-use Rattle.readers.specs.Layout.{length_of}
-use Rattle.readers.specs.Reading.{Read, read, unreadable, mapped, and_then, counted, kth, body_of, Span, spans_from, records_of}
+use Rattle.readers.specs.Reading.{mapped, and_then, counted, body_of, records_of}
 use Rattle.readers.specs.Replies.{discovered_record, discovered_from, discovery, discovery_at, discover_reply_of}
-use Rattle.readers.specs.Inside.{Sweeps, count_by}
-use Rattle.readers.specs.Answers.{Sized, sized, attributes_in, count_is}
-use Rattle.readers.proofs.Records.{record_counts}
+use Rattle.readers.specs.Inside.{swept}
+use Rattle.readers.specs.Answers.{sized}
+use Rattle.readers.proofs.Records.{record_counts, record_uncounted}
 
--- ---- the complete byte
+sizes : (complete : ℕ) (y : Result (List Discovered) Refusal) → mapped (λ n. record { complete = complete; count = n }) (counted y) ≡ sized (mapped (discovery complete) y)
+sizes complete (Ok l) = refl
+sizes complete (Err why) = refl
 
-module _ (f : List ℕ) (p : ℕ) where
-  pub too_short : length f ≤ p → discovered_from f p ≡ unreadable RecordCut
-  unfolding discovered_from
-  too_short h = simp (le-leb (length f) p h)
-
-  pub not_a_flag : p < length f → 1 < get_or f p 0 → discovered_from f p ≡ unreadable NotSuchAReply
-  unfolding discovered_from
-  not_a_flag h g = simp (lt-leb (length f) p h, lt-leb (get_or f p 0) 1 g)
-
-  flagged : p < length f → get_or f p 0 ≤ 1 → spans_from (length_of DiscoveredLayout) f (p + 1) ≡ discovered_from f p
-  unfolding discovered_from
-  flagged h g = simp (lt-leb (length f) p h, le-leb (get_or f p 0) 1 g)
-
-  pub behind : (k : ℕ) (s : Swept) → p < length f → get_or f p 0 ≤ 1
-      → Sweeps f k (spans_from (length_of DiscoveredLayout) f (p + 1)) s → Sweeps f k (discovered_from f p) s
-  behind k s h g e = subst (λ (x : Read (List Span)). Sweeps f k x s) (flagged h g) e
-
--- ---- the attributes, and how many
-
-attributes-of : (complete : ℕ) (y : Read (List Discovered)) → y ≡ attributes_in (mapped (discovery complete) y)
-attributes-of complete (read l) = refl
-attributes-of complete (unreadable why) = refl
-
-pub attributes_are : (f : List ℕ) (k p : ℕ) → kth k (records_of discovered_record f (discovered_from f p)) ≡ kth k (attributes_in (discovery_at f p))
-attributes_are f k p = ap (kth k) (attributes-of (get_or f p 0) (records_of discovered_record f (discovered_from f p)))
-
-abbrev sizes : ℕ → ℕ → Sized
-sizes complete n = record { complete = complete; count = n }
-
-sized_of : (complete : ℕ) (y : Read (List Discovered)) → mapped (sizes complete) (counted y) ≡ sized (mapped (discovery complete) y)
-sized_of complete (read l) = refl
-sized_of complete (unreadable why) = refl
-
--- ---- the whole, by its body
-
-module _ (f : List ℕ) {p : ℕ} (e : body_of DiscoverAttributesResponse f ≡ read p) where
-  pub whole : discovery_at f p ≡ discover_reply_of f
+-- where the body was found, a pass behind it tells the number of attributes, or that they cannot be read
+module _ (f : List ℕ) (p k : ℕ) (b : Ok p ≡ body_of DiscoverAttributesResponse f) where
+  sized_by : {n : Result ℕ Refusal} → n ≡ counted (records_of discovered_record f (discovered_from f p))
+      → mapped (λ n. record { complete = get_or f p 0; count = n }) n ≡ sized (discover_reply_of f)
   unfolding discover_reply_of
-  whole = sym (ap (λ (y : Read ℕ). and_then y (discovery_at f)) e)
+  sized_by e =
+      ap (mapped (λ n. record { complete = get_or f p 0; count = n })) e
+      ∙ sizes (get_or f p 0) (records_of discovered_record f (discovered_from f p))
+      ∙ ap (λ (y : Result ℕ Refusal). sized (and_then y (discovery_at f))) b
 
-  pub sized_by : (k : ℕ) (s : Swept) → Sweeps f k (discovered_from f p) s → mapped (sizes (get_or f p 0)) (count_is (count_by s)) ≡ sized (discover_reply_of f)
-  sized_by k s h =
-      ap (mapped (sizes (get_or f p 0))) (record_counts discovered_record f k (discovered_from f p) s h)
-      ∙ sized_of (get_or f p 0) (records_of discovered_record f (discovered_from f p))
-      ∙ ap sized whole
+  pub sized_is : (s : Swept) (c : ℕ) → Ok s ≡ swept k (discovered_from f p) → c ≡ get_or f p 0 → Ok (record { complete = c; count = s.count }) ≡ sized (discover_reply_of f)
+  sized_is s c e h = ap (λ (x : ℕ). Ok (record { complete = x; count = s.count })) h ∙ sized_by (record_counts discovered_record f k (discovered_from f p) e)
 
-pub unread : (f : List ℕ) {why : Refusal} → body_of DiscoverAttributesResponse f ≡ unreadable why → unreadable why ≡ discover_reply_of f
+  pub no_size : (why : Refusal) → Err why ≡ swept k (discovered_from f p) → Err why ≡ sized (discover_reply_of f)
+  no_size why e = sized_by (record_uncounted discovered_record f k (discovered_from f p) e)
+
+pub unread : (f : List ℕ) (why : Refusal) → Err why ≡ body_of DiscoverAttributesResponse f → Err why ≡ discover_reply_of f
 unfolding discover_reply_of
-unread f e = sym (ap (λ (y : Read ℕ). and_then y (discovery_at f)) e)
+unread f why e = ap (λ (y : Result ℕ Refusal). and_then y (discovery_at f)) e

@@ -1,4 +1,5 @@
 -- The fields of a record: numbers of two bytes, and the first bytes of a list one by one. Assumes nothing.
+use Rattle.std.specs.Prelude.{Err, Ok}
 use mathlib.Core.Path.{◌≡◌, refl, sym, ap, ◌∙◌}
 use mathlib.Core.Bool.{Bool, true, false, cond}
 use mathlib.Core.List.{List, [], ◌∷◌, ◌++◌}
@@ -12,10 +13,9 @@ use borrow.Author.Tests.{le-leb, leb-true, eqb-false, ne_eqb}
 use Rattle.types.specs.Number.{le, bytes_of, unsigned_at, AllBytes}
 use Rattle.types.proofs.Numbers.{le_bytes, length_bytes}
 use Rattle.frame.specs.declared.answer.Refusal.TheVariants.{RecordCut, NotSuchAReply}
-use Rattle.readers.specs.declared.layout.Length.TheVariants.{Bytes, Refused}
 use Rattle.readers.specs.Layout.{up_to, failure_length}
 use Rattle.readers.specs.Claims.Sendable.{Failed}
-use Rattle.readers.proofs.Lengths.{bytes_is, refused_not}
+use Rattle.readers.proofs.Spans.{read_is, unread_not}
 
 -- ---- a number
 
@@ -71,26 +71,26 @@ first_at f p = sym (get_or-drop p f 0 0 ∙ ap (λ (k : ℕ). get_or f k 0) (add
 
 -- ---- so many bytes, and a failure of so many
 
-pub up_to_bytes : (n : ℕ) (l : List ℕ) → n ≤ length l → up_to n l ≡ Bytes n
+pub up_to_bytes : (n : ℕ) (l : List ℕ) → n ≤ length l → up_to n l ≡ Ok n
 unfolding up_to
 up_to_bytes n l h = rw (le-leb n (length l) h)
 
-pub up_to_is : (n : ℕ) (l : List ℕ) (m : ℕ) → up_to n l ≡ Bytes m → (m ≡ n) × (n ≤ length l)
+pub up_to_is : (n : ℕ) (l : List ℕ) (m : ℕ) → up_to n l ≡ Ok m → (m ≡ n) × (n ≤ length l)
 unfolding up_to
 up_to_is n l m e = go (leb n (length l)) refl e
   where
-    go : (b : Bool) → leb n (length l) ≡ b → cond b (Bytes n) (Refused RecordCut) ≡ Bytes m → (m ≡ n) × (n ≤ length l)
-    go true b e = (sym (bytes_is n m e), leb-true n (length l) b)
-    go false b e = refused_not RecordCut m e
+    go : (b : Bool) → leb n (length l) ≡ b → cond b (Ok n) (Err RecordCut) ≡ Ok m → (m ≡ n) × (n ≤ length l)
+    go true b e = (sym (read_is n m e), leb-true n (length l) b)
+    go false b e = unread_not RecordCut m e
 
-pub failing_bytes : (n : ℕ) (l : List ℕ) → Failed (get_or l 0 0) → n ≤ length l → failure_length n l ≡ Bytes n
+pub failing_bytes : (n : ℕ) (l : List ℕ) → Failed (get_or l 0 0) → n ≤ length l → failure_length n l ≡ Ok n
 unfolding failure_length
 failing_bytes n l k h = rw (ne_eqb (get_or l 0 0) 0 k) (up_to_bytes n l h)
 
-pub failing_is : (n : ℕ) (l : List ℕ) (m : ℕ) → failure_length n l ≡ Bytes m → Failed (get_or l 0 0) × (m ≡ n) × (n ≤ length l)
+pub failing_is : (n : ℕ) (l : List ℕ) (m : ℕ) → failure_length n l ≡ Ok m → Failed (get_or l 0 0) × (m ≡ n) × (n ≤ length l)
 unfolding failure_length
 failing_is n l m e = go (eqb (get_or l 0 0) 0) refl e
   where
-    go : (b : Bool) → eqb (get_or l 0 0) 0 ≡ b → cond b (Refused NotSuchAReply) (up_to n l) ≡ Bytes m → Failed (get_or l 0 0) × (m ≡ n) × (n ≤ length l)
-    go true b e = refused_not NotSuchAReply m e
+    go : (b : Bool) → eqb (get_or l 0 0) 0 ≡ b → cond b (Err NotSuchAReply) (up_to n l) ≡ Ok m → Failed (get_or l 0 0) × (m ≡ n) × (n ≤ length l)
+    go true b e = unread_not NotSuchAReply m e
     go false b e = let u = up_to_is n l m e in (eqb-false (get_or l 0 0) 0 b, u.0, u.1)

@@ -2,12 +2,10 @@
 -- The functions: a pass over a frame.
 pub mod Spans  -- records that follow one another
 pub mod Lengths  -- every layout moves on
-pub mod Measured  -- how long a record is, test by test
 pub mod SpanSizes  -- a span is as long as its layout says; one with a value reaches behind its type
 pub mod Sweeping  -- a pass over the records
 pub mod Bodies  -- where they start
 pub mod Records  -- a pass over the spans gives the records
-pub mod Settings  -- a read configuration record, from its fields
 pub mod Discoveries  -- a discover reply: its complete byte, and the records behind it
 pub mod Values  -- a record with a value, from its fields and the value's place
 -- What was written is read back, and nothing else is accepted.

@@ -1,4 +1,5 @@
 -- A request that was answered reached its command: every refusal before that has a number other than 0. Assumes nothing.
+use Rattle.std.specs.Prelude.{Option, Some}
 use mathlib.Core.Path.{◌≡◌, refl, sym, ap, ◌∙◌}
 use mathlib.Core.Bool.{Bool, true, false, cond}
 use mathlib.Core.List.{List}
@@ -7,8 +8,6 @@ use native.Mathlib.Omega.{arith}
 use lib.ListN.{drop}
 use lib.Dec.{eqb}
 use Rattle.frame.specs.declared.header.ZclHeader.{ZclHeader}
-use Rattle.frame.specs.declared.header.HeaderRead.{HeaderRead}
-use Rattle.frame.specs.declared.header.HeaderRead.TheVariants.{Header}
 use Rattle.frame.specs.declared.header.FrameType.{FrameType}
 use Rattle.frame.specs.declared.command_identifier.CommandIdentifier.{CommandIdentifier}
 use Rattle.frame.specs.declared.command_identifier.CommandIdentifier.TheVariants.{ReadAttributesResponse}
@@ -46,10 +45,10 @@ module _ (form limit : ℕ) (s : List ℕ) (l : List Entry) (cluster : ℕ) (uni
   commands c = commanded form limit s (holding l) unicast h (drop h.body frame) room c
 
   -- through the store, the table and the cluster to the header
-  by_type : header_of frame ≡ Header h → served.number ≡ 0 → Reached form s served (reaches (frame_type_of h.frame_control.0))
+  by_type : header_of frame ≡ Some h → served.number ≡ 0 → Reached form s served (reaches (frame_type_of h.frame_control.0))
   unfolding serve tabled by_header
   by_type e z =
-      let x : HeaderRead → Outcome State = by_header form limit s (holding l) unicast frame room in
+      let x : Option ZclHeader → Outcome State = by_header form limit s (holding l) unicast frame room in
       let t : Outcome State = cond (eqb cluster (cluster_of s)) (x (header_of frame)) (refused room OtherCluster (state s (holding l))) in
       let p = passed room (is_store form s) t NotAStore (state s (holding l)) z in
       let q = passed room (eqb cluster (cluster_of s)) (x (header_of frame)) OtherCluster (state s (holding l))

@@ -1,5 +1,6 @@
 -- Reading a Default Response gives the request's command and the status: to a cluster command, to any other global command, and of a
 -- cluster that is not served. Assumes nothing.
+use Rattle.std.specs.Prelude.{Option, Some}
 use mathlib.Core.Path.{◌≡◌, refl, sym, subst}
 use mathlib.Core.Bool.{Bool, not, ◌&&◌}
 use mathlib.Core.List.{List, [], ◌++◌}
@@ -7,8 +8,6 @@ use Prim.Native.Nat.{ℕ}
 use lib.ListN.{length}
 use lib.Dec.{leb}
 use Rattle.frame.specs.declared.header.ZclHeader.{ZclHeader}
-use Rattle.frame.specs.declared.header.HeaderRead.{HeaderRead}
-use Rattle.frame.specs.declared.header.HeaderRead.TheVariants.{Header}
 use Rattle.frame.specs.declared.command_identifier.CommandIdentifier.{CommandIdentifier}
 use Rattle.frame.specs.declared.command_identifier.CommandIdentifier.TheVariants.{ReadAttributes, ReadAttributesResponse, WriteAttributes, WriteAttributesUndivided, WriteAttributesResponse, WriteAttributesNoResponse, ConfigureReporting, ConfigureReportingResponse, ReadReportingConfiguration, ReadReportingConfigurationResponse, ReportAttributes, DefaultResponse, DiscoverAttributes, DiscoverAttributesResponse, Other}
 use Rattle.frame.specs.declared.status.Status.{Status}
@@ -83,16 +82,16 @@ module _ (form limit : ℕ) (s : List ℕ) (t : Table) (unicast : Bool) (h : Zcl
 commands : (c : CommandIdentifier) → IsOther c → Commands DefaultResponse response_bytes Anything c response_made
 commands c o form limit s l unicast h body room t store = record { sendable = tt; sends = other_sends form limit s (holding l) unicast h body room c o }
 
-cluster_sends : (served : List ℕ) (cluster : ℕ) (unicast : Bool) (frame : List ℕ) (room : ℕ) (h : ZclHeader) → header_of frame ≡ Header h
+cluster_sends : (served : List ℕ) (cluster : ℕ) (unicast : Bool) (frame : List ℕ) (room : ℕ) (h : ZclHeader) → header_of frame ≡ Some h
     → Sends (unsupported_cluster served cluster unicast frame room) (sent_by h UnsupportedCluster)
 unfolding unsupported_cluster respond
 cluster_sends served cluster unicast frame room h e =
     let out : List ℕ = sent_by h UnsupportedCluster in
     let none : Outcome (Unit {0}) = refused room NothingToSend no_state in
-    let one : Sends (respond unicast room (Header h)) out =
+    let one : Sends (respond unicast room (Some h)) out =
     sends_either (is_default_response h) none _ out (sends_refused room NothingToSend no_state out) (default_sends h unicast UnsupportedCluster room) in
     sends_either (is_served cluster served) none _ out (sends_refused room NothingToSend no_state out)
-    (subst (λ (r : HeaderRead). Sends (respond unicast room r) out) (sym e) one)
+    (subst (λ (r : Option ZclHeader). Sends (respond unicast room r) out) (sym e) one)
 
 -- ---- THE PROMISES
 

@@ -1,8 +1,8 @@
 -- Reading the reply to a Read Reporting Configuration gives the records that were made for what was asked. Assumes nothing.
+use Rattle.std.specs.Prelude.{None, Option, Some}
 use mathlib.Core.Path.{◌≡◌, refl, subst}
 use mathlib.Core.Bool.{Bool, true, false, cond}
 use mathlib.Core.List.{List, [], ◌∷◌}
-use mathlib.Core.Option.{Option, none, some}
 use Prim.Native.Nat.{ℕ, ◌+◌, ◌*◌, ◌<◌, ◌^◌}
 use native.Mathlib.Omega.{arith}
 use native.Mathlib.Nat.{mod-lt}
@@ -20,8 +20,7 @@ use Rattle.frame.specs.Walk.{item, All}
 use Rattle.frame.specs.Encoded.{encode_all}
 use Rattle.frame.specs.Shortened.{Making}
 use Rattle.frame.proofs.Sized.{up_to_is}
-use Rattle.store.specs.declared.lookup.Found.{Found}
-use Rattle.store.specs.declared.lookup.Found.TheVariants.{At, Nothing}
+use Rattle.store.specs.declared.lookup.Attribute.{Attribute}
 use Rattle.store.specs.Contents.{name_of, find_of, reportable}
 use Rattle.reporting.specs.declared.entry.Key.{Key}
 use Rattle.reporting.specs.declared.entry.Entry.{Entry}
@@ -53,26 +52,26 @@ Short e = (e.config.min_interval < 2 ^ 16) × (e.config.max_interval < 2 ^ 16)
 
 -- the entry of a key is one of the entries
 abbrev Any : (Entry → Type 0) → Option Entry → Type 0
-Any P none = Unit {0}
-Any P (some e) = P e
+Any P None = Unit {0}
+Any P (Some e) = P e
 
 lookup_any : (P : Entry → Type 0) (k : Key) (l : List Entry) → All P l → Any P (lookup_l k l)
 lookup_any P k [] h = tt
 lookup_any P k (e ∷ l) h = go (matches k e) (lookup_any P k l h.1)
   where
-    go : (b : Bool) → Any P (lookup_l k l) → Any P (cond b (some e) (lookup_l k l))
+    go : (b : Bool) → Any P (lookup_l k l) → Any P (cond b (Some e) (lookup_l k l))
     go true w = h.0
     go false w = w
 
 setting_good : (r : Asked) (t : ℕ) → Named r → (o : Option Entry) → Any Short o → SettingSendable (setting_by o r t)
-setting_good r t n none w = (λ z. omega arith, n)
-setting_good r t n (some e) w = (n, w.0, w.1, mod-lt e.config.reportable_change (pow_pos (8 * change_width t)), refl)
+setting_good r t n None w = (λ z. omega arith, n)
+setting_good r t n (Some e) w = (n, w.0, w.1, mod-lt e.config.reportable_change (pow_pos (8 * change_width t)), refl)
 
 module _ (l : List Entry) (short : All Short l) (r : Asked) (n : Named r) where
-  made_by : (k : Key) (f : Found) → SettingSendable (record_by l k r f)
+  made_by : (k : Key) (f : Option Attribute) → SettingSendable (record_by l k r f)
   unfolding record_by
-  made_by k Nothing = (λ z. omega arith, n)
-  made_by k (At a) = go (eqb r.direction 0) (reportable a)
+  made_by k None = (λ z. omega arith, n)
+  made_by k (Some a) = go (eqb r.direction 0) (reportable a)
     where
       not_so : SettingRecord
       not_so = failure (status_code UnreportableAttribute) r.direction r.id

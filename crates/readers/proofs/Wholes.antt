@@ -1,4 +1,5 @@
 -- The value of an attribute of a store is a whole value of its type, as it is sent. Assumes nothing.
+use Rattle.std.specs.Prelude.{Ok, Some}
 use mathlib.Core.Path.{◌≡◌, sym, ap, ◌∙◌}
 use mathlib.Core.Logic.{inl, inr}
 use mathlib.Core.Bool.{true, cond}
@@ -12,10 +13,8 @@ use Rattle.types.specs.Ids.{shape_of}
 use Rattle.types.specs.Extent.{by_shape, series_at, structure_at, text, count_by, count, extent_of}
 use Rattle.types.specs.declared.ids.Shape.{Shape}
 use Rattle.types.specs.declared.ids.Shape.TheVariants.{Fixed, Text}
-use Rattle.types.specs.declared.extent.Extent.TheVariants.{End}
 use Rattle.types.proofs.Extents.{upto_in, value_at_shape, fixed_value, text_from}
 use Rattle.store.specs.declared.lookup.Attribute.{Attribute}
-use Rattle.store.specs.declared.lookup.Found.TheVariants.{At}
 use Rattle.store.specs.Contents.{find_of}
 use Rattle.store.specs.Layout.{text_by, is_text, text_length, is_store}
 use Rattle.store.specs.Value.{used_of, value_of}
@@ -40,7 +39,7 @@ module _ (form : ℕ) (s : List ℕ) (a : Attribute) (p : Placed form s a) where
   fixed_whole : shape_of a.type_id.0 ≡ Fixed a.room → Whole a.type_id.0 (value_of s a)
   fixed_whole k =
       let n : length (value_of s a) ≡ a.room = value_length ∙ used_as (Fixed a.room) k in
-      fixed_value 15 (value_of s a) a.type_id.0 a.room k 0 ∙ upto_in (value_of s a) 0 a.room (omega arith) ∙ ap End (omega arith)
+      fixed_value 15 (value_of s a) a.type_id.0 a.room k 0 ∙ upto_in (value_of s a) 0 a.room (omega arith) ∙ ap Ok (omega arith)
 
   -- a string's length byte says as much of the value as of the store
   text_count : 1 ≤ used_of s a → text_length s a ≡ count 1 (value_of s a) 0
@@ -57,14 +56,14 @@ module _ (form : ℕ) (s : List ℕ) (a : Attribute) (p : Placed form s a) where
       let m : ℕ = text_length s a in
       let u : used_of s a ≡ 1 + text_length s a = used_as Text k in
       let n : length (value_of s a) ≡ 1 + text_length s a = value_length ∙ u in
-      let e : End (1 + m) ≡ text 1 v 0 =
-      text_from 1 v 0 1 m (End (1 + m)) (upto_in v 0 1 (omega arith)) (text_count (omega arith)) (sym (upto_in v 1 m (omega arith))) in
-      sym (by_text v a.type_id.0 k) ∙ sym e ∙ ap End (sym n)
+      let e : Ok (1 + m) ≡ text 1 v 0 =
+      text_from 1 v 0 1 m (Ok (1 + m)) (upto_in v 0 1 (omega arith)) (text_count (omega arith)) (sym (upto_in v 1 m (omega arith))) in
+      sym (by_text v a.type_id.0 k) ∙ sym e ∙ ap Ok (sym n)
 
   placed_whole : Whole a.type_id.0 (value_of s a)
   placed_whole = elim (room_kinds a p.room-ok).1 [ inl k ↦ text_whole k | inr k ↦ fixed_whole k ]
 
 -- THE LAW
-pub found_whole : (form : ℕ) (s : List ℕ) (name : ℕ) (a : Attribute) → is_store form s ≡ true → find_of form s name ≡ At a
+pub found_whole : (form : ℕ) (s : List ℕ) (name : ℕ) (a : Attribute) → is_store form s ≡ true → find_of form s name ≡ Some a
     → Whole a.type_id.0 (value_of s a)
 found_whole form s name a h e = placed_whole form s a (placed form s a (found_in form s name a e) h)

@@ -1,15 +1,15 @@
 -- Numbers over document 01's store T, served and read back, by computing: an unsigned counter with its top bit set, and a negative one.
 -- Assumes nothing.
+use Rattle.frame.specs.declared.answer.Refusal.{Refusal}
+use Rattle.std.specs.Prelude.{None, Option, Some, Err, Ok, Result}
 use mathlib.Core.Path.{◌≡◌, refl}
 use mathlib.Core.List.{List, [], ◌∷◌}
-use mathlib.Core.Option.{Option, none, some}
 use Prim.Native.Nat.{ℕ}
 use lib.IntN.{ℤ, pos, negsuc}
 use Rattle.types.specs.Number.{all_zero, le, bytes_of, unsigned_at, signed_of, signed_at}
 use Rattle.types.specs.Ids.{size_of, shape_of, is_signed}
 use Rattle.types.specs.Value.{number_at}
 use Rattle.types.specs.Extent.{upto, count, by_shape, value_at}
-use Rattle.types.specs.declared.value.Number.TheVariants.{Value}
 use Rattle.frame.specs.Header.{frame_type_of, header_of, reply_head}
 use Rattle.frame.specs.CommandIdentifier.{command_of}
 use Rattle.frame.specs.Reply.{padded}
@@ -24,21 +24,21 @@ use Rattle.server.specs.Serve.{commanded, typed, by_header, tabled, serve}
 use Rattle.server.specs.Claims.Bench.{T, bench_answer}
 use Rattle.report.specs.Report.{encode as encode_report, report_from, report_reply, report_of}
 use Rattle.readers.specs.declared.value.ValueIn.{ValueIn}
-use Rattle.readers.specs.Reading.{Read, read, unreadable, kth, body_of, spans_in, spans_from}
+use Rattle.readers.specs.Reading.{kth, body_of, spans_in, spans_from}
 use Rattle.readers.specs.Layout.{valued, length_of}
 use Rattle.readers.specs.Replies.{spans_of, read_record, reported_record}
 use Rattle.readers.specs.Values.{value_in, Held, read_reply_held, report_frame_held}
 use Rattle.readers.proofs.Outs.{out_of}
 
 -- the value that a record came with
-abbrev came_with : {R : Type 0} → Read (Option (Held R)) → Option ValueIn
-came_with (read (some h)) = h.value
-came_with (read none) = none
-came_with (unreadable why) = none
+abbrev came_with : {R : Type 0} → Result (Option (Held R)) Refusal → Option ValueIn
+came_with (Ok (Some h)) = h.value
+came_with (Ok None) = None
+came_with (Err why) = None
 
 -- type, place, length and number
 abbrev value_at_place : ℕ → ℕ → ℕ → ℤ → Option ValueIn
-value_at_place t start len z = some (record { type_id = record { 0 = t }; start = start; len = len; number = Value z })
+value_at_place t start len z = Some (record { type_id = record { 0 = t }; start = start; len = len; number = Some z })
 
 -- attributes 0 and 5 asked for
 abbrev answer : List ℕ

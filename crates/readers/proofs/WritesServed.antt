@@ -1,15 +1,15 @@
 -- Reading the reply to a write, undivided or not, gives the failures that were listed. Assumes nothing.
+use Rattle.std.specs.Prelude.{Err, Ok, Result}
 use mathlib.Core.Path.{◌≡◌, refl, subst}
 use mathlib.Core.Bool.{Bool, true, false, cond}
 use mathlib.Core.List.{List, ◌++◌}
 use Prim.Native.Nat.{ℕ, ◌+◌, ◌<◌, ◌^◌}
-use native.Mathlib.Omega.{arith}
 use lib.ListN.{length, get_or}
 use lib.Dec.{leb}
 use Rattle.types.specs.Number.{unsigned_at, AllBytes}
 use Rattle.types.specs.Extent.{extent_of}
-use Rattle.types.specs.declared.extent.Extent.{Extent}
-use Rattle.types.specs.declared.extent.Extent.TheVariants.{End, Cut, Without}
+use Rattle.types.specs.declared.extent.NoExtent.{NoExtent}
+use Rattle.types.specs.declared.extent.NoExtent.TheVariants.{Cut, Without}
 use Rattle.types.proofs.Numbers.{unsigned_below}
 use Rattle.frame.specs.declared.header.ZclHeader.{ZclHeader}
 use Rattle.frame.specs.declared.command_identifier.CommandIdentifier.TheVariants.{WriteAttributes, WriteAttributesUndivided, WriteAttributesResponse}
@@ -35,12 +35,12 @@ abbrev Named : WriteRecord → Type 0
 Named r = r.id < 2 ^ 16
 
 module _ (body : List ℕ) (bytes : AllBytes body) where
-  named_by : (p : ℕ) (x : Extent) (r : WriteRecord) (q : ℕ) → valued body p x ≡ item r q → Named r
-  named_by p (End e) r q g =
+  named_by : (p : ℕ) (x : Result ℕ NoExtent) (r : WriteRecord) (q : ℕ) → valued body p x ≡ item r q → Named r
+  named_by p (Ok e) r q g =
       let i : unsigned_at body p 2 ≡ r.id = cc in
       subst (λ (n : ℕ). n < 2 ^ 16) i (unsigned_below body p 2 bytes)
-  named_by p Cut r q g = let z : ◌≡◌ {A = ℕ} 0 1 = cc in absurd (omega arith)
-  named_by p Without r q g = let z : ◌≡◌ {A = ℕ} 0 1 = cc in absurd (omega arith)
+  named_by p (Err Cut) r q g = absurd cc
+  named_by p (Err Without) r q g = absurd cc
 
   named_at : (p : ℕ) (r : WriteRecord) (q : ℕ) → record_at body p ≡ item r q → Named r
   unfolding record_at
@@ -48,7 +48,7 @@ module _ (body : List ℕ) (bytes : AllBytes body) where
     where
       go : (b : Bool) → cond b (valued body p (extent_of body (p + 3) (get_or body (p + 2) 0))) unread ≡ item r q → Named r
       go true g = named_by p (extent_of body (p + 3) (get_or body (p + 2) 0)) r q g
-      go false g = let z : ◌≡◌ {A = ℕ} 0 1 = cc in absurd (omega arith)
+      go false g = absurd cc
 
   named_all : All Named (records body).list
   unfolding records_at

@@ -1,12 +1,11 @@
 // The reply to Read Reporting Configuration (09; ZCL 2.5.10).
 ghost use Rattle.std.specs.Prelude.{◌≡◌};
-ghost use Rattle.std.proofs.Math.Option.{some};
-ghost use Rattle.readers.specs.Reading.{read, counted, kth};
+ghost use Rattle.readers.specs.Reading.{counted, kth};
 ghost use Rattle.readers.specs.Replies.{setting_record, configuration_reply_of};
-ghost use Rattle.readers.specs.Answers.{count_is, configuration_record_is};
+ghost use Rattle.readers.specs.Answers.{configuration_record_is, record_is};
 
 use super::layout::Layout;
-use super::pass::{Count, Swept, count_of, sweep_records};
+use super::pass::sweep_records;
 use configure::change::change_width;
 use frame::answer::Refusal;
 use frame::command_identifier::CommandIdentifier;
@@ -27,27 +26,26 @@ pub enum ConfigurationReplyRecord {
         direction: u8,
         id: AttributeId,
     },
-    // The reply has no record k.
-    Past,
-    Refused(Refusal),
 }
 
 // How many records the reply has.
-pub fn check_configuration_reply(frame: &[u8]) -> Count
-    ensures { count_is result ≡ counted (configuration_reply_of frame.now) }
+#[tactic(auto, using(crate::proofs::Records::told_records), unfolding(crate::specs::Replies::configuration_reply_of))]
+pub fn check_configuration_reply(frame: &[u8]) -> Result<usize, Refusal>
+    ensures { result ≡ counted (configuration_reply_of frame.now) }
 {
     let swept = sweep_records(
         frame,
         CommandIdentifier::ReadReportingConfigurationResponse,
         Layout::Setting,
         0,
-    );
-    count_of(swept)
+    )?;
+    Ok(swept.count)
 }
 
 // The record in these bytes.
+#[tactic(auto, using(configure::proofs::Widths::width_least), unfolding(crate::specs::Replies::setting_record))]
 fn setting_in(part: &[u8]) -> ConfigurationReplyRecord
-    ensures { configuration_record_is result ≡ read (some (setting_record part.now)) }
+    ensures { configuration_record_is result ≡ setting_record part.now }
 {
     let status = byte_at(part, 0);
     let direction = byte_at(part, 1);
@@ -74,23 +72,22 @@ fn setting_in(part: &[u8]) -> ConfigurationReplyRecord
     }
 }
 
-// Record k of the reply.
-pub fn configuration_reply_record(frame: &[u8], k: usize) -> ConfigurationReplyRecord
-    ensures { configuration_record_is result ≡ kth k (configuration_reply_of frame.now) }
+// Record k of the reply, if it has so many.
+#[tactic(auto, using(crate::proofs::Records::told_records, crate::proofs::SpanSizes::span_within), unfolding(crate::specs::Replies::configuration_reply_of))]
+pub fn configuration_reply_record(
+    frame: &[u8],
+    k: usize,
+) -> Result<Option<ConfigurationReplyRecord>, Refusal>
+    ensures { record_is configuration_record_is result ≡ kth k (configuration_reply_of frame.now) }
 {
     let swept = sweep_records(
         frame,
         CommandIdentifier::ReadReportingConfigurationResponse,
         Layout::Setting,
         k,
-    );
-    match swept {
-        Swept::Records { count, at, size } => {
-            if count <= k {
-                return ConfigurationReplyRecord::Past;
-            }
-            setting_in(&frame[at..at + size])
-        }
-        Swept::Refused(why) => ConfigurationReplyRecord::Refused(why),
-    }
+    )?;
+    let Some(span) = swept.kth else {
+        return Ok(None);
+    };
+    Ok(Some(setting_in(span.bytes_in(frame))))
 }

@@ -4,7 +4,7 @@ ghost use Rattle.readers.specs.Layout.{up_to, valued, failure_length, length_of}
 
 use configure::change::change_width;
 use frame::answer::Refusal;
-use types::extent::{Extent, extent_at};
+use types::extent::extent_at;
 use types::ids::TypeId;
 use types::number::byte_at;
 
@@ -24,73 +24,70 @@ pub(crate) enum Layout {
     Discovered,
 }
 
-#[derive(Clone, Copy)]
-pub(crate) enum Length {
-    Bytes(usize),
-    Refused(Refusal),
-}
-
 // n bytes, if they are there.
-fn up_to(rest: &[u8], n: usize) -> Length
+#[tactic(auto, unfolding(crate::specs::Layout::up_to))]
+fn up_to(rest: &[u8], n: usize) -> Result<usize, Refusal>
     ensures { result ≡ up_to n rest.now }
 {
     if n <= rest.len() {
-        return Length::Bytes(n);
+        return Ok(n);
     }
-    Length::Refused(Refusal::RecordCut)
+    Err(Refusal::RecordCut)
 }
 
 // A type at p, and a value behind it.
-fn valued_record(rest: &[u8], p: usize) -> Length
+#[tactic(auto, unfolding(crate::specs::Layout::valued))]
+fn valued_record(rest: &[u8], p: usize) -> Result<usize, Refusal>
     ensures { result ≡ valued p rest.now }
 {
     if rest.len() <= p {
-        return Length::Refused(Refusal::RecordCut);
+        return Err(Refusal::RecordCut);
     }
-    let Extent::End(q) = extent_at(rest, p + 1, TypeId(rest[p])) else {
-        return Length::Refused(Refusal::RecordCut);
-    };
-    Length::Bytes(q)
+    extent_at(rest, p + 1, TypeId(rest[p])).map_err(|_| Refusal::RecordCut)
 }
 
 // A record of a read reply.
-fn read_status_record(rest: &[u8]) -> Length
+#[tactic(auto, unfolding(crate::specs::Layout::length_of))]
+fn read_status_record(rest: &[u8]) -> Result<usize, Refusal>
     ensures { result ≡ length_of Layout.ReadStatus rest.now }
 {
     if rest.len() < 3 {
-        return Length::Refused(Refusal::RecordCut);
+        return Err(Refusal::RecordCut);
     }
     if rest[2] != 0 {
-        return Length::Bytes(3);
+        return Ok(3);
     }
     valued_record(rest, 3)
 }
 
 // A failure of n bytes: 00 is met before a cut.
-fn failure_record(rest: &[u8], n: usize) -> Length
+#[tactic(auto, unfolding(crate::specs::Layout::failure_length))]
+fn failure_record(rest: &[u8], n: usize) -> Result<usize, Refusal>
     ensures { result ≡ failure_length n rest.now }
 {
     if byte_at(rest, 0) == 0 {
-        return Length::Refused(Refusal::NotSuchAReply);
+        return Err(Refusal::NotSuchAReply);
     }
     up_to(rest, n)
 }
 
 // A record of a read configuration reply.
-fn setting_record(rest: &[u8]) -> Length
+#[tactic(auto, using(configure::proofs::Widths::width_least), unfolding(crate::specs::Layout::length_of))]
+fn setting_record(rest: &[u8]) -> Result<usize, Refusal>
     ensures { result ≡ length_of Layout.Setting rest.now }
 {
     if rest.len() < 4 {
-        return Length::Refused(Refusal::RecordCut);
+        return Err(Refusal::RecordCut);
     }
     if rest[0] != 0 {
-        return Length::Bytes(4);
+        return Ok(4);
     }
     up_to(rest, 9 + change_width(TypeId(byte_at(rest, 4))))
 }
 
 // How long the record is that some bytes begin with.
-pub(crate) fn record_length(rest: &[u8], layout: Layout) -> Length
+#[tactic(auto, unfolding(crate::specs::Layout::length_of))]
+pub(crate) fn record_length(rest: &[u8], layout: Layout) -> Result<usize, Refusal>
     ensures { result ≡ length_of layout rest.now }
 {
     match layout {

@@ -9,7 +9,7 @@ pub mod configure_reply;
 pub mod default_reply;
 pub mod discover_reply;
 mod layout;
-pub mod pass;
+mod pass;
 pub mod read_reply;
 pub mod report_frame;
 pub mod value;

@@ -1,119 +1,103 @@
 // One pass over the records of a reply: how many there are, and where record k lies, if the whole can be read.
-ghost use Rattle.std.specs.Prelude.{◌≡◌};
+ghost use Rattle.std.specs.Prelude.{◌≡◌, ◌+◌, ◌≤◌, length};
 ghost use Rattle.readers.specs.Layout.{length_of};
-ghost use Rattle.readers.specs.Reading.{spans_from};
+ghost use Rattle.readers.specs.Reading.{cut_out, spans_from};
 ghost use Rattle.readers.specs.Replies.{spans_of, failures_from, failures_of};
-ghost use Rattle.readers.specs.Inside.{Sweeps, count_by};
+ghost use Rattle.readers.specs.Inside.{swept};
 
-use super::body::{Body, body_of};
-use super::layout::{Layout, Length, record_length};
+use super::body::body_of;
+use super::layout::{Layout, record_length};
 use frame::answer::Refusal;
 use frame::command_identifier::CommandIdentifier;
 
-// How many records a reply has.
+// Where a record lies in its frame.
 #[derive(Clone, Copy)]
-pub enum Count {
-    Records(usize),
-    Refused(Refusal),
+pub(crate) struct Span {
+    pub at: usize,
+    pub size: usize,
 }
 
-// The same, with the place and the size of record k: 0 and 0 where there is none.
-#[derive(Clone, Copy)]
-pub(crate) enum Swept {
-    Records {
-        count: usize,
-        at: usize,
-        size: usize,
-    },
-    Refused(Refusal),
-}
-
-// The count alone.
-pub(crate) fn count_of(swept: Swept) -> Count
-    ensures { result ≡ count_by swept }
-{
-    match swept {
-        Swept::Records {
-            count,
-            at: _,
-            size: _,
-        } => Count::Records(count),
-        Swept::Refused(why) => Count::Refused(why),
+impl Span {
+    // The record's bytes.
+    pub(crate) fn bytes_in(self, frame: &[u8]) -> &[u8]
+        requires { self.at + self.size ≤ length frame.now }
+        ensures { result.now ≡ cut_out frame.now self }
+    {
+        &frame[self.at..self.at + self.size]
     }
+}
+
+// How many records a reply has, and where record k lies, if there are more than k.
+#[derive(Clone, Copy)]
+pub(crate) struct Swept {
+    pub count: usize,
+    pub kth: Option<Span>,
 }
 
 // The records from `from` to the frame's end.
-pub(crate) fn sweep(frame: &[u8], from: usize, layout: Layout, k: usize) -> Swept
-    ensures { Sweeps frame.now k (spans_from (length_of layout) frame.now from) result }
+pub(crate) fn sweep(frame: &[u8], from: usize, layout: Layout, k: usize) -> Result<Swept, Refusal>
+    ensures { result ≡ swept k (spans_from (length_of layout) frame.now from) }
 {
-    let mut here = from;
+    let mut at = from;
     let mut count: usize = 0;
-    let mut at: usize = 0;
-    let mut size: usize = 0;
-    while here < frame.len() {
-        let length = record_length(&frame[here..], layout);
-        match length {
-            Length::Bytes(n) => {
-                if count == k {
-                    at = here;
-                    size = n;
-                }
-                here += n;
-                count += 1;
-            }
-            Length::Refused(why) => {
-                return Swept::Refused(why);
-            }
+    let mut kth = None;
+    while at < frame.len() {
+        let size = record_length(&frame[at..], layout)?;
+        if count == k {
+            kth = Some(Span { at, size });
         }
+        at += size;
+        count += 1;
     }
-    Swept::Records { count, at, size }
+    Ok(Swept { count, kth })
 }
 
 // A reply that is nothing but records.
+#[tactic(auto, unfolding(crate::specs::Replies::spans_of))]
 pub(crate) fn sweep_records(
     frame: &[u8],
     command: CommandIdentifier,
     layout: Layout,
     k: usize,
-) -> Swept
-    ensures { Sweeps frame.now k (spans_of command layout frame.now) result }
+) -> Result<Swept, Refusal>
+    ensures { result ≡ swept k (spans_of command layout frame.now) }
 {
-    let body = body_of(frame, command);
-    match body {
-        Body::At(from) => sweep(frame, from, layout, k),
-        Body::Refused(why) => Swept::Refused(why),
-    }
+    let from = body_of(frame, command)?;
+    sweep(frame, from, layout, k)
 }
 
 // A reply's body that lists failures: one byte 00 is success, an empty one is cut.
-fn sweep_failures_from(frame: &[u8], from: usize, layout: Layout, k: usize) -> Swept
-    ensures { Sweeps frame.now k (failures_from layout frame.now from) result }
+#[tactic(auto, unfolding(crate::specs::Replies::failures_from))]
+fn sweep_failures_from(
+    frame: &[u8],
+    from: usize,
+    layout: Layout,
+    k: usize,
+) -> Result<Swept, Refusal>
+    ensures { result ≡ swept k (failures_from layout frame.now from) }
 {
     if frame.len() <= from {
-        return Swept::Refused(Refusal::RecordCut);
+        return Err(Refusal::RecordCut);
     }
-    if frame.len() - from == 1 && frame[from] == 0 {
-        return Swept::Records {
+    if frame[from..] == [0] {
+        return Ok(Swept {
             count: 0,
-            at: 0,
-            size: 0,
-        };
+            kth: None,
+        });
     }
     sweep(frame, from, layout, k)
 }
 
 // A reply that lists failures.
+#[tactic(auto, unfolding(crate::specs::Replies::failures_of))]
 pub(crate) fn sweep_failures(
     frame: &[u8],
     command: CommandIdentifier,
     layout: Layout,
     k: usize,
-) -> Swept
-    ensures { Sweeps frame.now k (failures_of command layout frame.now) result }
+) -> Result<Swept, Refusal>
+    ensures { result ≡ swept k (failures_of command layout frame.now) }
 {
-    let body = body_of(frame, command);
-    match body {
-        Body::At(from) => sweep_failures_from(frame, from, layout, k),
-        Body::Refused(why) => Swept::Refused(why),
-    }
+    let from = body_of(frame, command)?;
+    sweep_failures_from(frame, from, layout, k)
 }

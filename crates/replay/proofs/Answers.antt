@@ -1,61 +1,39 @@
 -- Laws of the answers to a frame (`specs/Commands.antt`). Assumes nothing.
+use Rattle.std.specs.Prelude.{None, Option, Result, Some}
 use mathlib.Core.Path.{◌≡◌, refl, sym, ap, ◌∙◌, subst}
-use mathlib.Core.Bool.{Bool, true, false, cond}
+use mathlib.Core.Bool.{Bool, true, false}
 use mathlib.Core.List.{List, [], ◌∷◌, ◌++◌}
 use Prim.Native.Nat.{ℕ, suc, ◌+◌, ◌-◌, ◌%◌, ◌≤◌, ◌<◌}
 use native.Mathlib.Omega.{arith}
-use native.Mathlib.Nat.{sub-zero}
 use native.Mathlib.Numerals.{add-one}
 use lib.ListN.{length, get_or, take, drop, length-drop}
 use lib.Dec.{leb, eqb}
 use borrow.Author.Tests.{eqb-true, eqb-false, eq-eqb, ne_eqb, lt-ltb, le-ltb, leb-true, leb-false}
+use Rattle.std.specs.Option.{option_eq}
 use Rattle.types.specs.Number.{unsigned_at}
 use Rattle.frame.specs.Answer.{Outcome, answer_number, answer_length, seen}
-use Rattle.frame.specs.declared.answer.Answer.{Answer}
-use Rattle.frame.specs.declared.reply.Put.{Put}
-use Rattle.frame.specs.declared.reply.Put.TheVariants.{At, Full}
-use Rattle.frame.specs.Header.{frame_type_of, is_global, header_of}
+use Rattle.frame.specs.declared.answer.Refusal.{Refusal}
+use Rattle.frame.specs.Header.{is_global}
 use Rattle.frame.specs.declared.header.FrameType.{FrameType}
 use Rattle.frame.specs.declared.header.FrameType.TheVariants.{GlobalCommand, ClusterCommand, Reserved}
 use Rattle.frame.specs.declared.header.ZclHeader.{ZclHeader}
-use Rattle.frame.specs.declared.header.HeaderRead.TheVariants.{Header, Short}
-use Rattle.frame.specs.contracts.header.FrameType as kind
-use types.Run.{OneOf, miss}
-use denote.Enum.Declared.{tag_of}
+use Rattle.frame.specs.contracts.header.FrameType as frame-type
+use denote.Enum.Bare.{sameb}
 use Rattle.replay.specs.Bytes.{same}
 use Rattle.replay.specs.Ours.{agreement}
-use Rattle.replay.specs.declared.cases.Agreement.TheVariants.{Is, NoInput}
-use Rattle.replay.specs.Commands.{asked_by, asked_of, outcome_of, store_says, answer_says, answer_with, next, answers_from, answers, answers_to, of_command}
+use Rattle.replay.specs.Commands.{asked_of, outcome_of, store_says, answer_says, answer_with, next, answers_from, answers, answers_to, of_command}
 use Rattle.replay.specs.declared.commands.Command.{Command}
-use Rattle.replay.specs.declared.commands.Asked.{Asked}
-use Rattle.replay.specs.declared.commands.Asked.TheVariants.{For, Nothing}
 use Rattle.replay.specs.declared.commands.Place.{Place}
-use Rattle.replay.specs.declared.commands.Turn.{Turn}
-use Rattle.replay.specs.declared.commands.Turn.TheVariants.{On, Off}
 use Rattle.replay.specs.Inside.{again, Lies, Goes, Stops, Turns, Turned, matched}
-use Rattle.replay.proofs.Matches.{same_take, same_is, starts_take, matched_at, matched_full, matched_on, matched_off, same_on, same_none, same_nil}
+use Rattle.replay.proofs.Matches.{same_take, same_is, starts_take, matched_at, matched_ends, matched_on, matched_off, same_on, same_none, same_nil}
 
 -- ---- what a frame asks for
 
-pub asked_short : (frame : List ℕ) → header_of frame ≡ Short → Nothing ≡ asked_of frame
-unfolding asked_of
-asked_short frame e = rw e
-
-not_global : (t : FrameType) (a : Asked) → OneOf (1 ∷ 2 ∷ []) (tag_of kind.the_type t) → Nothing ≡ cond (is_global t) a Nothing
-not_global GlobalCommand a o = absurd (miss (1 ∷ 2 ∷ []) 0 tt o)
-not_global ClusterCommand a o = refl
-not_global Reserved a o = refl
-
-module _ (frame : List ℕ) (h : ZclHeader) (t : FrameType) (e : header_of frame ≡ Header h) (f : t ≡ frame_type_of h.frame_control.0) where
-  asked_by_lem : cond (is_global t) (asked_by h.command_identifier.0 h) Nothing ≡ asked_of frame
-  unfolding asked_of
-  asked_by_lem = rw e (ap (λ (x : FrameType). cond (is_global x) (asked_by h.command_identifier.0 h) Nothing) f)
-
-  pub asked_other : OneOf (1 ∷ 2 ∷ []) (tag_of kind.the_type t) → Nothing ≡ asked_of frame
-  asked_other o = not_global t (asked_by h.command_identifier.0 h) o ∙ asked_by_lem
-
-  pub asked_is : t ≡ GlobalCommand → asked_by h.command_identifier.0 h ≡ asked_of frame
-  asked_is g = ap (λ (x : FrameType). cond (is_global x) (asked_by h.command_identifier.0 h) Nothing) (sym g) ∙ asked_by_lem
+-- the derived equality tells a global command from the other types
+pub same_global : (t : FrameType) → sameb frame-type.the_type t GlobalCommand ≡ is_global t
+same_global GlobalCommand = refl
+same_global ClusterCommand = refl
+same_global Reserved = refl
 
 -- ---- one answer
 
@@ -68,36 +46,31 @@ unfolding store_says
 store_other before after e = rw e
 
 -- its parts, as the code compares them
-module _ (held : List ℕ) (at : ℕ) (answer : Answer) (reply before after : List ℕ) (n m l : ℕ) (en : n ≡ answer_length answer) (em : m ≡ answer_number answer) (el : l ≡ n % 256) where
+module _ (held : List ℕ) (at : ℕ) (answer : Result ℕ Refusal) (reply before after : List ℕ) (n m l : ℕ) (en : n ≡ answer_length answer) (em : m ≡ answer_number answer) (el : l ≡ n % 256) where
   answer_is : (1 ∷ m ∷ l ∷ []) ++ (take n reply ++ store_says before after) ≡ answer_says before (seen answer reply after)
   unfolding answer_says
   answer_is =
       let k : l ≡ answer_length answer % 256 = el ∙ ap (λ (x : ℕ). x % 256) en in
       λ i. 1 ∷ em i ∷ k i ∷ (take (en i) reply ++ store_says before after)
 
-  pub answer_first : matched held at (1 ∷ m ∷ l ∷ []) ≡ Full → Full ≡ matched held at (answer_says before (seen answer reply after))
+  pub answer_first : matched held at (1 ∷ m ∷ l ∷ []) ≡ None → None ≡ matched held at (answer_says before (seen answer reply after))
   answer_first h = sym (matched_off held at (1 ∷ m ∷ l ∷ []) (take n reply ++ store_says before after) h) ∙ ap (matched held at) answer_is
 
-  module _ (o : ℕ) (h : matched held at (1 ∷ m ∷ l ∷ []) ≡ At o) where
+  module _ (o : ℕ) (h : matched held at (1 ∷ m ∷ l ∷ []) ≡ Some o) where
     behind_head : matched held o (take n reply ++ store_says before after) ≡ matched held at (answer_says before (seen answer reply after))
     behind_head = sym (matched_on held at (1 ∷ m ∷ l ∷ []) (take n reply ++ store_says before after) o h) ∙ ap (matched held at) answer_is
 
-    pub answer_second : matched held o (take n reply) ≡ Full → Full ≡ matched held at (answer_says before (seen answer reply after))
+    pub answer_second : matched held o (take n reply) ≡ None → None ≡ matched held at (answer_says before (seen answer reply after))
     answer_second k = sym (matched_off held o (take n reply) (store_says before after) k) ∙ behind_head
 
-    pub answer_third : (q : ℕ) → matched held o (take n reply) ≡ At q → (r : Put) → r ≡ matched held q (store_says before after) → r ≡ matched held at (answer_says before (seen answer reply after))
+    pub answer_third : (q : ℕ) → matched held o (take n reply) ≡ Some q → (r : Option ℕ) → r ≡ matched held q (store_says before after) → r ≡ matched held at (answer_says before (seen answer reply after))
     answer_third q k r e = e ∙ sym (matched_on held o (take n reply) (store_says before after) q k) ∙ behind_head
 
 -- ---- an answer behind the one before it
 
-module _ (held : List ℕ) (p : Place) (this : List ℕ) where
-  pub again_at : (e : ℕ) → matched held p.from this ≡ At e → eqb e p.to ≡ again held p this
-  unfolding again
-  again_at e h = let r = matched_at held p.from this e h in rw (r.0, r.1)
-
-  pub again_full : matched held p.from this ≡ Full → false ≡ again held p this
-  unfolding again
-  again_full h = rw (matched_full held p.from this h)
+pub again_ends : (held : List ℕ) (p : Place) (this : List ℕ) → option_eq eqb (matched held p.from this) (Some p.to) ≡ again held p this
+unfolding again
+again_ends held p this = matched_ends held p.from this p.to
 
 eqb_shift : (a b c : ℕ) → a ≤ c → eqb (a + b) c ≡ eqb b (c - a)
 eqb_shift a b c h = go (eqb b (c - a)) refl
@@ -125,21 +98,21 @@ module _ (held : List ℕ) (p : Place) (this last : List ℕ) (lies : Lies held 
   unfolding next
   next_new e = rw (sym again_same ∙ e)
 
-  more_on : (bytes rest : List ℕ) (o : ℕ) → next last this ≡ bytes → matched held p.at bytes ≡ At o → same (next last this ++ rest) (drop p.at held) ≡ same rest (drop o held)
+  more_on : (bytes rest : List ℕ) (o : ℕ) → next last this ≡ bytes → matched held p.at bytes ≡ Some o → same (next last this ++ rest) (drop p.at held) ≡ same rest (drop o held)
   more_on bytes rest o e h = ap (λ (l : List ℕ). same (l ++ rest) (drop p.at held)) e ∙ same_on held p.at bytes rest o h
 
-  more_off : (bytes : List ℕ) → next last this ≡ bytes → matched held p.at bytes ≡ Full → Stops held p (next last this)
+  more_off : (bytes : List ℕ) → next last this ≡ bytes → matched held p.at bytes ≡ None → Stops held p (next last this)
   more_off bytes e h = record { none = λ rest. ap (λ (l : List ℕ). same (l ++ rest) (drop p.at held)) e ∙ same_none held p.at bytes rest h }
 
   -- what was matched lies within
-  matched_within : (bytes : List ℕ) (o : ℕ) → matched held p.at bytes ≡ At o → (o ≡ p.at + length bytes) × (o ≤ length held)
+  matched_within : (bytes : List ℕ) (o : ℕ) → matched held p.at bytes ≡ Some o → (o ≡ p.at + length bytes) × (o ≤ length held)
   matched_within bytes o h =
       let r = matched_at held p.at bytes o h in
       let k : length bytes ≤ length held - p.at = simp length-drop at (starts_take bytes (drop p.at held) r.0).1 in
       let w = lies.within in
       (r.1, omega (arith, r.1))
 
-  pub turn_again : (o : ℕ) → again held p this ≡ true → matched held p.at (0 ∷ []) ≡ At o → Goes held p (next last this) this (record { from = p.from; to = p.to; at = o })
+  pub turn_again : (o : ℕ) → again held p this ≡ true → matched held p.at (0 ∷ []) ≡ Some o → Goes held p (next last this) this (record { from = p.from; to = p.to; at = o })
   turn_again o e h =
       let w = matched_within (0 ∷ []) o h in
       let b = lies.before in
@@ -148,10 +121,10 @@ module _ (held : List ℕ) (p : Place) (this last : List ℕ) (lies : Lies held 
         more = λ rest. more_on (0 ∷ []) rest o (next_again e) h;
       }
 
-  pub turn_again_off : again held p this ≡ true → matched held p.at (0 ∷ []) ≡ Full → Stops held p (next last this)
+  pub turn_again_off : again held p this ≡ true → matched held p.at (0 ∷ []) ≡ None → Stops held p (next last this)
   turn_again_off e h = more_off (0 ∷ []) (next_again e) h
 
-  pub turn_new : (o : ℕ) → again held p this ≡ false → matched held p.at this ≡ At o → Goes held p (next last this) this (record { from = p.at; to = o; at = o })
+  pub turn_new : (o : ℕ) → again held p this ≡ false → matched held p.at this ≡ Some o → Goes held p (next last this) this (record { from = p.at; to = o; at = o })
   turn_new o e h =
       let w = matched_within this o h in
       let r = matched_at held p.at this o h in
@@ -161,7 +134,7 @@ module _ (held : List ℕ) (p : Place) (this last : List ℕ) (lies : Lies held 
         more = λ rest. more_on this rest o (next_new e) h;
       }
 
-  pub turn_new_off : again held p this ≡ false → matched held p.at this ≡ Full → Stops held p (next last this)
+  pub turn_new_off : again held p this ≡ false → matched held p.at this ≡ None → Stops held p (next last this)
   turn_new_off e h = more_off this (next_new e) h
 
 -- what a command leaves, by its function
@@ -169,7 +142,7 @@ pub called : (request : ZclHeader) (body s : List ℕ) (room : ℕ) (command k :
 called request body s room command k o e f = f ∙ ap (λ (x : Command). outcome_of x request body s room) (sym e)
 
 -- an answer to the store that was laid into a buffer is one to the store
-pub turned_with : (held : List ℕ) (p : Place) (r : Turn) (command : Command) (request : ZclHeader) (body s copy : List ℕ) (room : ℕ) (this : Outcome (List ℕ)) → copy ≡ s → this ≡ outcome_of command request body copy room
+pub turned_with : (held : List ℕ) (p : Place) (r : Option Place) (command : Command) (request : ZclHeader) (body s copy : List ℕ) (room : ℕ) (this : Outcome (List ℕ)) → copy ≡ s → this ≡ outcome_of command request body copy room
     → Turned held p (answer_says s this) r → Turned held p (answer_with command request body s room) r
 turned_with held p r command request body s copy room this e f t =
     subst (λ (x : List ℕ). Turned held p x r) (ap (answer_says s) (f ∙ ap (λ (x : List ℕ). outcome_of command request body x room) e)) t
@@ -183,15 +156,12 @@ pub record Going (tells : ℕ → List ℕ) (last : ℕ) (held : List ℕ) (p : 
   pub left : same (answers_from tells answer (suc last - room) room) (drop p.at held) ≡ same (answers tells last) held
 
 module _ (tells : ℕ → List ℕ) (last : ℕ) (held : List ℕ) where
-  pub going_first : Going tells last held (record { from = 0; to = 0; at = 0 }) 0
-  going_first = record { answer = []; lies = record { is = refl; ordered = omega arith; before = omega arith; within = omega arith }; left = rw sub-zero }
-
   module _ (p : Place) (room : ℕ) (g : Going tells last held p room) where
     step : room ≤ last → answers_from tells g.answer (suc last - room) room ≡ next g.answer (tells room) ++ answers_from tells (tells room) (suc last - (room + 1)) (room + 1)
     unfolding answers_from
     step h = let z : suc last - room ≡ suc (suc last - (room + 1)) = omega arith in rw (z, add-one room)
 
-    pub going_more : room ≤ last → (r : Turn) (q : Place) → r ≡ On q → Turned held p (tells room) r → Going tells last held q (room + 1)
+    pub going_more : room ≤ last → (r : Option Place) (q : Place) → r ≡ Some q → Turned held p (tells room) r → Going tells last held q (room + 1)
     going_more h r q e t =
         let w : Goes held p (next g.answer (tells room)) (tells room) q = subst (Turns held p (next g.answer (tells room)) (tells room)) e (t g.answer g.lies) in
         record {
@@ -200,7 +170,7 @@ module _ (tells : ℕ → List ℕ) (last : ℕ) (held : List ℕ) where
           left = sym (w.more (answers_from tells (tells room) (suc last - (room + 1)) (room + 1))) ∙ ap (λ (l : List ℕ). same l (drop p.at held)) (sym (step h)) ∙ g.left;
         }
 
-    pub going_off : room ≤ last → (r : Turn) → r ≡ Off → Turned held p (tells room) r → false ≡ same (answers tells last) held
+    pub going_off : room ≤ last → (r : Option Place) → r ≡ None → Turned held p (tells room) r → false ≡ same (answers tells last) held
     going_off h r e t =
         let w : Stops held p (next g.answer (tells room)) = subst (Turns held p (next g.answer (tells room)) (tells room)) e (t g.answer g.lies) in
         sym (w.none (answers_from tells (tells room) (suc last - (room + 1)) (room + 1))) ∙ ap (λ (l : List ℕ). same l (drop p.at held)) (sym (step h)) ∙ g.left
@@ -222,11 +192,11 @@ module _ (tells : ℕ → List ℕ) (last : ℕ) (held : List ℕ) where
 -- ---- the input
 
 module _ (input held : List ℕ) (last n : ℕ) (el : last ≡ get_or input 0 0) (en : n ≡ unsigned_at input 1 2) where
-  pub command_room : 63 < last → NoInput ≡ agreement (of_command input) held
+  pub command_room : 63 < last → None ≡ agreement (of_command input) held
   unfolding of_command
   command_room h = let k : 63 < get_or input 0 0 = omega arith in rw (lt-ltb 63 (get_or input 0 0) k)
 
-  pub command_short : last ≤ 63 → length input < 3 + n → NoInput ≡ agreement (of_command input) held
+  pub command_short : last ≤ 63 → length input < 3 + n → None ≡ agreement (of_command input) held
   unfolding of_command
   command_short h l =
       let k : get_or input 0 0 ≤ 63 = omega arith in
@@ -243,12 +213,12 @@ module _ (input held : List ℕ) (last n : ℕ) (el : last ≡ get_or input 0 0)
         rw (le-ltb 63 (get_or input 0 0) k, le-ltb (length input) (3 + unsigned_at input 1 2) m)
         (λ i. agreement (answers_to (asked_of (f i)) (el i) (take (en i) (drop 3 input)) (f i)) held)
 
-    pub command_none : asked_of frame ≡ Nothing → NoInput ≡ agreement (of_command input) held
-    command_none e = ap (λ (a : Asked). agreement (answers_to a last (take n (drop 3 input)) frame) held) (sym e) ∙ command_is
+    pub command_none : asked_of frame ≡ None → None ≡ agreement (of_command input) held
+    command_none e = ap (λ (a : Option (Command × ZclHeader)). agreement (answers_to a last (take n (drop 3 input)) frame) held) (sym e) ∙ command_is
 
-    pub command_says : (command : Command) (request : ZclHeader) (body s : List ℕ) → asked_of frame ≡ For command request → body ≡ drop request.body frame → s ≡ take n (drop 3 input)
-        → Is (same (answers (answer_with command request body s) last) held) ≡ agreement (of_command input) held
+    pub command_says : (command : Command) (request : ZclHeader) (body s : List ℕ) → asked_of frame ≡ Some (command, request) → body ≡ drop request.body frame → s ≡ take n (drop 3 input)
+        → Some (same (answers (answer_with command request body s) last) held) ≡ agreement (of_command input) held
     command_says command request body s e eb es =
-        (λ i. Is (same (answers (answer_with command request (eb i) (es i)) last) held))
-        ∙ ap (λ (a : Asked). agreement (answers_to a last (take n (drop 3 input)) frame) held) (sym e)
+        (λ i. Some (same (answers (answer_with command request (eb i) (es i)) last) held))
+        ∙ ap (λ (a : Option (Command × ZclHeader)). agreement (answers_to a last (take n (drop 3 input)) frame) held) (sym e)
         ∙ command_is

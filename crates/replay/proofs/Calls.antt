@@ -1,19 +1,20 @@
 -- Laws of calls on a table by value (`specs/Methods.antt`). Assumes nothing.
+use Rattle.std.specs.Prelude.{None, Option, Some}
 use mathlib.Core.Path.{◌≡◌, refl, sym, ap, ◌∙◌}
 use mathlib.Core.Bool.{Bool, true, false, cond, ◌&&◌, true≢false, false≢true}
 use mathlib.Core.List.{List, [], ◌∷◌, ◌++◌, map}
-use Prim.Native.Nat.{ℕ, suc, ◌+◌, ◌-◌, ◌*◌, ◌/◌, ◌%◌, ◌≤◌, ◌<◌}
+use Prim.Native.Nat.{ℕ, zero, suc, ◌+◌, ◌-◌, ◌*◌, ◌/◌, ◌%◌, ◌≤◌, ◌<◌}
 use native.Mathlib.Omega.{arith}
-use native.Mathlib.Nat.{sub-zero}
-use lib.ListN.{length, get_or, take, drop, length-map}
-use lib.Seq.{get_or-take, get_or-drop, drop-drop, take_at, length-take-le}
+use lib.ListN.{length, get_or, take, drop, drop_of_length-le, length-map}
+use lib.Seq.{take_at, length-take-le}
 use lib.Dec.{leb}
 use lib.IntN.{ℤ}
-use borrow.Author.Tests.{eq-eqb, ne_eqb, le-leb, lt-leb, leb-true, leb-false, lt-ltb}
+use borrow.Author.Tests.{eq-eqb, ne_eqb, le-leb, leb-true, leb-false, lt-ltb}
+use Rattle.std.specs.List.{list_all}
+use Rattle.std.specs.Simd.{first_chunks}
+use Rattle.std.proofs.lemmas.List.{at_drop_more}
 use Rattle.types.specs.Number.{bytes_of, zeros}
 use Rattle.frame.specs.Reply.{padded}
-use Rattle.frame.specs.declared.reply.Put.{Put}
-use Rattle.frame.specs.declared.reply.Put.TheVariants.{At, Full}
 use Rattle.reporting.specs.declared.entry.Key.{Key}
 use Rattle.reporting.specs.declared.entry.ReportingConfig.{ReportingConfig}
 use Rattle.reporting.specs.declared.table.ReportingTable.{ReportingTable}
@@ -22,10 +23,8 @@ use Rattle.reporting.specs.Carried.{widths, rows_laid, numbers_of, table_size, t
 use Rattle.reporting.proofs.Carriage.{length_rows}
 use Rattle.reporting.proofs.Slots.{is-table}
 use Rattle.replay.specs.Bytes.{same}
-use Rattle.replay.specs.Ours.{agreement}
-use Rattle.replay.specs.Methods.{key_in, config_in, time_in, value_in, report_says, setting_says, length_says, config_says, Called, changing, looking, called, table_says, history, calls_in, are_calls, of_history}
+use Rattle.replay.specs.Methods.{key_in, config_in, time_in, value_in, report_says, setting_says, length_says, config_says, Called, changing, looking, called, table_says, history, calls_in, are_calls}
 use Rattle.replay.specs.Inside.{matched, Found, found}
-use Rattle.replay.specs.declared.cases.Agreement.TheVariants.{Is, NoInput}
 use Rattle.replay.proofs.Matches.{matched_on, matched_off, same_on, same_none}
 
 -- ---- a configuration as bytes: six, and then eight
@@ -35,10 +34,10 @@ module _ (held : List ℕ) (at number found a b c d : ℕ) (g : ReportingConfig)
   unfolding bytes_of
   config_is = λ i. number ∷ found ∷ ea i ∷ eb i ∷ ec i ∷ ed i ∷ bytes_of 8 g.reportable_change
 
-  pub config_off : matched held at (number ∷ found ∷ a ∷ b ∷ c ∷ d ∷ []) ≡ Full → Full ≡ matched held at (number ∷ found ∷ config_says g)
+  pub config_off : matched held at (number ∷ found ∷ a ∷ b ∷ c ∷ d ∷ []) ≡ None → None ≡ matched held at (number ∷ found ∷ config_says g)
   config_off h = sym (matched_off held at (number ∷ found ∷ a ∷ b ∷ c ∷ d ∷ []) (bytes_of 8 g.reportable_change) h) ∙ ap (matched held at) config_is
 
-  pub config_on : (o : ℕ) → matched held at (number ∷ found ∷ a ∷ b ∷ c ∷ d ∷ []) ≡ At o → (change : List ℕ) → change ≡ bytes_of 8 g.reportable_change → (r : Put) → r ≡ matched held o change → r ≡ matched held at (number ∷ found ∷ config_says g)
+  pub config_on : (o : ℕ) → matched held at (number ∷ found ∷ a ∷ b ∷ c ∷ d ∷ []) ≡ Some o → (change : List ℕ) → change ≡ bytes_of 8 g.reportable_change → (r : Option ℕ) → r ≡ matched held o change → r ≡ matched held at (number ∷ found ∷ config_says g)
   config_on o h change e r p =
       p ∙ ap (matched held o) e ∙ sym (matched_on held at (number ∷ found ∷ a ∷ b ∷ c ∷ d ∷ []) (bytes_of 8 g.reportable_change) o h) ∙ ap (matched held at) config_is
 
@@ -59,7 +58,7 @@ module _ (held : List ℕ) (at : ℕ) (c : List ℕ) (t : Table) (op : ℕ) (eo 
   unfolding called
   gave_clear h o e r p = let z : get_or c 0 0 ≡ 1 = sym eo ∙ h in by_op (changing o) (ap changing (e ∙ (λ i. clear_t (ek i) t)) ∙ sym (rw z)) r p
 
-  pub gave_setting : op ≡ 4 → (x : SettingTold) → x ≡ configuration_t k t → (m : Put) → m ≡ matched held at (setting_says x) → ◌≡◌ {A = Found} (record { at = m; table = t }) (found held at (called c t))
+  pub gave_setting : op ≡ 4 → (x : SettingTold) → x ≡ configuration_t k t → (m : Option ℕ) → m ≡ matched held at (setting_says x) → ◌≡◌ {A = Found} (record { at = m; table = t }) (found held at (called c t))
   unfolding called
   gave_setting h x e m p =
       let z : get_or c 0 0 ≡ 4 = sym eo ∙ h in
@@ -72,13 +71,13 @@ module _ (held : List ℕ) (at : ℕ) (c : List ℕ) (t : Table) (op : ℕ) (eo 
         let z : get_or c 0 0 ≡ 2 = sym eo ∙ h in
         by_op (changing o) (ap changing (e ∙ (λ i. mark_t (ek i) (en i) (ev i) t)) ∙ sym (rw z)) r p
 
-    pub gave_ask : op ≡ 3 → (x : ReportTold) → x ≡ ask_t k now v t → (bytes : List ℕ) → bytes ≡ report_says x → (m : Put) → m ≡ matched held at bytes → ◌≡◌ {A = Found} (record { at = m; table = t }) (found held at (called c t))
+    pub gave_ask : op ≡ 3 → (x : ReportTold) → x ≡ ask_t k now v t → (bytes : List ℕ) → bytes ≡ report_says x → (m : Option ℕ) → m ≡ matched held at bytes → ◌≡◌ {A = Found} (record { at = m; table = t }) (found held at (called c t))
     unfolding called
     gave_ask h x e bytes eb m p =
         let z : get_or c 0 0 ≡ 3 = sym eo ∙ h in
         by_op (looking t (report_says x)) (ap (λ (y : ReportTold). looking t (report_says y)) (e ∙ (λ i. ask_t (ek i) (en i) (ev i) t)) ∙ sym (rw z)) (record { at = m; table = t }) (λ i. record { at = (p ∙ ap (matched held at) eb) i; table = t })
 
-  pub gave_length : (op ≡ 0 → ⊥) → (op ≡ 1 → ⊥) → (op ≡ 2 → ⊥) → (op ≡ 3 → ⊥) → (op ≡ 4 → ⊥) → (x : LengthTold) → x ≡ length_t t → (bytes : List ℕ) → bytes ≡ length_says x → (m : Put) → m ≡ matched held at bytes → ◌≡◌ {A = Found} (record { at = m; table = t }) (found held at (called c t))
+  pub gave_length : (op ≡ 0 → ⊥) → (op ≡ 1 → ⊥) → (op ≡ 2 → ⊥) → (op ≡ 3 → ⊥) → (op ≡ 4 → ⊥) → (x : LengthTold) → x ≡ length_t t → (bytes : List ℕ) → bytes ≡ length_says x → (m : Option ℕ) → m ≡ matched held at bytes → ◌≡◌ {A = Found} (record { at = m; table = t }) (found held at (called c t))
   unfolding called
   gave_length n0 n1 n2 n3 n4 x e bytes eb m p =
       by_op (looking t (length_says x))
@@ -134,92 +133,57 @@ module _ (t : ReportingTable) (bs after : List ℕ) (w : Bool) (n : length bs �
         ∙ take_at used (zeros (table_size capacity - length used)) (1 + slot_bytes * t.count) long
         ∙ sym (ap table_says (is-table t (laid_small h)))
 
--- ---- the calls of an input, from one on
+-- ---- the calls of an input
 
-abbrev pub calls_from : List ℕ → ℕ → List (List ℕ)
-calls_from s i = calls_in (length s / 17 - i) (drop (17 * i) s)
+calls_are : (n : ℕ) (s : List ℕ) → first_chunks 17 n s ≡ calls_in n s
+unfolding calls_in
+calls_are zero s = refl
+calls_are (suc n) s = ap (λ (cs : List (List ℕ)). take 17 s ∷ cs) (calls_are n (drop 17 s))
 
-module _ (s : List ℕ) where
-  pub calls_start : calls_from s 0 ≡ calls_in (length s / 17) s
-  calls_start = rw sub-zero refl
-
-  module _ (i : ℕ) where
-    pub calls_more : i < length s / 17 → calls_from s i ≡ take 17 (drop (17 * i) s) ∷ calls_from s (i + 1)
-    unfolding calls_in
-    calls_more h =
-        let k : length s / 17 - i ≡ suc (length s / 17 - (i + 1)) = omega arith in
-        let m : 17 * i + 17 ≡ 17 * (i + 1) = omega arith in
-        ap (λ (n : ℕ). calls_in n (drop (17 * i) s)) k
-        ∙ ap (λ (l : List ℕ). take 17 (drop (17 * i) s) ∷ calls_in (length s / 17 - (i + 1)) l) (drop-drop 17 (17 * i) s ∙ ap (λ (n : ℕ). drop n s) m)
-
-    pub calls_end : length s / 17 ≤ i → calls_from s i ≡ []
-    unfolding calls_in
-    calls_end h = let k : length s / 17 - i ≡ 0 = omega arith in ap (λ (n : ℕ). calls_in n (drop (17 * i) s)) k
-
--- ---- whether they are calls
-
-module _ (s : List ℕ) (i op : ℕ) (eo : op ≡ get_or s (17 * i) 0) (inv : are_calls (calls_from s i) ≡ are_calls (calls_in (length s / 17) s)) (h : i < length s / 17) where
-  the_op : get_or (take 17 (drop (17 * i) s)) 0 0 ≡ op
-  the_op = get_or-take 17 (drop (17 * i) s) 0 0 (omega arith) ∙ get_or-drop (17 * i) s 0 0 ∙ ap (λ (n : ℕ). get_or s n 0) (omega arith) ∙ sym eo
-
-  one : are_calls (calls_from s i) ≡ (leb op 5 && are_calls (calls_from s (i + 1)))
-  unfolding are_calls
-  one = ap are_calls (calls_more s i h) ∙ ap (λ (n : ℕ). leb n 5 && are_calls (calls_from s (i + 1))) the_op
-
-  pub are_more : op ≤ 5 → are_calls (calls_from s (i + 1)) ≡ are_calls (calls_in (length s / 17) s)
-  are_more l = sym (one ∙ rw (le-leb op 5 l) refl) ∙ inv
-
-  pub are_not : 5 < op → false ≡ are_calls (calls_in (length s / 17) s)
-  are_not l = sym (one ∙ rw (lt-leb op 5 l) refl) ∙ inv
-
-pub are_all : (s : List ℕ) (i : ℕ) → are_calls (calls_from s i) ≡ are_calls (calls_in (length s / 17) s) → length s / 17 ≤ i → true ≡ are_calls (calls_in (length s / 17) s)
+-- as the library asks whether each of them is one
+pub all_calls : (n : ℕ) (input : List ℕ) (calls : List (List ℕ)) → calls ≡ first_chunks 17 n input → list_all (λ c. leb (get_or c 0 0) 5) calls ≡ are_calls (calls_in n input)
 unfolding are_calls
-are_all s i inv h = sym (ap are_calls (calls_end s i h)) ∙ inv
+all_calls n input calls e = go calls ∙ ap are_calls (e ∙ calls_are n input)
+  where
+    go : (cs : List (List ℕ)) → list_all (λ c. leb (get_or c 0 0) 5) cs ≡ are_calls cs
+    go [] = refl
+    go (c ∷ cs) = ap (λ (b : Bool). leb (get_or c 0 0) 5 && b) (go cs)
 
 -- ---- a history
 
 -- from call i on, what is left to compare is the whole
-abbrev pub Follows : List ℕ → List ℕ → Table → ℕ → ℕ → Type 0
-Follows input held t at i = same (history (calls_from input i) t) (drop at held) ≡ same (history (calls_in (length input / 17) input) (holding [])) held
+abbrev pub Follows : List (List ℕ) → List ℕ → Table → ℕ → ℕ → Type 0
+Follows calls held t at i = same (history (drop i calls) t) (drop at held) ≡ same (history calls (holding [])) held
 
-module _ (input held : List ℕ) (t : Table) where
-  pub follow_start : t ≡ holding [] → Follows input held t 0 0
-  follow_start e = λ i. same (history (calls_start input i) (e i)) held
+module _ (n : ℕ) (input held : List ℕ) (calls : List (List ℕ)) (ec : calls ≡ first_chunks 17 n input) (t : Table) where
+  whole : same (history calls (holding [])) held ≡ same (history (calls_in n input) (holding [])) held
+  whole = ap (λ (cs : List (List ℕ)). same (history cs (holding [])) held) (ec ∙ calls_are n input)
 
-  module _ (at i : ℕ) (inv : Follows input held t at i) where
-    module _ (h : i < length input / 17) (c : List ℕ) (ec : c ≡ take 17 (drop (17 * i) input)) (r : Found) (e : r ≡ found held at (called c t)) where
-      step : history (calls_from input i) t ≡ (called c t).says ++ history (calls_from input (i + 1)) (called c t).table
-      unfolding history
-      step = ap (λ (cs : List (List ℕ)). history cs t) (calls_more input i h ∙ ap (λ (d : List ℕ). d ∷ calls_from input (i + 1)) (sym ec))
+  module _ (at i : ℕ) (inv : Follows calls held t at i) where
+    module _ (h : i < length calls) (r : Found) (e : r ≡ found held at (called (get_or calls i []) t)) where
+      this : Called
+      this = called (get_or calls i []) t
 
-      pub follow_more : (o : ℕ) → r.at ≡ At o → Follows input held r.table o (i + 1)
+      step : history (drop i calls) t ≡ this.says ++ history (drop (i + 1) calls) this.table
+      unfolding history this
+      step = at_drop_more (λ cs. history cs t) calls i [] h
+
+      pub follow_more : (o : ℕ) → r.at ≡ Some o → Follows calls held r.table o (i + 1)
+      unfolding this
       follow_more o k =
-          ap (λ (u : Table). same (history (calls_from input (i + 1)) u) (drop o held)) (ap (λ (x : Found). x.table) e)
-          ∙ sym (same_on held at (called c t).says (history (calls_from input (i + 1)) (called c t).table) o (sym (ap (λ (x : Found). x.at) e) ∙ k))
+          ap (λ (u : Table). same (history (drop (i + 1) calls) u) (drop o held)) (ap (λ (x : Found). x.table) e)
+          ∙ sym (same_on held at this.says (history (drop (i + 1) calls) this.table) o (sym (ap (λ (x : Found). x.at) e) ∙ k))
           ∙ ap (λ (l : List ℕ). same l (drop at held)) (sym step)
           ∙ inv
 
-      pub follow_off : r.at ≡ Full → false ≡ same (history (calls_in (length input / 17) input) (holding [])) held
+      pub follow_off : r.at ≡ None → false ≡ same (history (calls_in n input) (holding [])) held
+      unfolding this
       follow_off k =
-          sym (same_none held at (called c t).says (history (calls_from input (i + 1)) (called c t).table) (sym (ap (λ (x : Found). x.at) e) ∙ k))
+          sym (same_none held at this.says (history (drop (i + 1) calls) this.table) (sym (ap (λ (x : Found). x.at) e) ∙ k))
           ∙ ap (λ (l : List ℕ). same l (drop at held)) (sym step)
           ∙ inv
+          ∙ whole
 
-    pub follow_done : length input / 17 ≤ i → (b : Bool) → b ≡ same (table_says t) (drop at held) → b ≡ same (history (calls_in (length input / 17) input) (holding [])) held
+    pub follow_done : length calls ≤ i → (b : Bool) → b ≡ same (table_says t) (drop at held) → b ≡ same (history (calls_in n input) (holding [])) held
     unfolding history
-    follow_done h b e = e ∙ sym (ap (λ (cs : List (List ℕ)). same (history cs t) (drop at held)) (calls_end input i h)) ∙ inv
-
--- ---- the input
-
-module _ (input held : List ℕ) where
-  pub history_odd : (length input % 17 ≡ 0 → ⊥) → NoInput ≡ agreement (of_history input) held
-  unfolding of_history
-  history_odd h = rw (ne_eqb (length input % 17) 0 h)
-
-  pub history_other : length input % 17 ≡ 0 → are_calls (calls_in (length input / 17) input) ≡ false → NoInput ≡ agreement (of_history input) held
-  unfolding of_history
-  history_other h e = rw (eq-eqb (length input % 17) 0 h, e)
-
-  pub history_says : length input % 17 ≡ 0 → are_calls (calls_in (length input / 17) input) ≡ true → (b : Bool) → b ≡ same (history (calls_in (length input / 17) input) (holding [])) held → Is b ≡ agreement (of_history input) held
-  unfolding of_history
-  history_says h e b p = rw (eq-eqb (length input % 17) 0 h, e) (ap Is p)
+    follow_done h b e = e ∙ sym (ap (λ (cs : List (List ℕ)). same (history cs t) (drop at held)) (drop_of_length-le calls h)) ∙ inv ∙ whole

@@ -1,17 +1,33 @@
 -- Laws of bytes that are compared (`specs/Bytes.antt`). Assumes nothing.
+use Rattle.std.specs.Prelude.{None, Some}
 use mathlib.Core.Path.{◌≡◌, refl, sym, ap, ◌∙◌}
 use mathlib.Core.Bool.{Bool, true, false, cond, ◌&&◌, and_assoc, and-false}
 use mathlib.Core.List.{List, [], ◌∷◌, ◌++◌}
-use Prim.Native.Nat.{ℕ, zero, suc, ◌+◌, ◌≤◌, ◌<◌}
+use Prim.Native.Nat.{ℕ, zero, suc, ◌+◌, ◌≤◌}
 use native.Mathlib.Omega.{arith}
-use native.Mathlib.Numerals.{add-one}
-use lib.ListN.{length, get_or, take, drop, length-append, drop_of_length-le}
-use lib.Seq.{drop-cons, take-length, drop-drop}
+use lib.ListN.{length, take, drop, length-append}
+use lib.Seq.{take-length, drop-drop}
+use lib.Pointwise.{pointwise}
 use lib.Dec.{eqb, eqb-zero-suc, eqb-suc-zero, eqb-suc-suc}
-use borrow.Author.Tests.{eq-eqb, ne_eqb, eqb-true}
-use Rattle.frame.specs.declared.reply.Put.TheVariants.{At, Full}
+use borrow.Author.Tests.{eq-eqb, eqb-true}
+use Rattle.std.specs.Option.{option_eq}
 use Rattle.replay.specs.Bytes.{same}
 use Rattle.replay.specs.Inside.{starts, matched}
+
+-- ---- what the library's tests say
+
+pub pointwise_same : (xs ys : List ℕ) → pointwise eqb xs ys ≡ same xs ys
+unfolding same
+pointwise_same [] [] = refl
+pointwise_same [] (y ∷ ys) = refl
+pointwise_same (x ∷ xs) [] = refl
+pointwise_same (x ∷ xs) (y ∷ ys) = ap (λ (b : Bool). eqb x y && b) (pointwise_same xs ys)
+
+pointwise_starts : (xs ys : List ℕ) → pointwise eqb xs (take (length xs) ys) ≡ starts xs ys
+unfolding starts
+pointwise_starts [] ys = refl
+pointwise_starts (x ∷ xs) [] = refl
+pointwise_starts (x ∷ xs) (y ∷ ys) = ap (λ (b : Bool). eqb x y && b) (pointwise_starts xs ys)
 
 -- ---- lists
 
@@ -77,78 +93,61 @@ same_is (x ∷ xs) (y ∷ ys) h = go (eqb x y) refl h (λ k. same_is xs ys k)
 
 -- ---- a match at a place
 
--- one byte, and the others behind it
-pub matched_cons : (s : List ℕ) (p b : ℕ) (bs : List ℕ) → p < length s → matched s p (b ∷ bs) ≡ cond (eqb b (get_or s p 0)) (matched s (p + 1) bs) Full
-unfolding matched starts
-matched_cons s p b bs h = rw (drop-cons s p 0 h, add-one p) (go (eqb b (get_or s p 0)))
-  where
-    go : (e : Bool)
-        → cond (e && starts bs (drop (suc p) s)) (At (p + suc (length bs))) Full
-        ≡ cond e (cond (starts bs (drop (suc p) s)) (At (suc p + length bs)) Full) Full
-    go true = let q : p + suc (length bs) ≡ suc p + length bs = omega arith in ap (λ (n : ℕ). cond (starts bs (drop (suc p) s)) (At n) Full) q
-    go false = refl
-
--- byte i of the bytes stands at p: what is left of the match goes on behind it
-pub matched_more : (s bytes : List ℕ) (p i : ℕ) → p < length s → i < length bytes → get_or s p 0 ≡ get_or bytes i 0 → matched s (p + 1) (drop (i + 1) bytes) ≡ matched s p (drop i bytes)
-matched_more s bytes p i h k e =
-    sym (ap (matched s p) (drop-cons bytes i 0 k) ∙ matched_cons s p (get_or bytes i 0) (drop (suc i) bytes) h ∙ rw (eq-eqb (get_or bytes i 0) (get_or s p 0) (sym e), add-one i) refl)
-
--- another byte stands there
-pub matched_other : (s bytes : List ℕ) (p i : ℕ) → p < length s → i < length bytes → (get_or s p 0 ≡ get_or bytes i 0 → ⊥) → matched s p (drop i bytes) ≡ Full
-matched_other s bytes p i h k e =
-    ap (matched s p) (drop-cons bytes i 0 k) ∙ matched_cons s p (get_or bytes i 0) (drop (suc i) bytes) h ∙ rw (ne_eqb (get_or bytes i 0) (get_or s p 0) (λ q. e (sym q))) refl
-
--- none stands there
-pub matched_past : (s bytes : List ℕ) (p i : ℕ) → length s ≤ p → i < length bytes → matched s p (drop i bytes) ≡ Full
-unfolding matched starts
-matched_past s bytes p i h k = rw (drop-cons bytes i 0 k, drop_of_length-le s h)
-
--- all of them stood there
-pub matched_all : (s bytes : List ℕ) (p i : ℕ) → length bytes ≤ i → matched s p (drop i bytes) ≡ At p
-unfolding matched starts
-matched_all s bytes p i h = rw (drop_of_length-le bytes h) (ap At (omega arith))
+-- by what `starts_with` says of what stands there
+pub matched_is : (s : List ℕ) (at : ℕ) (bytes there : List ℕ) (b : Bool) → there ≡ drop at s → b ≡ pointwise eqb bytes (take (length bytes) there)
+    → matched s at bytes ≡ cond b (Some (at + length bytes)) None
+unfolding matched
+matched_is s at bytes there b h e =
+    let f : b ≡ starts bytes (drop at s) = e ∙ ap (λ (l : List ℕ). pointwise eqb bytes (take (length bytes) l)) h ∙ pointwise_starts bytes (drop at s) in
+    ap (λ (x : Bool). cond x (Some (at + length bytes)) None) (sym f)
 
 -- the answer of a match
-pub matched_at : (s : List ℕ) (at : ℕ) (bytes : List ℕ) (o : ℕ) → matched s at bytes ≡ At o → (starts bytes (drop at s) ≡ true) × (o ≡ at + length bytes)
+pub matched_at : (s : List ℕ) (at : ℕ) (bytes : List ℕ) (o : ℕ) → matched s at bytes ≡ Some o → (starts bytes (drop at s) ≡ true) × (o ≡ at + length bytes)
 unfolding matched
 matched_at s at bytes o h = go (starts bytes (drop at s)) refl h
   where
-    go : (b : Bool) → starts bytes (drop at s) ≡ b → cond b (At (at + length bytes)) Full ≡ At o → (starts bytes (drop at s) ≡ true) × (o ≡ at + length bytes)
+    go : (b : Bool) → starts bytes (drop at s) ≡ b → cond b (Some (at + length bytes)) None ≡ Some o → (starts bytes (drop at s) ≡ true) × (o ≡ at + length bytes)
     go true e k = (e, cc)
     go false e k = let z : ◌≡◌ {A = ℕ} 0 1 = cc in absurd (omega arith)
 
-pub matched_full : (s : List ℕ) (at : ℕ) (bytes : List ℕ) → matched s at bytes ≡ Full → starts bytes (drop at s) ≡ false
+pub matched_full : (s : List ℕ) (at : ℕ) (bytes : List ℕ) → matched s at bytes ≡ None → starts bytes (drop at s) ≡ false
 unfolding matched
 matched_full s at bytes h = go (starts bytes (drop at s)) refl h
   where
-    go : (b : Bool) → starts bytes (drop at s) ≡ b → cond b (At (at + length bytes)) Full ≡ Full → starts bytes (drop at s) ≡ false
+    go : (b : Bool) → starts bytes (drop at s) ≡ b → cond b (Some (at + length bytes)) None ≡ None → starts bytes (drop at s) ≡ false
     go true e k = let z : ◌≡◌ {A = ℕ} 0 1 = cc in absurd (omega arith)
     go false e k = e
 
 -- bytes behind bytes that were matched
-pub matched_on : (s : List ℕ) (at : ℕ) (a b : List ℕ) (o : ℕ) → matched s at a ≡ At o → matched s at (a ++ b) ≡ matched s o b
+pub matched_on : (s : List ℕ) (at : ℕ) (a b : List ℕ) (o : ℕ) → matched s at a ≡ Some o → matched s at (a ++ b) ≡ matched s o b
 unfolding matched
 matched_on s at a b o h =
     let r = matched_at s at a o h in
     rw (starts_append a b (drop at s), r.0, drop-drop (length a) at s, r.1, length-append a b)
-    (ap (λ (n : ℕ). cond (starts b (drop (at + length a) s)) (At n) Full) (omega arith))
+    (ap (λ (n : ℕ). cond (starts b (drop (at + length a) s)) (Some n) None) (omega arith))
 
-pub matched_off : (s : List ℕ) (at : ℕ) (a b : List ℕ) → matched s at a ≡ Full → matched s at (a ++ b) ≡ Full
+pub matched_off : (s : List ℕ) (at : ℕ) (a b : List ℕ) → matched s at a ≡ None → matched s at (a ++ b) ≡ None
 unfolding matched
 matched_off s at a b h = rw (starts_append a b (drop at s), matched_full s at a h)
 
--- a match of the whole
-pub same_at : (a b : List ℕ) (o : ℕ) → matched b 0 a ≡ At o → same a b ≡ eqb o (length b)
-same_at a b o h = let r = matched_at b 0 a o h in same_starts a b ∙ rw r.0 (ap (λ (n : ℕ). eqb n (length b)) (omega (arith, r.1)))
+-- whether a match ends at a place
+pub matched_ends : (s : List ℕ) (at : ℕ) (bytes : List ℕ) (n : ℕ) → option_eq eqb (matched s at bytes) (Some n) ≡ (starts bytes (drop at s) && eqb (at + length bytes) n)
+unfolding matched
+matched_ends s at bytes n = go (starts bytes (drop at s))
+  where
+    go : (b : Bool) → option_eq eqb (cond b (Some (at + length bytes)) None) (Some n) ≡ (b && eqb (at + length bytes) n)
+    go true = refl
+    go false = refl
 
-pub same_off : (a b : List ℕ) → matched b 0 a ≡ Full → same a b ≡ false
-same_off a b h = same_starts a b ∙ rw (matched_full b 0 a h)
+-- a match of the whole
+pub same_ends : (a b : List ℕ) → option_eq eqb (matched b 0 a) (Some (length b)) ≡ same a b
+same_ends a b = matched_ends b 0 a (length b) ∙ ap (λ (n : ℕ). starts a b && eqb n (length b)) (omega arith) ∙ sym (same_starts a b)
 
 -- bytes behind bytes that were matched, to the end
-pub same_on : (s : List ℕ) (at : ℕ) (a b : List ℕ) (o : ℕ) → matched s at a ≡ At o → same (a ++ b) (drop at s) ≡ same b (drop o s)
+pub same_on : (s : List ℕ) (at : ℕ) (a b : List ℕ) (o : ℕ) → matched s at a ≡ Some o → same (a ++ b) (drop at s) ≡ same b (drop o s)
 same_on s at a b o h = let r = matched_at s at a o h in rw (same_append a b (drop at s), r.0, drop-drop (length a) at s, r.1)
 
-pub same_none : (s : List ℕ) (at : ℕ) (a b : List ℕ) → matched s at a ≡ Full → same (a ++ b) (drop at s) ≡ false
+pub same_none : (s : List ℕ) (at : ℕ) (a b : List ℕ) → matched s at a ≡ None → same (a ++ b) (drop at s) ≡ false
 same_none s at a b h = rw (same_append a b (drop at s), matched_full s at a h)
 
 -- nothing is the same as nothing

@@ -1,7 +1,7 @@
 -- A list and a frame that a reader can check by hand: each equation holds by computing. Assumes nothing.
+use Rattle.std.specs.Prelude.{Some}
 use mathlib.Core.Path.{◌≡◌, refl}
 use mathlib.Core.Bool.{true}
-use mathlib.Core.Option.{some}
 use mathlib.Core.List.{List, [], ◌∷◌, ◌++◌}
 use Prim.Native.Nat.{ℕ}
 use lib.ListN.{set, replicate}
@@ -35,6 +35,6 @@ a_whole_list = refl
 
 -- `002a00`, a read of no attribute, of the empty store of cluster 0, with a last room of 3: refusal 5 with room 0, 1 and 2, then `182a01`
 a_frame : of_command (3 ∷ 4 ∷ 0 ∷ 0 ∷ 0 ∷ 0 ∷ 0 ∷ 0x00 ∷ 0x2a ∷ 0x00 ∷ [])
-    ≡ some (1 ∷ 5 ∷ 0 ∷ 0 ∷ 0 ∷ 0 ∷ 1 ∷ 0 ∷ 3 ∷ 0x18 ∷ 0x2a ∷ 0x01 ∷ 0 ∷ [])
+    ≡ Some (1 ∷ 5 ∷ 0 ∷ 0 ∷ 0 ∷ 0 ∷ 1 ∷ 0 ∷ 3 ∷ 0x18 ∷ 0x2a ∷ 0x01 ∷ 0 ∷ [])
 unfolding of_command unsigned_at le asked_of header_of frame_type_of read_of reply_head shortened shortened_from shortened_reply records_from records_in walk encode_all padded store_says answer_says next answers_from same
 a_frame = refl

@@ -1,37 +1,32 @@
 -- Definitions. What ours says to a whole frame (kinds c and x): the command's outcome with every room, from none to a last one.
-use Rattle.std.specs.Prelude.{ℕ, zero, suc, ◌+◌, ◌%◌, cond, ◌||◌, List, [], ◌∷◌, ◌++◌, length, get_or, take, drop, ltb, eqb}
-use Rattle.std.proofs.Math.Option.{Option, none, some}
+use Rattle.std.specs.Prelude.{ℕ, zero, suc, ◌+◌, ◌%◌, cond, ◌||◌, List, [], ◌∷◌, ◌++◌, length, get_or, take, drop, ltb, eqb, None, Option, Some}
 use Rattle.types.specs.Number.{unsigned_at}
 use Rattle.frame.specs.Header.{frame_type_of, is_global, header_of}
 use Rattle.frame.specs.Answer.{Outcome, within}
 use Rattle.frame.specs.declared.header.ZclHeader.{ZclHeader}
-use Rattle.frame.specs.declared.header.HeaderRead.{HeaderRead}
-use Rattle.frame.specs.declared.header.HeaderRead.TheVariants.{Header, Short}
 use Rattle.read.specs.Read.{read_of}
 use Rattle.write.specs.Write.{write_attributes, write_undivided, write_silently}
 use Rattle.discover.specs.Discover.{discover_of}
 use Rattle.replay.specs.Bytes.{same}
 use Rattle.replay.specs.declared.commands.Command.{Command}
 use Rattle.replay.specs.declared.commands.Command.TheVariants.{Read, Write, Undivided, Silent, Discover}
-use Rattle.replay.specs.declared.commands.Asked.{Asked}
-use Rattle.replay.specs.declared.commands.Asked.TheVariants.{For, Nothing}
 
 -- ---- what a frame asks for
 
-abbrev pub asked_by : ℕ → ZclHeader → Asked
+abbrev pub asked_by : ℕ → ZclHeader → Option (Command × ZclHeader)
 asked_by code request =
-    cond (eqb code 0x00) (For Read request)
-    (cond (eqb code 0x02) (For Write request)
-    (cond (eqb code 0x03) (For Undivided request)
-    (cond (eqb code 0x05) (For Silent request)
-    (cond (eqb code 0x0c) (For Discover request) Nothing))))
+    cond (eqb code 0x00) (Some (Read, request))
+    (cond (eqb code 0x02) (Some (Write, request))
+    (cond (eqb code 0x03) (Some (Undivided, request))
+    (cond (eqb code 0x05) (Some (Silent, request))
+    (cond (eqb code 0x0c) (Some (Discover, request)) None))))
 
 -- only a global command is one of them
-abbrev pub asked_in : HeaderRead → Asked
-asked_in Short = Nothing
-asked_in (Header h) = cond (is_global (frame_type_of h.frame_control.0)) (asked_by h.command_identifier.0 h) Nothing
+abbrev pub asked_in : Option ZclHeader → Option (Command × ZclHeader)
+asked_in None = None
+asked_in (Some h) = cond (is_global (frame_type_of h.frame_control.0)) (asked_by h.command_identifier.0 h) None
 
-unfoldable pub asked_of : List ℕ → Asked
+unfoldable pub asked_of : List ℕ → Option (Command × ZclHeader)
 asked_of frame = asked_in (header_of frame)
 
 -- ---- what a command leaves
@@ -72,13 +67,13 @@ answers tells last = answers_from tells [] (suc last) 0
 
 -- ---- c, x: the last room (1), at most 63; the store's length (2), the store, and a frame
 
-abbrev pub answers_to : Asked → ℕ → List ℕ → List ℕ → Option (List ℕ)
-answers_to (For command request) last s frame = some (answers (answer_with command request (drop request.body frame) s) last)
-answers_to Nothing last s frame = none
+abbrev pub answers_to : Option (Command × ZclHeader) → ℕ → List ℕ → List ℕ → Option (List ℕ)
+answers_to (Some (command, request)) last s frame = Some (answers (answer_with command request (drop request.body frame) s) last)
+answers_to None last s frame = None
 
 unfoldable pub of_command : List ℕ → Option (List ℕ)
 of_command input =
     let last : ℕ = get_or input 0 0 in
     let n : ℕ = unsigned_at input 1 2 in
     let frame : List ℕ = drop (3 + n) input in
-    cond (ltb 63 last || ltb (length input) (3 + n)) none (answers_to (asked_of frame) last (take n (drop 3 input)) frame)
+    cond (ltb 63 last || ltb (length input) (3 + n)) None (answers_to (asked_of frame) last (take n (drop 3 input)) frame)

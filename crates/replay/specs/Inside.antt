@@ -1,15 +1,11 @@
 -- Inside. What inner functions say; nothing that a reader of the program must believe.
-use Rattle.std.specs.Prelude.{◌≡◌, Bool, true, false, cond, ◌&&◌, List, [], ◌∷◌, ◌++◌, ℕ, suc, ◌+◌, ◌-◌, ◌≤◌, length, get_or, take, drop, eqb}
-use Rattle.std.proofs.Math.Option.{Option, none, some}
-use Rattle.frame.specs.declared.reply.Put.{Put}
-use Rattle.frame.specs.declared.reply.Put.TheVariants.{At, Full}
+use denote.Ref.{Bor}
+use Rattle.std.specs.Prelude.{◌≡◌, Bool, true, false, cond, ◌&&◌, List, [], ◌∷◌, ◌++◌, ℕ, ◌+◌, ◌-◌, ◌≤◌, length, get_or, take, drop, eqb, None, Option, Some}
 use Rattle.replay.specs.Bytes.{same}
 use Rattle.replay.specs.Commands.{next}
 use Rattle.reporting.specs.Table.{Table, table_of}
 use Rattle.replay.specs.Methods.{Called}
 use Rattle.replay.specs.declared.commands.Place.{Place}
-use Rattle.replay.specs.declared.commands.Turn.{Turn}
-use Rattle.replay.specs.declared.commands.Turn.TheVariants.{On, Off}
 use Rattle.replay.specs.declared.methods.Given.{Given}
 
 -- ---- bytes that are compared
@@ -21,25 +17,35 @@ starts (x ∷ xs) [] = false
 starts (x ∷ xs) (y ∷ ys) = eqb x y && starts xs ys
 
 -- where these bytes end, if they stand at `at`
-unfoldable pub matched : List ℕ → ℕ → List ℕ → Put
-matched s at bytes = cond (starts bytes (drop at s)) (At (at + length bytes)) Full
+unfoldable pub matched : List ℕ → ℕ → List ℕ → Option ℕ
+matched s at bytes = cond (starts bytes (drop at s)) (Some (at + length bytes)) None
 
 -- ---- a text
 
--- how many bytes stand before the first mark
-unfoldable pub place : ℕ → List ℕ → ℕ
-place mark [] = 0
-place mark (b ∷ bs) = let n : ℕ = place mark bs in cond (eqb b mark) 0 (suc n)
+-- a byte in front of the first part
+abbrev pub before : ℕ → Option (List ℕ × List ℕ) → Option (List ℕ × List ℕ)
+before b None = None
+before b (Some p) = Some (b ∷ p.0, p.1)
+
+-- what stands before the first mark, and what stands behind it
+unfoldable pub cut : ℕ → List ℕ → Option (List ℕ × List ℕ)
+cut mark [] = None
+cut mark (b ∷ bs) = let p : Option (List ℕ × List ℕ) = cut mark bs in cond (eqb b mark) (Some ([], bs)) (before b p)
+
+-- the parts that are lent
+abbrev pub parts : Option (Bor (List ℕ) × Bor (List ℕ)) → Option (List ℕ × List ℕ)
+parts None = None
+parts (Some p) = Some (p.0.now, p.1.now)
 
 -- what a buffer holds, by the answer of what filled it
-abbrev pub told : Put → List ℕ → Option (List ℕ)
-told (At n) d = some (take n d)
-told Full d = none
+abbrev pub told : Option ℕ → List ℕ → Option (List ℕ)
+told (Some n) d = Some (take n d)
+told None d = None
 
 -- what was put lies within the buffer
-abbrev pub Within : Put → List ℕ → Type 0
-Within (At n) d = n ≤ length d
-Within Full d = Unit {0}
+abbrev pub Within : Option ℕ → List ℕ → Type 0
+Within (Some n) d = n ≤ length d
+Within None d = Unit {0}
 
 -- ---- the answers to a frame
 
@@ -62,19 +68,19 @@ pub record Goes (held : List ℕ) (p : Place) (bytes this : List ℕ) (q : Place
 pub record Stops (held : List ℕ) (p : Place) (bytes : List ℕ) : Type 0 where
   pub none : (rest : List ℕ) → same (bytes ++ rest) (drop p.at held) ≡ false
 
-abbrev pub Turns : List ℕ → Place → List ℕ → List ℕ → Turn → Type 0
-Turns held p bytes this (On q) = Goes held p bytes this q
-Turns held p bytes this Off = Stops held p bytes
+abbrev pub Turns : List ℕ → Place → List ℕ → List ℕ → Option Place → Type 0
+Turns held p bytes this (Some q) = Goes held p bytes this q
+Turns held p bytes this None = Stops held p bytes
 
 -- one answer, whatever was told before it
-abbrev pub Turned : List ℕ → Place → List ℕ → Turn → Type 0
+abbrev pub Turned : List ℕ → Place → List ℕ → Option Place → Type 0
 Turned held p this r = (last : List ℕ) → Lies held p last → Turns held p (next last this) this r
 
 -- ---- a call on a table
 
 -- where its answer ends, if it stands where it is looked for, and the table that it leaves
 pub record Found : Type 0 where
-  pub at : Put
+  pub at : Option ℕ
   pub table : Table
 
 abbrev pub given : Given → Found

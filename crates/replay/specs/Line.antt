@@ -1,6 +1,5 @@
 -- Definitions. The text of a list: lines are parted by a newline, the words of a line by a space; a word is the digits of bytes.
-use Rattle.std.specs.Prelude.{ℕ, zero, suc, ◌+◌, ◌-◌, ◌*◌, cond, ◌&&◌, List, [], ◌∷◌, ◌++◌, leb, eqb}
-use Rattle.std.proofs.Math.Option.{Option, none, some}
+use Rattle.std.specs.Prelude.{ℕ, zero, suc, ◌+◌, ◌-◌, ◌*◌, cond, ◌&&◌, List, [], ◌∷◌, ◌++◌, leb, eqb, None, Option, Some}
 use Rattle.types.specs.Ids.{among}
 
 -- ---- words
@@ -29,17 +28,17 @@ digit_of b = cond (among 48 57 b) (b - 48) (cond (among 97 102 b) (b - 97 + 10) 
 
 -- bytes in front of those that were read, if any were
 abbrev pub behind : List ℕ → Option (List ℕ) → Option (List ℕ)
-behind bs none = none
-behind bs (some more) = some (bs ++ more)
+behind bs None = None
+behind bs (Some more) = Some (bs ++ more)
 
 -- the bytes that digits stand for, two a byte, at most n of them
 unfoldable pub hex : ℕ → List ℕ → Option (List ℕ)
-hex n [] = some []
-hex zero (h ∷ more) = none
-hex (suc n) (h ∷ []) = none
+hex n [] = Some []
+hex zero (h ∷ more) = None
+hex (suc n) (h ∷ []) = None
 hex (suc n) (h ∷ l ∷ more) =
     let r : Option (List ℕ) = hex n more in
-    cond (leb (digit_of h) 15 && leb (digit_of l) 15) (behind ((16 * digit_of h + digit_of l) ∷ []) r) none
+    cond (leb (digit_of h) 15 && leb (digit_of l) 15) (behind ((16 * digit_of h + digit_of l) ∷ []) r) None
 
 -- A FIELD: at most 4608 bytes
 abbrev pub field : List ℕ → Option (List ℕ)

@@ -1,6 +1,5 @@
 -- Definitions. What ours says to calls on a table by value, one after the other, from an empty table on (kind m).
-use Rattle.std.specs.Prelude.{ℕ, zero, suc, ◌/◌, ◌%◌, Bool, true, cond, ◌&&◌, false, List, [], ◌∷◌, ◌++◌, map, length, get_or, take, drop, leb, eqb, ℤ}
-use Rattle.std.proofs.Math.Option.{Option, none, some}
+use Rattle.std.specs.Prelude.{ℕ, zero, suc, ◌/◌, ◌%◌, Bool, true, cond, ◌&&◌, false, List, [], ◌∷◌, ◌++◌, map, length, get_or, take, drop, leb, eqb, ℤ, None, Option, Some}
 use Rattle.types.specs.Number.{bytes_of, unsigned_at, signed_at}
 use Rattle.reporting.specs.declared.entry.Key.{Key}
 use Rattle.reporting.specs.declared.entry.ReportingConfig.{ReportingConfig}
@@ -89,4 +88,4 @@ are_calls (c ∷ cs) = leb (get_or c 0 0) 5 && are_calls cs
 unfoldable pub of_history : List ℕ → Option (List ℕ)
 of_history input =
     let calls : List (List ℕ) = calls_in (length input / 17) input in
-    cond (eqb (length input % 17) 0 && are_calls calls) (some (history calls (holding []))) none
+    cond (eqb (length input % 17) 0 && are_calls calls) (Some (history calls (holding []))) None

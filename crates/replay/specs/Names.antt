@@ -1,6 +1,5 @@
 -- Definitions. What ours says of the types that have a name (kind i).
-use Rattle.std.specs.Prelude.{ℕ, zero, suc, Bool, true, false, cond, List, [], ◌∷◌}
-use Rattle.std.proofs.Math.Option.{Option, none, some}
+use Rattle.std.specs.Prelude.{ℕ, zero, suc, Bool, true, false, cond, List, [], ◌∷◌, None, Option, Some}
 use Rattle.types.specs.Ids.{shape_of}
 use Rattle.types.specs.declared.ids.Shape.{Shape}
 use Rattle.types.specs.declared.ids.Shape.TheVariants.{Fixed, Text, LongText, Series, Structure, Unknown}
@@ -27,4 +26,4 @@ named = known_from 256 0
 
 -- their codes
 unfoldable pub of_names : List ℕ → Option (List ℕ)
-of_names input = cond (same (55 ∷ []) input) (some named) none
+of_names input = cond (same (55 ∷ []) input) (Some named) None

@@ -1,6 +1,5 @@
 -- Definitions. What ours says to a request that may need the table (kinds q and y).
-use Rattle.std.specs.Prelude.{ℕ, ◌+◌, ◌*◌, true, cond, ◌&&◌, List, length, get_or, take, drop, leb}
-use Rattle.std.proofs.Math.Option.{Option, none, some}
+use Rattle.std.specs.Prelude.{ℕ, ◌+◌, ◌*◌, true, cond, ◌&&◌, List, length, get_or, take, drop, leb, None, Option, Some}
 use Rattle.types.specs.Number.{unsigned_at}
 use Rattle.frame.specs.Reply.{padded}
 use Rattle.frame.specs.Answer.{Outcome, within}
@@ -32,5 +31,5 @@ of_request input =
     let k : ℕ = unsigned_at input (1 + n) 2 in
     let used : List ℕ = take n (drop 1 input) in
     cond (leb (3 + n + k) (length input) && is_table capacity (whole_table used))
-    (some (request_says used (take k (drop (3 + n) input)) (drop (3 + n + k) input) (get_or input 0 0)))
-    none
+    (Some (request_says used (take k (drop (3 + n) input)) (drop (3 + n + k) input) (get_or input 0 0)))
+    None

@@ -1,9 +1,9 @@
 -- Definitions. How many lines of each kind agree, over a whole list.
-use Rattle.std.specs.Prelude.{ℕ, ◌+◌, ◌%◌, Bool, true, false, cond, ◌&&◌, ◌||◌, not, List, [], ◌∷◌, get_or, set, replicate, ltb, eqb}
+use Rattle.std.specs.Prelude.{ℕ, ◌+◌, ◌%◌, Bool, true, false, cond, ◌&&◌, ◌||◌, not, List, [], ◌∷◌, get_or, set, replicate, ltb, eqb, None, Option, Some}
 use Rattle.replay.specs.Line.{split, newline}
 use Rattle.replay.specs.Verdict.{judged}
 use Rattle.replay.specs.declared.verdict.Verdict.{Verdict}
-use Rattle.replay.specs.declared.verdict.Verdict.TheVariants.{Case, Last, Unreadable}
+use Rattle.replay.specs.declared.verdict.Verdict.TheVariants.{Case, Last}
 use Rattle.replay.specs.declared.tally.Tally.{Tally}
 
 -- counts stand by the place of a kind's letter in the alphabet
@@ -42,10 +42,10 @@ closed t count more =
     record { agree = t.agree; of = t.of; lines = t.lines; first = t.first; whole = ltb 0 t.lines && (eqb count t.lines && nothing more) }
 
 -- go on by what is said of a line
-abbrev pub turn : Tally → Verdict → List (List ℕ) → (Tally → Tally) → Tally
-turn t (Case letter agrees) more rest = rest (counted t letter agrees)
-turn t (Last count) more rest = closed t count more
-turn t Unreadable more rest = t
+abbrev pub turn : Tally → Option Verdict → List (List ℕ) → (Tally → Tally) → Tally
+turn t (Some (Case letter agrees)) more rest = rest (counted t letter agrees)
+turn t (Some (Last count)) more rest = closed t count more
+turn t None more rest = t
 
 -- a line ends with a newline: what stands behind the last one is no line
 unfoldable pub tally_from : Tally → List (List ℕ) → Tally

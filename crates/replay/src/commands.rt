@@ -6,12 +6,12 @@ ghost use Rattle.replay.specs.Ours.{agreement};
 ghost use Rattle.replay.specs.Commands.{asked_by, asked_of, outcome_of, store_says, answer_says, answer_with, answers, of_command};
 ghost use Rattle.replay.specs.Inside.{again, Turned, matched};
 
-use super::bytes::{blank, match_run, rest, same};
-use super::cases::{Agreement, low};
+use super::bytes::{blank, match_run, rest};
+use super::cases::low;
 use discover::attributes::discover_attributes;
-use frame::answer::Answer;
-use frame::header::{FrameType, HeaderRead, ZclHeader, read_header};
-use frame::reply::{Put, put_run};
+use frame::answer::{Answer, answer_number, reply_len};
+use frame::header::{FrameType, ZclHeader, read_header};
+use frame::reply::put_run;
 use read::attributes::read_attributes;
 use store::layout::part;
 use types::number::{byte_at, u16_at};
@@ -29,13 +29,6 @@ enum Command {
     Discover,
 }
 
-// What a frame asks for, if it is one of those.
-#[derive(Clone, Copy)]
-enum Asked {
-    For(Command, ZclHeader),
-    Nothing,
-}
-
 // How far the comparison is: the answer that was last told lies from `from` to `to`, and the next is to come at `at`.
 #[derive(Clone, Copy)]
 struct Place {
@@ -44,35 +37,29 @@ struct Place {
     at: usize,
 }
 
-// The comparison went on to a place, or off.
-#[derive(Clone, Copy)]
-enum Turn {
-    On(Place),
-    Off,
-}
-
-fn asked_by(code: u8, request: ZclHeader) -> Asked
+// The command of a code and its request, if the code is that of one of those.
+fn asked_by(code: u8, request: ZclHeader) -> Option<(Command, ZclHeader)>
     ensures { result ≡ asked_by code request }
 {
     match code {
-        0x00 => Asked::For(Command::Read, request),
-        0x02 => Asked::For(Command::Write, request),
-        0x03 => Asked::For(Command::Undivided, request),
-        0x05 => Asked::For(Command::Silent, request),
-        0x0c => Asked::For(Command::Discover, request),
-        _ => Asked::Nothing,
+        0x00 => Some((Command::Read, request)),
+        0x02 => Some((Command::Write, request)),
+        0x03 => Some((Command::Undivided, request)),
+        0x05 => Some((Command::Silent, request)),
+        0x0c => Some((Command::Discover, request)),
+        _ => None,
     }
 }
 
-fn asked_of(frame: &[u8]) -> Asked
+// What a frame asks for.
+#[tactic(auto, using(crate::proofs::Answers::same_global), unfolding(crate::specs::Commands::asked_of))]
+fn asked_of(frame: &[u8]) -> Option<(Command, ZclHeader)>
     ensures { result ≡ asked_of frame.now }
 {
-    let HeaderRead::Header(h) = read_header(frame) else {
-        return Asked::Nothing;
-    };
-    let FrameType::GlobalCommand = h.frame_control.frame_type() else {
-        return Asked::Nothing;
-    };
+    let h = read_header(frame)?;
+    if h.frame_control.frame_type() != FrameType::GlobalCommand {
+        return None;
+    }
     asked_by(h.command_identifier.0, h)
 }
 
@@ -96,17 +83,13 @@ fn call(
 }
 
 // The store as it is afterwards, if it is another.
-fn match_store(held: &[u8], at: usize, before: &[u8], after: &[u8]) -> Put
+fn match_store(held: &[u8], at: usize, before: &[u8], after: &[u8]) -> Option<usize>
     ensures { result ≡ matched held.now at (store_says before.now after.now) }
 {
-    if same(after, before) {
-        let none = [0];
-        return match_run(held, at, &none);
+    if after == before {
+        return match_run(held, at, &[0]);
     }
-    let some = [1];
-    let Put::At(next) = match_run(held, at, &some) else {
-        return Put::Full;
-    };
+    let next = match_run(held, at, &[1])?;
     match_run(held, next, after)
 }
 
@@ -118,21 +101,18 @@ pub(crate) fn match_answer(
     reply: &[u8],
     before: &[u8],
     after: &[u8],
-) -> Put
+) -> Option<usize>
     ensures { result ≡ matched held.now at (answer_says before.now (seen answer reply.now after.now)) }
 {
-    let n = answer.reply_len();
-    let head = [1, answer.number(), low(n)];
-    let Put::At(second) = match_run(held, at, &head) else {
-        return Put::Full;
-    };
-    let Put::At(third) = match_run(held, second, part(reply, 0, n)) else {
-        return Put::Full;
-    };
+    let n = reply_len(answer);
+    let head = [1, answer_number(answer), low(n)];
+    let second = match_run(held, at, &head)?;
+    let third = match_run(held, second, part(reply, 0, n))?;
     match_store(held, third, before, after)
 }
 
 // Whether an answer is the one that was last told.
+#[tactic(auto, using(crate::proofs::Answers::again_ends))]
 fn is_again(
     held: &[u8],
     place: Place,
@@ -143,13 +123,10 @@ fn is_again(
 ) -> bool
     ensures { result ≡ again held.now place (answer_says before.now (seen answer reply.now after.now)) }
 {
-    let Put::At(end) = match_answer(held, place.from, answer, reply, before, after) else {
-        return false;
-    };
-    end == place.to
+    match_answer(held, place.from, answer, reply, before, after) == Some(place.to)
 }
 
-// One answer: 00 where it is the one that was last told, else the answer.
+// One answer: 00 where it is the one that was last told, else the answer. `None` where what was recorded is another.
 fn answer_turn(
     held: &[u8],
     place: Place,
@@ -157,24 +134,15 @@ fn answer_turn(
     reply: &[u8],
     before: &[u8],
     after: &[u8],
-) -> Turn
+) -> Option<Place>
     ensures { Turned held.now place (answer_says before.now (seen answer reply.now after.now)) result }
 {
     if is_again(held, place, answer, reply, before, after) {
-        let again = [0];
-        let Put::At(at) = match_run(held, place.at, &again) else {
-            return Turn::Off;
-        };
-        return Turn::On(Place {
-            from: place.from,
-            to: place.to,
-            at,
-        });
+        let at = match_run(held, place.at, &[0])?;
+        return Some(Place { at, ..place });
     }
-    let Put::At(end) = match_answer(held, place.at, answer, reply, before, after) else {
-        return Turn::Off;
-    };
-    Turn::On(Place {
+    let end = match_answer(held, place.at, answer, reply, before, after)?;
+    Some(Place {
         from: place.at,
         to: end,
         at: end,
@@ -191,7 +159,7 @@ fn room_turn(
     place: Place,
     copy: &mut [u8],
     reply: &mut [u8],
-) -> Turn
+) -> Option<Place>
     requires { length copy.old ≡ length store.now }
     ensures { Turned held.now place (answer_with command request body.now store.now (length reply.old)) result }
 {
@@ -221,9 +189,8 @@ fn rooms(
         to: 0,
         at: 0,
     };
-    let mut room = 0;
-    while room <= last {
-        let turn = room_turn(
+    for room in 0..=last {
+        let Some(next) = room_turn(
             command,
             request,
             body,
@@ -232,37 +199,30 @@ fn rooms(
             place,
             copy,
             &mut reply[..room],
-        );
-        let Turn::On(next) = turn else {
+        ) else {
             return false;
         };
         place = next;
-        room += 1;
     }
     held.len() <= place.at
 }
 
 // The last room (1), the store's length (2), the store, and a frame.
-pub(crate) fn of_command(input: &[u8], held: &[u8]) -> Agreement
+pub(crate) fn of_command(input: &[u8], held: &[u8]) -> Option<bool>
     requires { length input.now ≤ 4608 }
     ensures { result ≡ agreement (of_command input.now) held.now }
 {
     let last = byte_at(input, 0) as usize;
     let n = u16_at(input, 1) as usize;
-    if 63 < last {
-        return Agreement::NoInput;
-    }
-    if input.len() < 3 + n {
-        return Agreement::NoInput;
+    if 63 < last || input.len() < 3 + n {
+        return None;
     }
     let frame = rest(input, 3 + n);
-    let Asked::For(command, request) = asked_of(frame) else {
-        return Agreement::NoInput;
-    };
+    let (command, request) = asked_of(frame)?;
     let body = rest(frame, request.body);
     let mut copy = blank();
     let mut reply = [0u8; 64];
-    let agrees = rooms(
+    Some(rooms(
         command,
         request,
         body,
@@ -271,6 +231,5 @@ pub(crate) fn of_command(input: &[u8], held: &[u8]) -> Agreement
         held,
         &mut copy[..n],
         &mut reply,
-    );
-    Agreement::Is(agrees)
+    ))
 }

@@ -21,6 +21,31 @@ mod verdict;
 
 use tally::{Tally, row_of};
 
+// What is printed: a kind's name, its letter, and what its lines do.
+const ROWS: [(&str, u8, &str); 13] = [
+    ("types", b't', "agree"),
+    ("names of types", b'i', "agree"),
+    ("headers", b'h', "agree"),
+    ("extents", b'e', "agree"),
+    ("listed differences", b'd', "as document 01 says"),
+    ("stores", b's', "as document 01 says"),
+    ("numbers", b'v', "as document 01 says"),
+    ("writes", b'w', "as document 01 says"),
+    ("commands", b'c', "agree"),
+    (
+        "listed differences of commands",
+        b'x',
+        "as documents 01 and 02 say",
+    ),
+    ("histories of a table", b'm', "agree"),
+    ("requests with a table", b'q', "agree"),
+    (
+        "listed differences of requests",
+        b'y',
+        "as document 02 says",
+    ),
+];
+
 // A row with the count of one kind.
 fn row(out: &impl Print, name: &str, t: Tally, letter: u8, rest: &str) -> io::Result<()> {
     let k = row_of(letter);
@@ -30,31 +55,9 @@ fn row(out: &impl Print, name: &str, t: Tally, letter: u8, rest: &str) -> io::Re
 }
 
 fn report(out: &impl Print, t: Tally, whole: bool) -> io::Result<()> {
-    row(out, "types", t, b't', "agree")?;
-    row(out, "names of types", t, b'i', "agree")?;
-    row(out, "headers", t, b'h', "agree")?;
-    row(out, "extents", t, b'e', "agree")?;
-    row(out, "listed differences", t, b'd', "as document 01 says")?;
-    row(out, "stores", t, b's', "as document 01 says")?;
-    row(out, "numbers", t, b'v', "as document 01 says")?;
-    row(out, "writes", t, b'w', "as document 01 says")?;
-    row(out, "commands", t, b'c', "agree")?;
-    row(
-        out,
-        "listed differences of commands",
-        t,
-        b'x',
-        "as documents 01 and 02 say",
-    )?;
-    row(out, "histories of a table", t, b'm', "agree")?;
-    row(out, "requests with a table", t, b'q', "agree")?;
-    row(
-        out,
-        "listed differences of requests",
-        t,
-        b'y',
-        "as document 02 says",
-    )?;
+    for (name, letter, rest) in ROWS {
+        row(out, name, t, letter, rest)?;
+    }
     if t.first != 0 {
         println!(out; "first that does not agree: line {}", t.first)?;
     }
@@ -73,6 +76,7 @@ fn space() -> [u8; 2097152]
 }
 
 // Reads until the buffer is full or the input ends, and says how many bytes came.
+// (`read_to_end` wants a Vec, and `read_exact` does not say how many bytes came before the end.)
 fn read_full(input: &mut impl Read, buffer: &mut [u8]) -> io::Result<usize>
     ensures { IfOk result (λ n. n ≤ length buffer.new) }
 {

@@ -8,12 +8,12 @@ ghost use Rattle.replay.specs.Methods.{key_in, config_in, time_in, change_says, 
 ghost use Rattle.replay.specs.Methods.{changing, called, table_says, history as history_of, calls_in, are_calls, of_history};
 ghost use Rattle.replay.specs.Inside.{matched, given, found as found_at};
 
-use super::bytes::{match_run, rest, same};
-use super::cases::{Agreement, low};
-use frame::reply::Put;
+use super::bytes::{match_run, rest};
+use super::cases::low;
+use frame::answer::Refusal;
 use reporting::carried::{SLOT, TABLE_BYTES, write_table};
 use reporting::entry::{Key, ReportingConfig};
-use reporting::table::{Change, Changed, Length, Report, ReportingTable, Setting};
+use reporting::table::{Changed, ReportingTable};
 use store::layout::part;
 use types::ids::{AttributeId, ClusterId};
 use types::number::{byte_at, le_bytes, signed_at, u16_at, unsigned_at};
@@ -25,9 +25,10 @@ const CALL: usize = 17;
 #[derive(Clone, Copy)]
 struct Given {
     table: ReportingTable,
-    at: Put,
+    at: Option<usize>,
 }
 
+#[tactic(auto, unfolding(crate::specs::Methods::key_in))]
 fn key_in(call: &[u8]) -> Key
     ensures { result ≡ key_in call.now }
 {
@@ -37,6 +38,7 @@ fn key_in(call: &[u8]) -> Key
     }
 }
 
+#[tactic(auto, unfolding(crate::specs::Methods::config_in))]
 fn config_in(call: &[u8]) -> ReportingConfig
     ensures { result ≡ config_in call.now }
 {
@@ -56,37 +58,35 @@ fn time_in(call: &[u8]) -> u32
     low + 65536 * high
 }
 
-fn change_bytes(change: Change) -> [u8; 2]
-    ensures { result ≡ change_says (change_told change) }
+// The number, and whether a change was accepted or a report is due.
+fn flag_bytes(answer: Result<bool, Refusal>) -> [u8; 2]
+    ensures change { result ≡ change_says (change_told answer) }
+    ensures report { result ≡ report_says (report_told answer) }
 {
-    match change {
-        Change::Done => [0, 1],
-        Change::Full => [0, 0],
-        Change::Refused(why) => [why.number(), 0],
+    match answer {
+        Ok(flag) => [0, u8::from(flag)],
+        Err(why) => [u8::from(why), 0],
     }
 }
 
-fn report_bytes(report: Report) -> [u8; 2]
-    ensures { result ≡ report_says (report_told report) }
-{
-    match report {
-        Report::Due => [0, 1],
-        Report::NotDue => [0, 0],
-        Report::Refused(why) => [why.number(), 0],
-    }
-}
-
-fn length_bytes(entries: Length) -> [u8; 2]
+fn length_bytes(entries: Result<usize, Refusal>) -> [u8; 2]
     ensures { result ≡ length_says (length_told entries) }
 {
     match entries {
-        Length::Entries(n) => [0, low(n)],
-        Length::Refused(why) => [why.number(), 0],
+        Ok(n) => [0, low(n)],
+        Err(why) => [u8::from(why), 0],
     }
 }
 
 // Where the number, a byte and the three numbers of a configuration end, if they stand at `at`.
-fn match_config(held: &[u8], at: usize, number: u8, found: u8, config: ReportingConfig) -> Put
+#[tactic(auto, using(crate::proofs::Calls::config_off, crate::proofs::Calls::config_on))]
+fn match_config(
+    held: &[u8],
+    at: usize,
+    number: u8,
+    found: u8,
+    config: ReportingConfig,
+) -> Option<usize>
     ensures { result ≡ matched held.now at (number ∷ found ∷ config_says config) }
 {
     let min = config.min_interval as usize;
@@ -100,9 +100,7 @@ fn match_config(held: &[u8], at: usize, number: u8, found: u8, config: Reporting
         low(max / 256),
     ];
     let change = le_bytes(config.reportable_change);
-    let Put::At(next) = match_run(held, at, &head) else {
-        return Put::Full;
-    };
+    let next = match_run(held, at, &head)?;
     match_run(held, next, &change)
 }
 
@@ -117,13 +115,17 @@ fn no_config() -> ReportingConfig
     }
 }
 
-fn match_setting(held: &[u8], at: usize, setting: Setting) -> Put
+fn match_setting(
+    held: &[u8],
+    at: usize,
+    setting: Result<Option<ReportingConfig>, Refusal>,
+) -> Option<usize>
     ensures { result ≡ matched held.now at (setting_says (setting_told setting)) }
 {
     match setting {
-        Setting::Given(config) => match_config(held, at, 0, 1, config),
-        Setting::Nothing => match_config(held, at, 0, 0, no_config()),
-        Setting::Refused(why) => match_config(held, at, why.number(), 0, no_config()),
+        Ok(Some(config)) => match_config(held, at, 0, 1, config),
+        Ok(None) => match_config(held, at, 0, 0, no_config()),
+        Err(why) => match_config(held, at, u8::from(why), 0, no_config()),
     }
 }
 
@@ -131,12 +133,9 @@ fn match_setting(held: &[u8], at: usize, setting: Setting) -> Put
 fn changed(held: &[u8], at: usize, call: Changed) -> Given
     ensures { given result ≡ found_at held.now at (changing (handed_back call)) }
 {
-    let answer = call.answer;
-    let says = change_bytes(answer);
-    let table = call.table;
     Given {
-        table,
-        at: match_run(held, at, &says),
+        table: call.table,
+        at: match_run(held, at, &flag_bytes(call.answer)),
     }
 }
 
@@ -147,29 +146,22 @@ fn give(table: ReportingTable, call: &[u8], held: &[u8], at: usize) -> Given
     let key = key_in(call);
     let time = time_in(call);
     let value = signed_at(call, 9, 8);
-    let op = byte_at(call, 0);
-    match op {
+    match byte_at(call, 0) {
         0 => changed(held, at, table.configure(key, config_in(call))),
         1 => changed(held, at, table.clear(key)),
         2 => changed(held, at, table.mark(key, time, value)),
-        3 => {
-            let says = report_bytes(table.ask(key, time, value));
-            Given {
-                table,
-                at: match_run(held, at, &says),
-            }
-        }
+        3 => Given {
+            table,
+            at: match_run(held, at, &flag_bytes(table.ask(key, time, value))),
+        },
         4 => Given {
             table,
             at: match_setting(held, at, table.configuration(key)),
         },
-        _ => {
-            let says = length_bytes(table.len());
-            Given {
-                table,
-                at: match_run(held, at, &says),
-            }
-        }
+        _ => Given {
+            table,
+            at: match_run(held, at, &length_bytes(table.len())),
+        },
     }
 }
 
@@ -184,60 +176,49 @@ pub(crate) fn lay(bytes: &mut [u8], table: ReportingTable) -> usize
     0
 }
 
+#[tactic(auto, using(crate::proofs::Matches::pointwise_same))]
 fn is_left(table: ReportingTable, held: &[u8]) -> bool
     ensures { result ≡ same_bytes (table_says (table_of table)) held.now }
 {
     let mut bytes = [0u8; TABLE_BYTES];
     let n = lay(&mut bytes, table);
-    same(part(&bytes, 0, n), held)
+    part(&bytes, 0, n) == held
 }
 
 // Whether all are calls: each has one of the six operations.
 fn are_calls(input: &[u8]) -> bool
     ensures { result ≡ are_calls (calls_in (length input.now / 17) input.now) }
 {
-    let n = input.len() / CALL;
-    let mut i = 0;
-    while i < n {
-        let op = byte_at(input, CALL * i);
-        if 5 < op {
-            return false;
-        }
-        i += 1;
-    }
-    true
+    let (calls, _) = input.as_chunks::<CALL>();
+    calls.iter().all(|call| call[0] <= 5)
 }
 
 // The calls from an empty table on, each answer behind the one before it, and the table at the end.
+#[tactic(auto, using(crate::proofs::Calls::follow_more, crate::proofs::Calls::follow_off, crate::proofs::Calls::follow_done))]
 fn history(input: &[u8], held: &[u8]) -> bool
     ensures { result ≡ same_bytes (history_of (calls_in (length input.now / 17) input.now) (holding [])) held.now }
 {
-    let n = input.len() / CALL;
+    let (calls, _) = input.as_chunks::<CALL>();
     let mut table = ReportingTable::new();
     let mut at = 0;
-    let mut i = 0;
-    while i < n {
-        let next = give(table, part(input, CALL * i, CALL), held, at);
-        let told = next.at;
-        let Put::At(end) = told else {
+    for call in calls {
+        let next = give(table, call, held, at);
+        let Some(end) = next.at else {
             return false;
         };
         table = next.table;
         at = end;
-        i += 1;
     }
     is_left(table, rest(held, at))
 }
 
 // Calls of 17 bytes each.
-pub(crate) fn of_history(input: &[u8], held: &[u8]) -> Agreement
+#[tactic(auto, unfolding(crate::specs::Methods::of_history))]
+pub(crate) fn of_history(input: &[u8], held: &[u8]) -> Option<bool>
     ensures { result ≡ agreement (of_history input.now) held.now }
 {
-    if input.len() % CALL != 0 {
-        return Agreement::NoInput;
+    if input.len() % CALL != 0 || !are_calls(input) {
+        return None;
     }
-    if !are_calls(input) {
-        return Agreement::NoInput;
-    }
-    Agreement::Is(history(input, held))
+    Some(history(input, held))
 }

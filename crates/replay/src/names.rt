@@ -3,11 +3,10 @@ ghost use Rattle.std.specs.Prelude.{◌≡◌};
 ghost use Rattle.replay.specs.Ours.{agreement};
 ghost use Rattle.replay.specs.Names.{named, of_names};
 
-use super::bytes::same;
-use super::cases::Agreement;
 use types::ids::TypeId;
 
 // The codes of the named types, in their order.
+#[tactic(auto, unfolding(crate::specs::Names::named, crate::specs::Names::known_from, types::specs::Ids::shape_of, types::specs::Ids::size_of))]
 fn codes() -> [u8; 55]
     ensures { result ≡ named }
 {
@@ -71,13 +70,11 @@ fn codes() -> [u8; 55]
 }
 
 // How many types have a name: their codes.
-pub(crate) fn of_names(input: &[u8], held: &[u8]) -> Agreement
+pub(crate) fn of_names(input: &[u8], held: &[u8]) -> Option<bool>
     ensures { result ≡ agreement (of_names input.now) held.now }
 {
-    let says = codes();
-    let count = [55];
-    if same(&count, input) {
-        return Agreement::Is(same(&says, held));
+    if &[55][..] != input {
+        return None;
     }
-    Agreement::NoInput
+    Some(&codes()[..] == held)
 }

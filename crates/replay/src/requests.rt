@@ -1,24 +1,23 @@
 // What ours says to a request with a table by value, held to what was recorded.
-ghost use Rattle.std.specs.Prelude.{◌≡◌, cond, ◌≤◌, length};
-ghost use Rattle.std.proofs.Math.Option.{some, none};
+ghost use Rattle.std.specs.Prelude.{◌≡◌, cond, ◌≤◌, length, Some, None};
 ghost use Rattle.reporting.specs.Table.{capacity};
 ghost use Rattle.reporting.specs.Carried.{is_table, reading, read_t};
 ghost use Rattle.replay.specs.Ours.{agreement};
 ghost use Rattle.replay.specs.Requests.{whole_table, request_says, of_request};
 
 use super::bytes::{blank, rest};
-use super::cases::Agreement;
 use super::commands::match_answer;
 use super::methods::lay;
-use frame::reply::{Put, put_run};
-use reporting::carried::{ReadTable, SLOT, TABLE_BYTES, read_table};
+use frame::reply::put_run;
+use reporting::carried::{SLOT, TABLE_BYTES, read_table};
+use reporting::table::ReportingTable;
 use server::serve::handle_request;
 use store::layout::part;
 use types::ids::ClusterId;
 use types::number::{byte_at, u16_at};
 
 // The table whose bytes start with these, zeros behind them.
-fn table_of(used: &[u8]) -> ReadTable
+fn table_of(used: &[u8]) -> Option<ReportingTable>
     ensures { reading result ≡ read_t capacity (whole_table used.now) }
 {
     if TABLE_BYTES < used.len() {
@@ -37,29 +36,21 @@ fn served(
     held: &[u8],
     copy: &mut [u8],
     reply: &mut [u8],
-) -> Agreement
+) -> Option<bool>
     requires { length copy.old ≡ length store.now }
-    ensures { result ≡ agreement (cond (is_table capacity (whole_table used.now)) (some (request_says used.now store.now frame.now (length reply.old))) none) held.now }
+    ensures { result ≡ agreement (cond (is_table capacity (whole_table used.now)) (Some (request_says used.now store.now frame.now (length reply.old))) None) held.now }
 {
-    let known = table_of(used);
-    if !known.known {
-        return Agreement::NoInput;
-    }
-    let table = known.table;
+    let table = table_of(used)?;
     put_run(copy, 0, store);
     let done = handle_request(copy, table, ClusterId(u16_at(copy, 0)), true, frame, reply);
-    let answer = done.answer;
-    let left = done.table;
     let mut bytes = [0u8; TABLE_BYTES];
-    let n = lay(&mut bytes, left);
-    let Put::At(end) = match_answer(held, 0, answer, reply, used, part(&bytes, 0, n)) else {
-        return Agreement::Is(false);
-    };
-    Agreement::Is(end == held.len())
+    let n = lay(&mut bytes, done.table);
+    let end = match_answer(held, 0, done.answer, reply, used, part(&bytes, 0, n));
+    Some(end == Some(held.len()))
 }
 
 // The room (1), the table as far as it is used, the store's length (2), the store, and a frame.
-pub(crate) fn of_request(input: &[u8], held: &[u8]) -> Agreement
+pub(crate) fn of_request(input: &[u8], held: &[u8]) -> Option<bool>
     requires { length input.now ≤ 4608 }
     ensures { result ≡ agreement (of_request input.now) held.now }
 {
@@ -67,7 +58,7 @@ pub(crate) fn of_request(input: &[u8], held: &[u8]) -> Agreement
     let n = 1 + SLOT * (byte_at(input, 1) as usize);
     let k = u16_at(input, 1 + n) as usize;
     if input.len() < 3 + n + k {
-        return Agreement::NoInput;
+        return None;
     }
     let mut copy = blank();
     let mut reply = [0u8; 255];

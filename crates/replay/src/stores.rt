@@ -1,28 +1,26 @@
 // What ours says to the lines of stores, held to what was recorded.
-ghost use Rattle.std.specs.Prelude.{◌≡◌, ◌≤◌, ◌^◌, length};
-ghost use Rattle.std.proofs.Math.Option.{some};
+ghost use Rattle.std.specs.Prelude.{◌≡◌, ◌≤◌, ◌^◌, length, Some};
 ghost use Rattle.types.specs.Number.{unsigned_at, residue};
 ghost use Rattle.store.specs.Value.{telling};
 ghost use Rattle.store.specs.Write.{write_of};
 ghost use Rattle.replay.specs.Ours.{agreement, number_says, write_says, of_store, of_number, of_write};
 
-use super::bytes::{blank, match_run, rest, same};
-use super::cases::{Agreement, bit};
+use super::bytes::{blank, match_run, rest};
+use frame::answer::Refusal;
 use frame::header::ManufacturerCode;
-use frame::reply::{Put, put_run};
+use frame::reply::put_run;
 use store::layout::{is_store, part};
 use store::lookup::{Name, name_of};
-use store::value::{Numbered, number_of};
+use store::value::number_of;
 use store::write::write;
 use types::ids::{AttributeId, TypeId};
 use types::number::{le_bytes, u16_at};
 
 // 01 where the bytes are a store, 00 where not.
-pub(crate) fn of_store(input: &[u8], held: &[u8]) -> Agreement
+pub(crate) fn of_store(input: &[u8], held: &[u8]) -> Option<bool>
     ensures { result ≡ agreement (of_store input.now) held.now }
 {
-    let says = [bit(is_store(input))];
-    Agreement::Is(same(&says, held))
+    Some(&[u8::from(is_store(input))][..] == held)
 }
 
 // The name of the id at the start of an input.
@@ -33,38 +31,35 @@ fn name_at_start(input: &[u8]) -> Name
 }
 
 // The 64 bits of a number.
+#[tactic(auto, using(crate::proofs::Says::bits_are))]
 fn bits(z: i64) -> u64
     ensures { result ≡ residue (2 ^ 64) z }
 {
-    if z >= 0 { z as u64 } else { !((!z) as u64) }
+    z.cast_unsigned()
 }
 
 // 00 and a number in eight bytes, or a refusal in one.
-fn numbered(says: Numbered, held: &[u8]) -> Agreement
-    ensures { result ≡ agreement (some (number_says (telling says))) held.now }
+fn numbered(says: Result<i64, Refusal>, held: &[u8]) -> Option<bool>
+    ensures { result ≡ agreement (Some (number_says (telling says))) held.now }
 {
     match says {
-        Numbered::Is(z) => {
-            let none = [0];
-            let b = le_bytes(bits(z));
-            let Put::At(at) = match_run(held, 0, &none) else {
-                return Agreement::Is(false);
+        Ok(z) => {
+            let Some(at) = match_run(held, 0, &[0]) else {
+                return Some(false);
             };
-            Agreement::Is(same(&b, rest(held, at)))
+            Some(&le_bytes(bits(z))[..] == rest(held, at))
         }
-        Numbered::Refused(why) => {
-            let says = [why.number()];
-            Agreement::Is(same(&says, held))
-        }
+        Err(why) => Some(&[u8::from(why)][..] == held),
     }
 }
 
 // An id and a store: the number of the attribute's value.
-pub(crate) fn of_number(input: &[u8], held: &[u8]) -> Agreement
+#[tactic(auto, unfolding(crate::specs::Ours::of_number))]
+pub(crate) fn of_number(input: &[u8], held: &[u8]) -> Option<bool>
     ensures { result ≡ agreement (of_number input.now) held.now }
 {
     if input.len() < 2 {
-        return Agreement::NoInput;
+        return None;
     }
     numbered(number_of(rest(input, 2), name_at_start(input)), held)
 }
@@ -77,27 +72,26 @@ fn written(
     store: &[u8],
     held: &[u8],
     copy: &mut [u8],
-) -> Agreement
+) -> Option<bool>
     requires { length copy.old ≡ length store.now }
-    ensures { result ≡ agreement (some (write_says (write_of 8 store.now name.0 type_id.0 value.now))) held.now }
+    ensures { result ≡ agreement (Some (write_says (write_of 8 store.now name.0 type_id.0 value.now))) held.now }
 {
     put_run(copy, 0, store);
     let status = write(copy, name, type_id, value);
-    let says = [status.to_u8()];
-    let Put::At(at) = match_run(held, 0, &says) else {
-        return Agreement::Is(false);
+    let Some(at) = match_run(held, 0, &[u8::from(status)]) else {
+        return Some(false);
     };
-    Agreement::Is(same(copy, rest(held, at)))
+    Some(&*copy == rest(held, at))
 }
 
 // An id, a type, the length of a value in two bytes, the value, and a store: one write.
-pub(crate) fn of_write(input: &[u8], held: &[u8]) -> Agreement
+pub(crate) fn of_write(input: &[u8], held: &[u8]) -> Option<bool>
     requires { length input.now ≤ 4608 }
     ensures { result ≡ agreement (of_write input.now) held.now }
 {
     let n = u16_at(input, 3) as usize;
     if input.len() < 5 + n {
-        return Agreement::NoInput;
+        return None;
     }
     let store = rest(input, 5 + n);
     let k = store.len();

@@ -1,19 +1,18 @@
-// One line, judged: whether it agrees, or that it is the last, or that it cannot be read.
+// One line, judged: whether it agrees, or that it is the last; `None` where it cannot be read.
 ghost use Rattle.std.specs.Prelude.{◌≡◌, ◌≤◌, length};
 ghost use Rattle.replay.specs.Line.{split, space};
 ghost use Rattle.replay.specs.Ours.{agreement};
-ghost use Rattle.replay.specs.Verdict.{ours, recorded as recorded_by, case_of, listed as listed_by, difference_of, last_of, by_letter, judged};
+ghost use Rattle.replay.specs.Verdict.{ours, agreed, recorded as recorded_by, case_of, listed as listed_by, difference_of, last_of, by_letter, judged};
 
-use super::bytes::{blank, rest, same};
-use super::cases::{Agreement, of_extent, of_header, of_type};
+use super::bytes::blank;
+use super::cases::{of_extent, of_header, of_type};
 use super::commands::of_command;
 use super::hex::decode;
-use super::line::{find, word};
+use super::line::split_once;
 use super::methods::of_history;
 use super::names::of_names;
 use super::requests::of_request;
 use super::stores::{of_number, of_store, of_write};
-use frame::reply::Put;
 use types::number::unsigned_at;
 
 #[derive(Clone, Copy)]
@@ -22,19 +21,18 @@ pub(crate) enum Verdict {
     Case(u8, bool),
     // The last line, with the number of lines that it says stand before it.
     Last(u64),
-    Unreadable,
 }
 
 // What ours says to an input of the kind that a letter names, held to what was recorded.
-fn held_to_ours(letter: u8, input: &[u8], held: &[u8]) -> Agreement
+#[tactic(auto, unfolding(crate::specs::Verdict::ours))]
+fn held_to_ours(letter: u8, input: &[u8], held: &[u8]) -> Option<bool>
     requires { length input.now ≤ 4608 }
     ensures { result ≡ agreement (ours letter input.now) held.now }
 {
     match letter {
         b't' => of_type(input, held),
         b'h' => of_header(input, held),
-        b'e' => of_extent(input, held),
-        b'd' => of_extent(input, held),
+        b'e' | b'd' => of_extent(input, held),
         b's' => of_store(input, held),
         b'v' => of_number(input, held),
         b'w' => of_write(input, held),
@@ -42,123 +40,95 @@ fn held_to_ours(letter: u8, input: &[u8], held: &[u8]) -> Agreement
         b'i' => of_names(input, held),
         b'm' => of_history(input, held),
         b'q' | b'y' => of_request(input, held),
-        _ => Agreement::NoInput,
+        _ => None,
     }
 }
 
 // Whether the second field is what ours says to the first.
-fn recorded(letter: u8, first: &[u8], second: &[u8]) -> Verdict
-    ensures { result ≡ recorded_by letter first.now second.now }
+fn recorded(letter: u8, first: &[u8], second: &[u8]) -> Option<bool>
+    ensures { agreed letter result ≡ recorded_by letter first.now second.now }
 {
     let mut input = blank();
-    let Put::At(n) = decode(first, &mut input) else {
-        return Verdict::Unreadable;
-    };
+    let n = decode(first, &mut input)?;
     let mut held = blank();
-    let Put::At(k) = decode(second, &mut held) else {
-        return Verdict::Unreadable;
-    };
-    let Agreement::Is(agrees) = held_to_ours(letter, &input[..n], &held[..k]) else {
-        return Verdict::Unreadable;
-    };
-    Verdict::Case(letter, agrees)
+    let k = decode(second, &mut held)?;
+    held_to_ours(letter, &input[..n], &held[..k])
 }
 
 // A line with two fields.
-fn case(letter: u8, fields: &[u8]) -> Verdict
-    ensures { result ≡ case_of letter (split space fields.now) }
+#[tactic(auto, using(crate::proofs::Fields::case_one, crate::proofs::Fields::case_more, crate::proofs::Fields::case_two))]
+fn case(letter: u8, fields: &[u8]) -> Option<bool>
+    ensures { agreed letter result ≡ case_of letter (split space fields.now) }
 {
-    let first = word(fields, b' ');
-    let n = first.len();
-    if n == fields.len() {
-        return Verdict::Unreadable;
-    }
-    let second = rest(fields, n + 1);
-    if find(second, b' ') != second.len() {
-        return Verdict::Unreadable;
+    let (first, second) = split_once(fields, b' ')?;
+    if second.contains(&b' ') {
+        return None;
     }
     recorded(letter, first, second)
 }
 
 // Whether the second field is what ours says to the first, and the third, the other program's answer, is another: where
 // it is the same there is no difference to list.
-fn listed(letter: u8, first: &[u8], second: &[u8], third: &[u8]) -> Verdict
-    ensures { result ≡ listed_by letter first.now second.now third.now }
+fn listed(letter: u8, first: &[u8], second: &[u8], third: &[u8]) -> Option<bool>
+    ensures { agreed letter result ≡ listed_by letter first.now second.now third.now }
 {
     let mut held = blank();
-    let Put::At(n) = decode(second, &mut held) else {
-        return Verdict::Unreadable;
-    };
+    let n = decode(second, &mut held)?;
     let mut other = blank();
-    let Put::At(k) = decode(third, &mut other) else {
-        return Verdict::Unreadable;
-    };
-    let Verdict::Case(kind, agrees) = recorded(letter, first, second) else {
-        return Verdict::Unreadable;
-    };
-    Verdict::Case(kind, agrees && !same(&held[..n], &other[..k]))
+    let k = decode(third, &mut other)?;
+    let agrees = recorded(letter, first, second)?;
+    Some(agrees && held[..n] != other[..k])
 }
 
 // A line with three fields.
-fn difference(letter: u8, fields: &[u8]) -> Verdict
-    ensures { result ≡ difference_of letter (split space fields.now) }
+#[tactic(auto, using(crate::proofs::Fields::difference_one, crate::proofs::Fields::difference_two, crate::proofs::Fields::difference_more, crate::proofs::Fields::difference_three))]
+fn difference(letter: u8, fields: &[u8]) -> Option<bool>
+    ensures { agreed letter result ≡ difference_of letter (split space fields.now) }
 {
-    let first = word(fields, b' ');
-    let n = first.len();
-    if n == fields.len() {
-        return Verdict::Unreadable;
-    }
-    let more = rest(fields, n + 1);
-    let second = word(more, b' ');
-    let k = second.len();
-    if k == more.len() {
-        return Verdict::Unreadable;
-    }
-    let third = rest(more, k + 1);
-    if find(third, b' ') != third.len() {
-        return Verdict::Unreadable;
+    let (first, more) = split_once(fields, b' ')?;
+    let (second, third) = split_once(more, b' ')?;
+    if third.contains(&b' ') {
+        return None;
     }
     listed(letter, first, second, third)
 }
 
 // The line with the number of lines before it, in four bytes.
-fn last(fields: &[u8]) -> Verdict
+fn last(fields: &[u8]) -> Option<Verdict>
     ensures { result ≡ last_of (split space fields.now) }
 {
-    if find(fields, b' ') != fields.len() {
-        return Verdict::Unreadable;
+    if fields.contains(&b' ') {
+        return None;
     }
     let mut count = [0u8; 4];
-    let Put::At(n) = decode(fields, &mut count) else {
-        return Verdict::Unreadable;
-    };
+    let n = decode(fields, &mut count)?;
     if n != 4 {
-        return Verdict::Unreadable;
+        return None;
     }
-    Verdict::Last(unsigned_at(&count, 0, 4))
+    Some(Verdict::Last(unsigned_at(&count, 0, 4)))
 }
 
 // The letter says what the fields mean.
-fn by_letter(letter: u8, fields: &[u8]) -> Verdict
+#[tactic(auto, unfolding(crate::specs::Verdict::by_letter))]
+fn by_letter(letter: u8, fields: &[u8]) -> Option<Verdict>
     ensures { result ≡ by_letter letter (split space fields.now) }
 {
-    match letter {
-        b'n' => last(fields),
-        b'd' | b'x' => difference(letter, fields),
-        b'y' => difference(letter, fields),
-        _ => case(letter, fields),
-    }
+    let agrees = match letter {
+        b'n' => return last(fields),
+        b'd' | b'x' | b'y' => difference(letter, fields)?,
+        _ => case(letter, fields)?,
+    };
+    Some(Verdict::Case(letter, agrees))
 }
 
-// What is to be said of a line. Its letter is the whole first word, so it has at least two bytes.
-pub(crate) fn judge(line: &[u8]) -> Verdict
+// What is to be said of a line. Its letter is the whole first word.
+#[tactic(auto, using(crate::proofs::Fields::judged_other, crate::proofs::Fields::judged_short, crate::proofs::Fields::judged_letter))]
+pub(crate) fn judge(line: &[u8]) -> Option<Verdict>
     ensures { result ≡ judged line.now }
 {
-    if find(line, b' ') != 1 {
-        return Verdict::Unreadable;
-    }
-    if line.len() < 2 {
-        return Verdict::Unreadable;
-    }
-    by_letter(line[0], rest(line, 2))
+    let (word, fields) = split_once(line, b' ')?;
+    let &[letter] = word else {
+        return None;
+    };
+    by_letter(letter, fields)
 }

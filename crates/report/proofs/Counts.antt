@@ -1,7 +1,8 @@
 -- How many entries have such a key: no mark changes it, nor does setting or clearing another, or setting again what stands. Assumes nothing.
+use Rattle.std.specs.Prelude.{Some}
 use mathlib.Core.Path.{◌≡◌, refl, sym, ap, ◌∙◌}
 use mathlib.Core.Bool.{Bool, true, false, cond, true≢false}
-use mathlib.Core.Option.{some, some-ne-none}
+use Rattle.std.proofs.lemmas.Option.{none-some}
 use mathlib.Core.List.{List, [], ◌∷◌, ◌++◌}
 use Prim.Native.Nat.{ℕ, suc, ◌≤◌, ◌<◌}
 use native.Mathlib.Omega.{arith}
@@ -125,8 +126,8 @@ module _ (less ok : Key → Bool) (imp : (k : Key) → less k ≡ true → ok k 
   count_le (e ∷ es) = one e.key (count less es) (count ok es) (count_le es)
 
   -- by one at least, where some entry has a key that only the wider test passes
-  pub count_less : (k : Key) (e : Entry) (l : List Entry) → lookup_l k l ≡ some e → less k ≡ false → ok k ≡ true → count less l < count ok l
-  count_less k e [] h a b = absurd (some-ne-none e (sym h))
+  pub count_less : (k : Key) (e : Entry) (l : List Entry) → lookup_l k l ≡ Some e → less k ≡ false → ok k ≡ true → count less l < count ok l
+  count_less k e [] h a b = absurd (none-some e h)
   count_less k e (x ∷ xs) h a b = go (matches k x) refl h (λ p. count_less k e xs p a b)
     where
       here : matches k x ≡ true → cond (less x.key) (suc (count less xs)) (count less xs) < cond (ok x.key) (suc (count ok xs)) (count ok xs)
@@ -134,7 +135,7 @@ module _ (less ok : Key → Bool) (imp : (k : Key) → less k ≡ true → ok k 
           let le = count_le xs in
           simp (ap less (key_is k x m) ∙ a, ap ok (key_is k x m) ∙ b) (omega (arith, le))
 
-      go : (t : Bool) → matches k x ≡ t → cond t (some x) (lookup_l k xs) ≡ some e → (lookup_l k xs ≡ some e → count less xs < count ok xs)
+      go : (t : Bool) → matches k x ≡ t → cond t (Some x) (lookup_l k xs) ≡ Some e → (lookup_l k xs ≡ Some e → count less xs < count ok xs)
           → count less (x ∷ xs) < count ok (x ∷ xs)
       go true m p ih = here m
       go false m p ih = one_strict x.key (count less xs) (count ok xs) (ih p)

@@ -1,4 +1,5 @@
 -- The end of a turn, and the whole. Assumes nothing.
+use Rattle.std.specs.Prelude.{Err, None, Ok, Option, Result, Some}
 use mathlib.Core.Path.{◌≡◌, refl, sym, ap, ◌∙◌, subst}
 use mathlib.Core.Bool.{true, false, not, cond}
 use mathlib.Core.List.{List, [], ◌∷◌, ◌++◌, append-nil}
@@ -9,12 +10,8 @@ use borrow.Author.Tests.{le-leb, lt-leb}
 use Rattle.types.specs.Number.{AllBytes, bytes_of, zeros}
 use Rattle.frame.specs.declared.answer.Refusal.{Refusal}
 use Rattle.frame.specs.declared.answer.Refusal.TheVariants.{ReplyTooLong, NothingToSend, NotAStore, NotATable}
-use Rattle.frame.specs.declared.answer.Answer.{Answer}
-use Rattle.frame.specs.declared.answer.Answer.TheVariants.{Reply, Refused}
 use Rattle.frame.specs.declared.header.ZclHeader.{ZclHeader}
 use Rattle.frame.specs.declared.command_identifier.CommandIdentifier.TheVariants.{ReportAttributes}
-use Rattle.frame.specs.declared.reply.Put.{Put}
-use Rattle.frame.specs.declared.reply.Put.TheVariants.{At, Full}
 use Rattle.frame.specs.Answer.{Outcome, no_state, within, seen, replied, refused}
 use Rattle.frame.specs.Inside.Buffer.{putting, put, Shows}
 use Rattle.frame.specs.Header.{reply_head}
@@ -44,12 +41,12 @@ unfolding encode_all record_in encode bytes_of
 longer s head a more h = let n = length-append head (encode_all (record_in s) (a ∷ more)) in omega (arith, n, h)
 
 module _ (d : List ℕ) (from : ℕ) (c : Swept) where
-  pub finish_none : (why : Refusal) → why ≡ cond c.full ReplyTooLong NothingToSend → c.out ≤ from → (x : Answer) (d₁ : List ℕ) → seen x d₁ no_state ≡ refused (length d) why no_state
+  pub finish_none : (why : Refusal) → why ≡ cond c.full ReplyTooLong NothingToSend → c.out ≤ from → (x : Result ℕ Refusal) (d₁ : List ℕ) → seen x d₁ no_state ≡ refused (length d) why no_state
       → Finishes d from c x d₁
   finish_none why w e x d₁ h s sequence [] f sh = h ∙ ap (λ y. refused (length d) y no_state) w
   finish_none why w e x d₁ h s sequence (a ∷ more) f sh = absurd (longer s (report_head sequence) a more (let p = sh.place in omega (arith, p, e, f)))
 
-  pub finish_some : from < c.out → Finishes d from c (Reply c.out) d
+  pub finish_some : from < c.out → Finishes d from c (Ok c.out) d
   unfolding encode_all
   finish_some e s sequence [] f sh = absurd (let p = sh.place ∙ ap length (append-nil (report_head sequence)) in omega (arith, p, e, f))
   finish_some e s sequence (a ∷ more) f sh = seen_reply (length d) d c.out (report_head sequence ++ encode_all (record_in s) (a ∷ more)) no_state sh refl
@@ -61,15 +58,15 @@ module _ (s : List ℕ) (sequence last time space : ℕ) (bs : List ℕ) where
   u = turn_for s sequence last time space
 
   -- an answer, with what a turn may change
-  seen_so : (x : Answer) (d : List ℕ) (o : Outcome (Unit {0})) (bs₁ : List ℕ) (back : ℕ) → seen x d no_state ≡ o → seen x d (after_turn bs₁ back) ≡ within (λ (z : Unit {0}). after_turn bs₁ back) o
+  seen_so : (x : Result ℕ Refusal) (d : List ℕ) (o : Outcome (Unit {0})) (bs₁ : List ℕ) (back : ℕ) → seen x d no_state ≡ o → seen x d (after_turn bs₁ back) ≡ within (λ (z : Unit {0}). after_turn bs₁ back) o
   seen_so x d o bs₁ back h = ap (within (λ (z : Unit {0}). after_turn bs₁ back)) h
 
-  pub turn_no_store : is_store 8 s ≡ false → (x : Answer) (d : List ℕ) → seen x d no_state ≡ refused space NotAStore no_state → seen x d (after_turn bs last) ≡ turn_of 8 u bs
+  pub turn_no_store : is_store 8 s ≡ false → (x : Result ℕ Refusal) (d : List ℕ) → seen x d no_state ≡ refused space NotAStore no_state → seen x d (after_turn bs last) ≡ turn_of 8 u bs
   unfolding turn_of
   turn_no_store e x d h = seen_so x d (refused space NotAStore no_state) bs last h ∙ rw e
 
   module _ (store : is_store 8 s ≡ true) where
-    pub turn_no_table : is_table capacity bs ≡ false → (x : Answer) (d : List ℕ) → seen x d no_state ≡ refused space NotATable no_state → seen x d (after_turn bs last) ≡ turn_of 8 u bs
+    pub turn_no_table : is_table capacity bs ≡ false → (x : Result ℕ Refusal) (d : List ℕ) → seen x d no_state ≡ refused space NotATable no_state → seen x d (after_turn bs last) ≡ turn_of 8 u bs
     unfolding turn_of
     turn_no_table e x d h = seen_so x d (refused space NotATable no_state) bs last h ∙ rw (store, e)
 
@@ -79,7 +76,7 @@ module _ (s : List ℕ) (sequence last time space : ℕ) (bs : List ℕ) where
       headless h = rw (store, table, lt-leb (length (report_head sequence)) space h)
 
       -- a cleared buffer, and the header put there
-      module _ (d₀ : List ℕ) (z : d₀ ≡ zeros space) (request : ZclHeader) (is : request ≡ unasked sequence) (r : Put) (d₁ : List ℕ)
+      module _ (d₀ : List ℕ) (z : d₀ ≡ zeros space) (request : ZclHeader) (is : request ≡ unasked sequence) (r : Option ℕ) (d₁ : List ℕ)
           (p : putting r d₁ ≡ put d₀ 0 (reply_head request ReportAttributes)) where
         puts : putting r d₁ ≡ put d₀ 0 (report_head sequence)
         puts = p ∙ ap (λ (x : ZclHeader). put d₀ 0 (reply_head x ReportAttributes)) is
@@ -87,13 +84,13 @@ module _ (s : List ℕ) (sequence last time space : ℕ) (bs : List ℕ) where
         len : length d₀ ≡ space
         len = ap length z ∙ length-replicate space 0
 
-        pub turn_headless : r ≡ Full → seen (Refused ReplyTooLong) d₁ (after_turn bs last) ≡ turn_of 8 u bs
+        pub turn_headless : r ≡ None → seen (Err ReplyTooLong) d₁ (after_turn bs last) ≡ turn_of 8 u bs
         turn_headless q =
             let w = shows_full d₀ 0 [] (report_head sequence) r d₁ (shows_cleared space d₀ z) puts q in
-            seen_so (Refused ReplyTooLong) d₁ (refused space ReplyTooLong no_state) bs last (seen_refused space d₁ ReplyTooLong no_state (w.1 ∙ z))
+            seen_so (Err ReplyTooLong) d₁ (refused space ReplyTooLong no_state) bs last (seen_refused space d₁ ReplyTooLong no_state (w.1 ∙ z))
             ∙ headless (let l = len in omega (arith, w.0, l))
 
-        module _ (from : ℕ) (q : r ≡ At from) where
+        module _ (from : ℕ) (q : r ≡ Some from) where
           fitted : PutAt d₀ [] (report_head sequence) from d₁
           fitted = shows_put d₀ 0 [] (report_head sequence) r from d₁ (shows_cleared space d₀ z) puts q
 
@@ -113,7 +110,7 @@ module _ (s : List ℕ) (sequence last time space : ℕ) (bs : List ℕ) where
                 last = refl;
               }
 
-          closed : (x : Sweep) (bs₁ d₂ d₃ : List ℕ) (c : Swept) (t : Answer) → AllBytes bs₁ → length d₂ ≡ space → Stands s last sequence x bs₁ d₂ c → Finishes d₂ from c t d₃
+          closed : (x : Sweep) (bs₁ d₂ d₃ : List ℕ) (c : Swept) (t : Result ℕ Refusal) → AllBytes bs₁ → length d₂ ≡ space → Stands s last sequence x bs₁ d₂ c → Finishes d₂ from c t d₃
               → seen t d₃ (after_turn bs₁ c.last) ≡ ended u x.entries x.full x.written
           closed x bs₁ d₂ d₃ c t ab l st f =
               go x.written (f s sequence x.written fitted.shows.place st.shows) st.last
@@ -132,7 +129,7 @@ module _ (s : List ℕ) (sequence last time space : ℕ) (bs : List ℕ) where
                   seen_so t d₃ (replied (length d₂) (report_head sequence ++ encode_all (record_in s) (b ∷ more)) no_state) bs₁ c.last k
                   ∙ (λ i. replied (l i) (report_head sequence ++ encode_all (record_in s) (b ∷ more)) (left (b ∷ more) e i))
 
-          pub turn_done : (first both : Swept) (bs₁ bs₂ d₂ d₃ d₄ : List ℕ) (t : Answer) → length d₂ ≡ length d₁ → length d₃ ≡ length d₂ → AllBytes bs₂
+          pub turn_done : (first both : Swept) (bs₁ bs₂ d₂ d₃ d₄ : List ℕ) (t : Result ℕ Refusal) → length d₂ ≡ length d₁ → length d₃ ≡ length d₂ → AllBytes bs₂
               → Sweeps s last true time bs d₁ start first bs₁ d₂ → Sweeps s last false time bs₁ d₂ first both bs₂ d₃ → Finishes d₃ from both t d₄
               → seen t d₄ (after_turn bs₂ both.last) ≡ turn_of 8 u bs
           turn_done first both bs₁ bs₂ d₂ d₃ d₄ t l₂ l₃ ab one two f =

@@ -1,10 +1,10 @@
 -- The turn is fair. Assumes nothing.
 -- While an attribute is found due and not written, each turn gives back an id that comes before it in the round, has an entry of the cluster,
 -- and itself no longer comes before it from then on: so fewer and fewer of the cluster's entries do, and it is none of them.
+use Rattle.std.specs.Prelude.{Some}
 use mathlib.Core.Path.{◌≡◌, refl, sym, ap, ◌∙◌, subst}
 use mathlib.Core.Logic.{◌⊎◌, inl, inr}
 use mathlib.Core.Bool.{Bool, true, false, not, cond, ◌&&◌, true≢false}
-use mathlib.Core.Option.{some}
 use mathlib.Core.List.{List, [], ◌∷◌}
 use Prim.Native.Nat.{ℕ, ◌≤◌, ◌<◌}
 use native.Mathlib.Omega.{arith}
@@ -63,7 +63,7 @@ module _ (cluster : ℕ) where
       → count (early (given_back form u l) x) l < count (early u.last x) l
   step form u l x c n =
       subst (λ b. count (early b x) l < count (early u.last x) l) (sym n.back_is)
-      (count_less (early n.id x) (early u.last x) wider (key_of cluster n.id) n.entry l (subst (λ d. lookup_l (key_of d n.id) l ≡ some n.entry) c n.stands)
+      (count_less (early n.id x) (early u.last x) wider (key_of cluster n.id) n.entry l (subst (λ d. lookup_l (key_of d n.id) l ≡ Some n.entry) c n.stands)
       (early_is n.id x n.id ∙ before_last n.id x n.small) (early_is u.last x n.id ∙ n.comes))
     where
       wider : (k : Key) → early n.id x k ≡ true → early u.last x k ≡ true
@@ -106,7 +106,7 @@ module _ (cluster : ℕ) where
   fewer form x u l c f =
       let e = found_entry form u l x f in
       count_less (early u.last x) (of_cluster cluster) (λ k t. (and_true (of_cluster cluster k) (before u.last k.attribute.0 x) t).0) (key_of cluster x) e.0 l
-      (subst (λ d. lookup_l (key_of d x) l ≡ some e.0) c e.1) (early_is u.last x x ∙ before_self u.last x) (eq-eqb cluster cluster refl)
+      (subst (λ d. lookup_l (key_of d x) l ≡ Some e.0) c e.1) (early_is u.last x x ∙ before_self u.last x) (eq-eqb cluster cluster refl)
 
   -- so n of them cannot all leave it out
   left_out : (form limit x : ℕ) (hs : List Happening) (l : List Entry) → NoneNew form limit cluster hs l → StoresOfBytes (turns_of form limit cluster hs l)

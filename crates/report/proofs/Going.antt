@@ -1,4 +1,5 @@
 -- The loop over the ids of a report: what is left of the list, from where it stands, is the whole. Assumes nothing.
+use Rattle.std.specs.Prelude.{Err, Ok, Result}
 use mathlib.Core.Path.{◌≡◌, refl, sym, ap, ◌∙◌, subst}
 use mathlib.Core.Bool.{cond}
 use mathlib.Core.List.{List, [], ◌∷◌, ◌++◌, append-nil}
@@ -11,8 +12,6 @@ use Rattle.frame.specs.Answer.{no_state, seen}
 use Rattle.frame.specs.Walk.{done, stopped, walk, reached}
 use Rattle.frame.specs.Encoded.{encode_all}
 use Rattle.frame.specs.declared.answer.Refusal.{Refusal}
-use Rattle.frame.specs.declared.answer.Answer.{Answer}
-use Rattle.frame.specs.declared.answer.Answer.TheVariants.{Reply, Refused}
 use Rattle.frame.proofs.Outcome.{seen_reply, seen_refused}
 use Rattle.report.specs.Report.{ReportRecord, encode, Reported, all, trouble, report_one, goes_on, report_from, report_reply}
 use Rattle.report.specs.Inside.Report.{More, Over, Shown, Reports}
@@ -48,13 +47,13 @@ going_first s ids room head frame out w = record { records = []; shows = subst (
 
 module _ (s ids : List ℕ) (room : ℕ) (head frame : List ℕ) (i out : ℕ) (g : Going s ids room head frame i out) (len : length frame ≡ room) where
   -- no id is left
-  pub going_done : length ids ≤ i → seen (Reply out) frame no_state ≡ report_reply room head (report_from 8 s room (length head) [] ids)
+  pub going_done : length ids ≤ i → seen (Ok out) frame no_state ≡ report_reply room head (report_from 8 s room (length head) [] ids)
   unfolding report_from walk report_reply
   going_done h =
       seen_reply room frame out (head ++ encode_all encode g.records) no_state g.shows len
       ∙ ap (report_reply room head) (sym (ap (report_from 8 s room (length head) g.records) (drop_of_length-le ids h)) ∙ g.same)
 
-  module _ (h : i < length ids) (r : Answer) (after : List ℕ) (turn : Reports s (get_or ids i 0) frame out r after) where
+  module _ (h : i < length ids) (r : Result ℕ Refusal) (after : List ℕ) (turn : Reports s (get_or ids i 0) frame out r after) where
     -- the next id, with the rest of the list behind it
     next : report_from 8 s room (length head) g.records (get_or ids i 0 ∷ drop (i + 1) ids) ≡ report_from 8 s room (length head) [] ids
     next =
@@ -64,15 +63,15 @@ module _ (s ids : List ℕ) (room : ℕ) (head frame : List ℕ) (i out : ℕ) (
     abbrev made : ℕ → Reported
     made k = report_one 8 s k (length head) (all g.records) (get_or ids i 0)
 
-    shown : (a : Answer) → r ≡ a → Shown head room (made room) a after
+    shown : (a : Result ℕ Refusal) → r ≡ a → Shown head room (made room) a after
     shown a q =
-        subst (λ (x : Answer). Shown head room (made room) x after) q
+        subst (λ (x : Result ℕ Refusal). Shown head room (made room) x after) q
         (subst (λ (k : ℕ). Shown head k (made k) r after) len (turn head g.records g.shows))
 
     -- its record fits
-    pub going_more : (o : ℕ) → r ≡ Reply o → Going s ids room head after (i + 1) o
+    pub going_more : (o : ℕ) → r ≡ Ok o → Going s ids room head after (i + 1) o
     going_more o q =
-        let w : More head room (made room) o after = shown (Reply o) q in
+        let w : More head room (made room) o after = shown (Ok o) q in
         record {
           records = w.records;
           shows = w.longer.shows;
@@ -80,10 +79,10 @@ module _ (s ids : List ℕ) (room : ℕ) (head frame : List ℕ) (i out : ℕ) (
         }
 
     -- it ends the report
-    pub going_ends : (why : Refusal) → r ≡ Refused why → seen r after no_state ≡ report_reply room head (report_from 8 s room (length head) [] ids)
+    pub going_ends : (why : Refusal) → r ≡ Err why → seen r after no_state ≡ report_reply room head (report_from 8 s room (length head) [] ids)
     unfolding report_reply
     going_ends why q =
-        let w : Over room (made room) why after = shown (Refused why) q in
-        ap (λ (x : Answer). seen x after no_state) q
+        let w : Over room (made room) why after = shown (Err why) q in
+        ap (λ (x : Result ℕ Refusal). seen x after no_state) q
         ∙ seen_refused room after why no_state w.cleared
         ∙ ap (report_reply room head) (sym (from_over 8 s room (length head) g.records (get_or ids i 0) (drop (i + 1) ids) why w.is) ∙ next)

@@ -1,8 +1,8 @@
 -- What a turn finds and reports of an attribute goes by that attribute's entry alone, as the reports before left it, whatever else happens:
 -- `follow`. So turns are asks, and the laws of asks hold of them (crate `reporting`, proofs/Follows.antt). Assumes nothing.
+use Rattle.std.specs.Prelude.{Some}
 use mathlib.Core.Path.{◌≡◌, refl, sym, ap, ◌∙◌, subst}
 use mathlib.Core.Bool.{Bool, true, false, not, cond, ◌&&◌, ◌||◌, true≢false, and-false}
-use mathlib.Core.Option.{some}
 use mathlib.Core.List.{List, [], ◌∷◌, ◌++◌}
 use Prim.Native.Nat.{ℕ}
 use native.Mathlib.Omega.{arith}
@@ -149,8 +149,8 @@ module _ (s : List ℕ) (now : ℕ) where
   marks_other k h (a ∷ w) l = marks_other k h w (mark_l (key_of (cluster_of s) (id_of a)) now (value_in s a) l) ∙ mark_other (key_of (cluster_of s) (id_of a)) k (value_in s a) l (rw h)
 
   -- of its own
-  marks_own : (x : ℕ) (v : ℤ) (w : List Attribute) (l : List Entry) (e : Entry) → All (Agrees s x v) w → lookup_l (key_of (cluster_of s) x) l ≡ some e
-      → lookup_l (key_of (cluster_of s) x) (mark_each s now w l) ≡ some (cond (names id_of x w) (mark_e now v e) e)
+  marks_own : (x : ℕ) (v : ℤ) (w : List Attribute) (l : List Entry) (e : Entry) → All (Agrees s x v) w → lookup_l (key_of (cluster_of s) x) l ≡ Some e
+      → lookup_l (key_of (cluster_of s) x) (mark_each s now w l) ≡ Some (cond (names id_of x w) (mark_e now v e) e)
   marks_own x v [] l e h k = k
   marks_own x v (a ∷ w) l e h k = go (eqb (id_of a) x) refl (λ e' k'. marks_own x v w (mark_l (key_of (cluster_of s) (id_of a)) now (value_in s a) l) e' h.1 k')
     where
@@ -161,16 +161,16 @@ module _ (s : List ℕ) (now : ℕ) where
       twice true = refl
       twice false = refl
 
-      own : eqb (id_of a) x ≡ true → lookup_l (key_of (cluster_of s) x) next ≡ some (mark_e now v e)
+      own : eqb (id_of a) x ≡ true → lookup_l (key_of (cluster_of s) x) next ≡ Some (mark_e now v e)
       own t = (λ i. lookup_l (key_of (cluster_of s) x) (mark_l (key_of (cluster_of s) (eqb-true (id_of a) x t i)) now (h.0 t i) l)) ∙ mark_own (key_of (cluster_of s) x) now v l e k
 
-      other : eqb (id_of a) x ≡ false → lookup_l (key_of (cluster_of s) x) next ≡ some e
+      other : eqb (id_of a) x ≡ false → lookup_l (key_of (cluster_of s) x) next ≡ Some e
       other t = mark_other (key_of (cluster_of s) (id_of a)) (key_of (cluster_of s) x) (value_in s a) l (rw (eq-eqb (cluster_of s) (cluster_of s) refl) t) ∙ k
 
       go : (b : Bool) → eqb (id_of a) x ≡ b
-          → ((e' : Entry) → lookup_l (key_of (cluster_of s) x) next ≡ some e' → lookup_l (key_of (cluster_of s) x) (mark_each s now w next) ≡ some (cond (names id_of x w) (mark_e now v e') e'))
-          → lookup_l (key_of (cluster_of s) x) (mark_each s now w next) ≡ some (cond (b || names id_of x w) (mark_e now v e) e)
-      go true t ih = ih (mark_e now v e) (own t) ∙ ap some (twice (names id_of x w))
+          → ((e' : Entry) → lookup_l (key_of (cluster_of s) x) next ≡ Some e' → lookup_l (key_of (cluster_of s) x) (mark_each s now w next) ≡ Some (cond (names id_of x w) (mark_e now v e') e'))
+          → lookup_l (key_of (cluster_of s) x) (mark_each s now w next) ≡ Some (cond (b || names id_of x w) (mark_e now v e) e)
+      go true t ih = ih (mark_e now v e) (own t) ∙ ap Some (twice (names id_of x w))
       go false t ih = ih e (other t)
 
 -- ---- one turn of the cluster
@@ -186,7 +186,7 @@ module _ (form x : ℕ) (u : Turn) (l : List Entry) where
   agreeing : begins form u ≡ true → All (Agrees u.store x value) (attributes_of form u.store)
   agreeing h = agree u.store x (attributes_of form u.store) (store_row form u.store (is-store h))
 
-  found_is : (e : Entry) → Present form x (record { turn = u; entries = l }) ≡ true → lookup_l (key_of (cluster_of u.store) x) l ≡ some e
+  found_is : (e : Entry) → Present form x (record { turn = u; entries = l }) ≡ true → lookup_l (key_of (cluster_of u.store) x) l ≡ Some e
       → found form x (record { turn = u; entries = l }) ≡ due_e e u.now value
   found_is e h k =
       let p = and_true (begins form u) (names id_of x (keep reportable (attributes_of form u.store))) h in
@@ -195,13 +195,13 @@ module _ (form x : ℕ) (u : Turn) (l : List Entry) where
       ∙ ap (λ b. b && due_l (key_of (cluster_of u.store) x) u.now value l) p.1
       ∙ ap (λ o. due_o o u.now value) k
 
-  entry_is : (e : Entry) → lookup_l (key_of (cluster_of u.store) x) l ≡ some e
-      → lookup_l (key_of (cluster_of u.store) x) (turned form u l) ≡ some (cond (reported form x (record { turn = u; entries = l })) (mark_e u.now value e) e)
+  entry_is : (e : Entry) → lookup_l (key_of (cluster_of u.store) x) l ≡ Some e
+      → lookup_l (key_of (cluster_of u.store) x) (turned form u l) ≡ Some (cond (reported form x (record { turn = u; entries = l })) (mark_e u.now value e) e)
   entry_is e k = go (begins form u) refl
     where
       go : (b : Bool) → begins form u ≡ b
           → lookup_l (key_of (cluster_of u.store) x) (mark_each u.store u.now (cond b (written_of form u l) []) l)
-          ≡ some (cond (names id_of x (cond b (written_of form u l) [])) (mark_e u.now value e) e)
+          ≡ Some (cond (names id_of x (cond b (written_of form u l) [])) (mark_e u.now value e) e)
       go true h =
           marks_own u.store u.now x value (written_of form u l) l e
           (all_fitting (Agrees u.store x value) (one_frame u) (round id_of u.last (due_of form u.store u.now l))
@@ -215,7 +215,7 @@ marks_all : (b : Bool) (now : ℕ) (v : ℤ) (e : Entry) (qs : List Ask) → Fol
 marks_all true now v e qs f = f
 marks_all false now v e qs f = f
 
-pub follow : (form limit cluster x : ℕ) (hs : List Happening) (l : List Entry) (e : Entry) → Distinct l → lookup_l (key_of cluster x) l ≡ some e → LeftAlone (key_of cluster x) hs
+pub follow : (form limit cluster x : ℕ) (hs : List Happening) (l : List Entry) (e : Entry) → Distinct l → lookup_l (key_of cluster x) l ≡ Some e → LeftAlone (key_of cluster x) hs
     → Each (Present form x) (turns_of form limit cluster hs l) → Follows e (asks_of (looks_of form x (turns_of form limit cluster hs l)))
 follow form limit cluster x [] l e d k u p = tt
 follow form limit cluster x (event (configured j g) ∷ hs) l e d k u p =
@@ -236,15 +236,15 @@ follow form limit cluster x (turn t ∷ hs) l e d k u p =
     here = record { turn = t; entries = l }
 
     go : (b : Bool) → eqb (cluster_of t.store) cluster ≡ b → Each (Present form x) (cond b (here ∷ rest) rest)
-        → ((e' : Entry) → lookup_l (key_of cluster x) (turned form t l) ≡ some e' → Each (Present form x) rest → Follows e' (asks_of (looks_of form x rest)))
+        → ((e' : Entry) → lookup_l (key_of cluster x) (turned form t l) ≡ Some e' → Each (Present form x) rest → Follows e' (asks_of (looks_of form x rest)))
         → Follows e (asks_of (looks_of form x (cond b (here ∷ rest) rest)))
     go true c p ih =
         let q = eqb-true (cluster_of t.store) cluster c in
-        let own : lookup_l (key_of (cluster_of t.store) x) l ≡ some e = subst (λ c. lookup_l (key_of c x) l ≡ some e) (sym q) k in (
+        let own : lookup_l (key_of (cluster_of t.store) x) l ≡ Some e = subst (λ c. lookup_l (key_of c x) l ≡ Some e) (sym q) k in (
           found_is form x t l e p.0 own,
           marks_all (reported form x here) t.now (value form x t l) e (asks_of (looks_of form x rest))
               (ih (cond (reported form x here) (mark_e t.now (value form x t l) e) e)
-              (subst (λ c. lookup_l (key_of c x) (turned form t l) ≡ some (cond (reported form x here) (mark_e t.now (value form x t l) e) e)) q (entry_is form x t l e own))
+              (subst (λ c. lookup_l (key_of c x) (turned form t l) ≡ Some (cond (reported form x here) (mark_e t.now (value form x t l) e) e)) q (entry_is form x t l e own))
               p.1),
         )
     go false c p ih = ih e (marks_other t.store t.now (key_of cluster x) c (frame_of form t l) l ∙ k) p

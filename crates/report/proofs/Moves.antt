@@ -1,7 +1,7 @@
 -- One turn: what it leaves, and that it comes nearer to what it found due and did not write. Assumes nothing.
+use Rattle.std.specs.Prelude.{None, Option, Some}
 use mathlib.Core.Path.{◌≡◌, refl, sym, ap, ◌∙◌, subst}
 use mathlib.Core.Bool.{Bool, true, false, cond, ◌&&◌, ◌||◌, true≢false, false≢true}
-use mathlib.Core.Option.{Option, none, some}
 use mathlib.Core.List.{List, [], ◌∷◌, ◌++◌}
 use Prim.Native.Nat.{ℕ, zero, suc, ◌+◌, ◌*◌, ◌<◌}
 use native.Mathlib.Omega.{arith}
@@ -137,11 +137,11 @@ small_ids form s h = small_from form s h (count_of s) 0
 
 -- ---- what is due has an entry, and is reportable
 
-due_some : (o : Option Entry) (now : ℕ) (v : ℤ) → due_o o now v ≡ true → (e : Entry) × (o ≡ some e)
-due_some none now v h = absurd (false≢true h)
-due_some (some e) now v h = (e, refl)
+due_some : (o : Option Entry) (now : ℕ) (v : ℤ) → due_o o now v ≡ true → (e : Entry) × (o ≡ Some e)
+due_some None now v h = absurd (false≢true h)
+due_some (Some e) now v h = (e, refl)
 
-due_entry : (s : List ℕ) (now : ℕ) (l : List Entry) (a : Attribute) → is_due s now l a ≡ true → (e : Entry) × (lookup_l (key_of (cluster_of s) (id_of a)) l ≡ some e)
+due_entry : (s : List ℕ) (now : ℕ) (l : List Entry) (a : Attribute) → is_due s now l a ≡ true → (e : Entry) × (lookup_l (key_of (cluster_of s) (id_of a)) l ≡ Some e)
 unfolding is_due
 due_entry s now l a h = due_some (lookup_l (key_of (cluster_of s) (id_of a)) l) now (value_in s a) (and_true (reportable a) (due_l (key_of (cluster_of s) (id_of a)) now (value_in s a) l) h).1
 
@@ -157,7 +157,7 @@ pub record Nearer (u : Turn) (l : List Entry) (x : ℕ) (back : ℕ) : Type 0 wh
   pub entry : Entry
   pub back_is : back ≡ id
   pub small : id < 65536
-  pub stands : lookup_l (key_of (cluster_of u.store) id) l ≡ some entry
+  pub stands : lookup_l (key_of (cluster_of u.store) id) l ≡ Some entry
   pub comes : before u.last id x ≡ true
 
 other_side : (a b : Bool) → (a || b) ≡ true → a ≡ false → b ≡ true
@@ -203,21 +203,21 @@ module _ (form : ℕ) (u : Turn) (l : List Entry) (x : ℕ) where
       go false e b f w h = absurd (false≢true f)
 
   -- what is found due has an entry
-  pub found_entry : names id_of x (found_in form u l) ≡ true → (e : Entry) × (lookup_l (key_of (cluster_of u.store) x) l ≡ some e)
+  pub found_entry : names id_of x (found_in form u l) ≡ true → (e : Entry) × (lookup_l (key_of (cluster_of u.store) x) l ≡ Some e)
   found_entry = go (begins form u)
     where
       stands : Option Entry → Bool
-      stands none = false
-      stands (some e) = true
+      stands None = false
+      stands (Some e) = true
 
-      there : (o : Option Entry) → stands o ≡ true → (e : Entry) × (o ≡ some e)
-      there none h = absurd (false≢true h)
-      there (some e) h = (e, refl)
+      there : (o : Option Entry) → stands o ≡ true → (e : Entry) × (o ≡ Some e)
+      there None h = absurd (false≢true h)
+      there (Some e) h = (e, refl)
 
       of_due : (a : Attribute) → is_due u.store u.now l a ≡ true → stands (lookup_l (key_of (cluster_of u.store) (id_of a)) l) ≡ true
       of_due a h = ap stands (due_entry u.store u.now l a h).1
 
-      go : (b : Bool) → names id_of x (cond b (due_of form u.store u.now l) []) ≡ true → (e : Entry) × (lookup_l (key_of (cluster_of u.store) x) l ≡ some e)
+      go : (b : Bool) → names id_of x (cond b (due_of form u.store u.now l) []) ≡ true → (e : Entry) × (lookup_l (key_of (cluster_of u.store) x) l ≡ Some e)
       go true h =
           there (lookup_l (key_of (cluster_of u.store) x) l)
           (each_at id_of x (λ y. stands (lookup_l (key_of (cluster_of u.store) y) l)) (due_of form u.store u.now l)

@@ -1,4 +1,5 @@
 -- What the inner functions come to, over plain values. Assumes nothing.
+use Rattle.std.specs.Prelude.{None, Option, Some, unwrap_or}
 use mathlib.Core.Path.{◌≡◌, refl, sym, ap, ◌∙◌, subst}
 use mathlib.Core.Bool.{Bool, true, false, cond, ◌&&◌}
 use mathlib.Core.List.{List, [], ◌∷◌, ◌++◌}
@@ -10,11 +11,8 @@ use lib.ListN.{length}
 use lib.IntN.{ℤ, pos}
 use Rattle.types.specs.Number.{AllBytes}
 use Rattle.types.specs.Value.{number_at}
-use Rattle.types.specs.declared.value.Number.TheVariants.{Value, None}
 use Rattle.frame.specs.Inside.Buffer.{putting, put, Shows, Longer, Stays}
 use Rattle.frame.specs.Encoded.{encode_all}
-use Rattle.frame.specs.declared.reply.Put.{Put}
-use Rattle.frame.specs.declared.reply.Put.TheVariants.{At as PutAt, Full}
 use Rattle.frame.proofs.Encoded.{put_record}
 use Rattle.store.specs.declared.lookup.Attribute.{Attribute}
 use Rattle.store.specs.Contents.{cluster_of, count_of, attribute_at, attributes_from, attributes_of, reportable}
@@ -35,11 +33,12 @@ use Rattle.report.specs.Inside.Loop.{Sweep, sweep_at, sweep_one, sweep}
 use Rattle.report.specs.Inside.Turn.{Passes, Writes, Fills, Ways, Tries, Stands, next, Steps, mine_of}
 use Rattle.report.proofs.Moves.{small_id}
 
-pub value_none : (s : List ℕ) (a : Attribute) → number_at s a.offset a.type_id.0 ≡ None → pos 0 ≡ value_in s a
-value_none s a h = sym (ap (λ n. or_zero (numbered_by n)) h)
-
-pub value_is : (s : List ℕ) (a : Attribute) (v v' : ℤ) → number_at s a.offset a.type_id.0 ≡ Value v → v' ≡ v → v' ≡ value_in s a
-value_is s a v v' h e = e ∙ sym (ap (λ n. or_zero (numbered_by n)) h)
+pub value_or : (s : List ℕ) (a : Attribute) → unwrap_or (number_at s a.offset a.type_id.0) (pos 0) ≡ value_in s a
+value_or s a = go (number_at s a.offset a.type_id.0)
+  where
+    go : (o : Option ℤ) → unwrap_or o (pos 0) ≡ or_zero (numbered_by o)
+    go (Some z) = refl
+    go None = refl
 
 -- ---- one attribute
 
@@ -56,20 +55,20 @@ module _ (s : List ℕ) (a : Attribute) (time : ℕ) (bs d : List ℕ) (out : �
     pub tried_not_due : b ≡ false → Tries s a time bs d out TriedV.Passed bs d
     tried_not_due n = (t, λ head w sh. record { not_due = is-due ∙ n; table = refl; frame = refl })
 
-    module _ (y : b ≡ true) (p : Put) (d₁ : List ℕ) (g : putting p d₁ ≡ put d out (record_in s a)) where
-      pub tried_full : p ≡ Full → Tries s a time bs d out TriedV.Full bs d₁
+    module _ (y : b ≡ true) (p : Option ℕ) (d₁ : List ℕ) (g : putting p d₁ ≡ put d out (record_in s a)) where
+      pub tried_full : p ≡ None → Tries s a time bs d out TriedV.Full bs d₁
       tried_full e = (
         t,
         λ head w sh.
-            let x : Stays (record_in s) head (w ++ (a ∷ [])) (length d) d d₁ = put_record (record_in s) head w a d out Full d₁ sh (ap (λ (q : Put). putting q d₁) (sym e) ∙ g) in
+            let x : Stays (record_in s) head (w ++ (a ∷ [])) (length d) d d₁ = put_record (record_in s) head w a d out None d₁ sh (ap (λ (q : Option ℕ). putting q d₁) (sym e) ∙ g) in
             record { is-due = is-due ∙ y; table = refl; frame = x },
       )
 
-      pub tried_longer : (o : ℕ) (bs₁ : List ℕ) → p ≡ PutAt o → read_t capacity bs₁ ≡ table_read true (mark_l k time v (table_in bs)) → Tries s a time bs d out (TriedV.Longer o) bs₁ d₁
+      pub tried_longer : (o : ℕ) (bs₁ : List ℕ) → p ≡ Some o → read_t capacity bs₁ ≡ table_read true (mark_l k time v (table_in bs)) → Tries s a time bs d out (TriedV.Longer o) bs₁ d₁
       tried_longer o bs₁ e m = (
         (read_is capacity bs₁ _ m).0,
         λ head w sh.
-            let x : Longer (record_in s) head (w ++ (a ∷ [])) (length d) o d₁ = put_record (record_in s) head w a d out (PutAt o) d₁ sh (ap (λ (q : Put). putting q d₁) (sym e) ∙ g) in
+            let x : Longer (record_in s) head (w ++ (a ∷ [])) (length d) o d₁ = put_record (record_in s) head w a d out (Some o) d₁ sh (ap (λ (q : Option ℕ). putting q d₁) (sym e) ∙ g) in
             record { is-due = is-due ∙ y; table = m ∙ (λ i. table_read true (mark_l (kk i) time (vv i) (table_in bs))); frame = x },
       )
 

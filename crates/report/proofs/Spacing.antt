@@ -1,8 +1,8 @@
 -- Demand 3 with turns: arithmetic on the time since the last report. Assumes nothing.
+use Rattle.std.specs.Prelude.{Some}
 use mathlib.Core.Path.{◌≡◌, refl, sym, ap, ◌∙◌, subst}
 use mathlib.Core.Logic.{◌↔◌, inl, inr}
 use mathlib.Core.Bool.{Bool, true, false, not, cond, ◌&&◌, ◌||◌, true≢false, false≢true}
-use mathlib.Core.Option.{some}
 use mathlib.Core.List.{List, [], ◌∷◌, ◌++◌, append_assoc}
 use Prim.Native.Nat.{ℕ, suc, ◌+◌, ◌-◌, ◌*◌, ◌≤◌, ◌<◌}
 use native.Mathlib.Omega.{arith}
@@ -188,7 +188,7 @@ looks_length form x [] = refl
 looks_length form x (m ∷ ms) = ap suc (looks_length form x ms)
 
 -- an attribute that has an entry makes the cluster's one at least
-some_entry : (cluster x : ℕ) (l : List Entry) (e : Entry) → lookup_l (key_of cluster x) l ≡ some e → 1 ≤ count (of_cluster cluster) l
+some_entry : (cluster x : ℕ) (l : List Entry) (e : Entry) → lookup_l (key_of cluster x) l ≡ Some e → 1 ≤ count (of_cluster cluster) l
 some_entry cluster x l e h = let c = count_less (λ k. false) (of_cluster cluster) (λ k t. absurd (false≢true t)) (key_of cluster x) e l h refl (eq-eqb cluster cluster refl) in omega (arith, c)
 
 -- a row of turns that find it due and do not report it is shorter than n

@@ -1,4 +1,5 @@
 -- A report: the store, the header, the list, and its ids. Assumes nothing.
+use Rattle.std.specs.Prelude.{Err, None, Option, Result, Some}
 use mathlib.Core.Path.{◌≡◌, ap, ◌∙◌}
 use mathlib.Core.Bool.{true, false}
 use mathlib.Core.List.{List, []}
@@ -12,10 +13,7 @@ use Rattle.frame.specs.Header.{reply_head}
 use Rattle.frame.specs.Answer.{no_state, seen, refused}
 use Rattle.frame.specs.declared.header.ZclHeader.{ZclHeader}
 use Rattle.frame.specs.declared.command_identifier.CommandIdentifier.TheVariants.{ReportAttributes}
-use Rattle.frame.specs.declared.reply.Put.{Put}
-use Rattle.frame.specs.declared.reply.Put.TheVariants.{At, Full}
-use Rattle.frame.specs.declared.answer.Answer.{Answer}
-use Rattle.frame.specs.declared.answer.Answer.TheVariants.{Refused}
+use Rattle.frame.specs.declared.answer.Refusal.{Refusal}
 use Rattle.frame.specs.declared.answer.Refusal.TheVariants.{ReplyTooLong, NotAStore, EmptyReport}
 use Rattle.frame.proofs.Buffer.{PutAt, shows_cleared, shows_put, shows_full}
 use Rattle.frame.proofs.Outcome.{seen_refused}
@@ -46,7 +44,7 @@ module _ (s : List ℕ) (sequence : ℕ) (ids : List ℕ) (room : ℕ) where
     behind_it h e = rw (store, le-leb (length head) room h, lt-ltb 0 (length ids) (omega (arith, e)))
 
     -- a cleared buffer, and the header put there
-    module _ (d₀ : List ℕ) (z : d₀ ≡ zeros room) (request : ZclHeader) (is : request ≡ unasked sequence) (r : Put) (d₁ : List ℕ)
+    module _ (d₀ : List ℕ) (z : d₀ ≡ zeros room) (request : ZclHeader) (is : request ≡ unasked sequence) (r : Option ℕ) (d₁ : List ℕ)
         (p : putting r d₁ ≡ put d₀ 0 (reply_head request ReportAttributes)) where
       puts : putting r d₁ ≡ put d₀ 0 head
       puts = p ∙ ap (λ (x : ZclHeader). put d₀ 0 (reply_head x ReportAttributes)) is
@@ -55,13 +53,13 @@ module _ (s : List ℕ) (sequence : ℕ) (ids : List ℕ) (room : ℕ) where
       len = ap length z ∙ length-replicate room 0
 
       -- it does not fit
-      pub report_headless : r ≡ Full → seen (Refused ReplyTooLong) d₁ no_state ≡ report_of 8 s sequence ids room
+      pub report_headless : r ≡ None → seen (Err ReplyTooLong) d₁ no_state ≡ report_of 8 s sequence ids room
       report_headless q =
           let w = shows_full d₀ 0 [] head r d₁ (shows_cleared room d₀ z) puts q in
           let l : length d₀ ≡ room = len in
           seen_refused room d₁ ReplyTooLong no_state (w.1 ∙ z) ∙ headless (omega (arith, w.0))
 
-      module _ (from : ℕ) (q : r ≡ At from) where
+      module _ (from : ℕ) (q : r ≡ Some from) where
         fitted : PutAt d₀ [] head from d₁
         fitted = shows_put d₀ 0 [] head r from d₁ (shows_cleared room d₀ z) puts q
 
@@ -69,13 +67,13 @@ module _ (s : List ℕ) (sequence : ℕ) (ids : List ℕ) (room : ℕ) where
         within = let l : length d₀ ≡ room = len in omega (arith, fitted.fits)
 
         -- the list is empty
-        pub report_empty : length ids ≡ 0 → (a : Answer) (after : List ℕ) → seen a after no_state ≡ refused (length d₁) EmptyReport no_state
+        pub report_empty : length ids ≡ 0 → (a : Result ℕ Refusal) (after : List ℕ) → seen a after no_state ≡ refused (length d₁) EmptyReport no_state
             → seen a after no_state ≡ report_of 8 s sequence ids room
         report_empty e a after g =
             g ∙ ap (λ (k : ℕ). refused k EmptyReport no_state) (fitted.same ∙ len) ∙ listless within e
 
         -- its ids, behind the header
-        pub report_all : (length ids ≡ 0 → ⊥) → (a : Answer) (after : List ℕ) → ReportsAll s ids d₁ from a after → seen a after no_state ≡ report_of 8 s sequence ids room
+        pub report_all : (length ids ≡ 0 → ⊥) → (a : Result ℕ Refusal) (after : List ℕ) → ReportsAll s ids d₁ from a after → seen a after no_state ≡ report_of 8 s sequence ids room
         report_all e a after g =
             g head fitted.shows
             ∙ ap (λ (k : ℕ). report_reply k head (report_from 8 s k (length head) [] ids)) (fitted.same ∙ len)

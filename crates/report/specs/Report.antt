@@ -1,5 +1,5 @@
 -- Definitions. The Report Attributes frame (document 01, "Report frames .."; ZCL 2.5.11).
-use Rattle.std.specs.Prelude.{ℕ, Bool, true, false, cond, List, [], ◌∷◌, ◌++◌, length, leb, ltb}
+use Rattle.std.specs.Prelude.{ℕ, Bool, true, false, cond, List, [], ◌∷◌, ◌++◌, length, leb, ltb, None, Option, Some}
 use Rattle.types.specs.Number.{bytes_of}
 use Rattle.frame.specs.declared.header.ZclHeader.{ZclHeader}
 use Rattle.frame.specs.declared.command_identifier.CommandIdentifier.TheVariants.{ReportAttributes}
@@ -10,8 +10,6 @@ use Rattle.frame.specs.Answer.{Outcome, no_state, replied, refused}
 use Rattle.frame.specs.Encoded.{encode_all, fits}
 use Rattle.frame.specs.Walk.{done, walk, reached}
 use Rattle.store.specs.declared.lookup.Attribute.{Attribute}
-use Rattle.store.specs.declared.lookup.Found.{Found}
-use Rattle.store.specs.declared.lookup.Found.TheVariants.{At, Nothing}
 use Rattle.store.specs.Contents.{name_of, find_of, reportable}
 use Rattle.store.specs.Layout.{is_store}
 use Rattle.store.specs.Value.{value_of}
@@ -45,9 +43,9 @@ abbrev pub added : ℕ → ℕ → List ReportRecord → ReportRecord → Report
 added room head rs r = cond (fits encode room head (rs ++ (r ∷ []))) (all (rs ++ (r ∷ []))) (trouble ReplyTooLong)
 
 -- an id that is missing or not reportable is 12
-abbrev pub report_by : List ℕ → ℕ → ℕ → List ReportRecord → ℕ → Found → Reported
-report_by s room head rs id (At a) = cond (reportable a) (added room head rs (record_of s id a)) (trouble NotReportable)
-report_by s room head rs id Nothing = trouble NotReportable
+abbrev pub report_by : List ℕ → ℕ → ℕ → List ReportRecord → ℕ → Option Attribute → Reported
+report_by s room head rs id (Some a) = cond (reportable a) (added room head rs (record_of s id a)) (trouble NotReportable)
+report_by s room head rs id None = trouble NotReportable
 
 -- one id; a report that has ended stays as it is
 abbrev pub report_one : ℕ → List ℕ → ℕ → ℕ → Reported → ℕ → Reported

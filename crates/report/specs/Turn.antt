@@ -2,14 +2,12 @@
 -- reported (the caller's, at first none) and going round, puts them into one Report Attributes frame, marks those it wrote and stops at the first that
 -- does not fit. No number counts as 0; an entry whose attribute is gone or not reportable is passed over. It gives back the last id it wrote or, if
 -- none, the one handed in."
-use Rattle.std.specs.Prelude.{ℕ, Bool, cond, ◌&&◌, List, [], ◌∷◌, ◌++◌, length, leb, ℤ, pos}
+use Rattle.std.specs.Prelude.{ℕ, Bool, cond, ◌&&◌, List, [], ◌∷◌, ◌++◌, length, leb, ℤ, pos, Err, Ok, Result, Some}
 use Rattle.frame.specs.declared.answer.Refusal.TheVariants.{ReplyTooLong, NothingToSend, NotAStore, NotATable}
 use Rattle.frame.specs.Answer.{Outcome, replied, refused}
 use Rattle.frame.specs.Encoded.{encode_all, fits}
 use Rattle.store.specs.declared.lookup.Attribute.{Attribute}
-use Rattle.store.specs.declared.lookup.Found.TheVariants.{At}
-use Rattle.store.specs.declared.value.Numbered.{Numbered}
-use Rattle.store.specs.declared.value.Numbered.TheVariants.{Is, Refused}
+use Rattle.frame.specs.declared.answer.Refusal.{Refusal}
 use Rattle.store.specs.Contents.{cluster_of, attributes_of, reportable}
 use Rattle.store.specs.Layout.{is_store}
 use Rattle.store.specs.Value.{number_in}
@@ -43,12 +41,12 @@ abbrev pub key_of : ℕ → ℕ → Key
 key_of cluster id = record { cluster = record { 0 = cluster }; attribute = record { 0 = id } }
 
 -- "No number counts as 0"
-abbrev pub or_zero : Numbered → ℤ
-or_zero (Is v) = v
-or_zero (Refused why) = pos 0
+abbrev pub or_zero : Result ℤ Refusal → ℤ
+or_zero (Ok v) = v
+or_zero (Err why) = pos 0
 
 abbrev pub value_in : List ℕ → Attribute → ℤ
-value_in s a = or_zero (number_in s (At a))
+value_in s a = or_zero (number_in s (Some a))
 
 -- it is reportable, and an ask for it is a yes
 unfoldable pub is_due : List ℕ → ℕ → List Entry → Attribute → Bool

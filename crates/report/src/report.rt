@@ -8,25 +8,25 @@ ghost use Rattle.report.specs.Inside.Report.{Reports, ReportsAll};
 use frame::answer::{Answer, Refusal, refuse};
 use frame::command_identifier::CommandIdentifier;
 use frame::header::{FrameControl, ManufacturerCode, ZclHeader, write_response_header};
-use frame::reply::{Put, clear, put_both};
+use frame::reply::{clear, put_both};
 use store::layout::is_store;
-use store::lookup::{Found, find, is_reportable, name_of};
+use store::lookup::{find, is_reportable, name_of};
 use store::value::value_of;
 use types::ids::{AttributeId, CommandId};
 
 // Puts id, type and value.
+#[tactic(auto, unfolding(crate::specs::Report::encode, types::specs::Number::bytes_of))]
 pub(crate) fn put_record(
     frame: &mut [u8],
     out: usize,
     id: AttributeId,
     code: u8,
     value: &[u8],
-) -> Put
+) -> Option<usize>
     ensures { putting result frame.new ≡ put frame.old out (encode (report_record id.0 code value.now)) }
 {
-    let n = id.0;
-    let three = [(n % 256) as u8, (n / 256 % 256) as u8, code];
-    put_both(frame, out, &three, value)
+    let [low, high] = id.0.to_le_bytes();
+    put_both(frame, out, &[low, high, code], value)
 }
 
 // One id: a frame longer by its record; a refusal where it is missing or not reportable, or where its record does not fit.
@@ -34,35 +34,28 @@ fn report_one(store: &[u8], id: AttributeId, frame: &mut [u8], out: usize) -> An
     ensures { Reports store.now id.0 frame.old out result frame.new }
 {
     let name = name_of(ManufacturerCode(0), id);
-    let Found::At(a) = find(store, name) else {
+    let Some(a) = find(store, name) else {
         return refuse(frame, Refusal::NotReportable);
     };
     if !is_reportable(a) {
         return refuse(frame, Refusal::NotReportable);
     }
     let code = a.type_id;
-    let put = put_record(frame, out, id, code.0, value_of(store, a));
-    let Put::At(o) = put else {
+    let Some(longer) = put_record(frame, out, id, code.0, value_of(store, a)) else {
         return refuse(frame, Refusal::ReplyTooLong);
     };
-    Answer::Reply(o)
+    Ok(longer)
 }
 
 // Every id of the list, behind a header that ends at `from`. The first trouble met counts.
 fn report_records(store: &[u8], ids: &[u16], frame: &mut [u8], from: usize) -> Answer
     ensures { ReportsAll store.now ids.now frame.old from result frame.new }
 {
-    let mut i: usize = 0;
     let mut out = from;
-    while i < ids.len() {
-        let answer = report_one(store, AttributeId(ids[i]), frame, out);
-        let Answer::Reply(longer) = answer else {
-            return answer;
-        };
-        out = longer;
-        i += 1;
+    for &id in ids {
+        out = report_one(store, AttributeId(id), frame, out)?;
     }
-    Answer::Reply(out)
+    Ok(out)
 }
 
 // A report answers no request: its header is as that of a reply to this sequence number.
@@ -87,10 +80,9 @@ pub fn report(store: &[u8], sequence: u8, ids: &[u16], frame: &mut [u8]) -> Answ
     }
     clear(frame);
     let request = unasked(sequence);
-    let put = write_response_header(frame, request, CommandIdentifier::ReportAttributes);
-    let Put::At(from) = put else {
-        return Answer::Refused(Refusal::ReplyTooLong);
-    };
+    let from = write_response_header(frame, request, CommandIdentifier::ReportAttributes).ok_or(
+        Refusal::ReplyTooLong,
+    )?;
     if ids.len() == 0 {
         return refuse(frame, Refusal::EmptyReport);
     }

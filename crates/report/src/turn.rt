@@ -4,7 +4,6 @@ ghost use Rattle.frame.specs.Answer.{seen};
 ghost use Rattle.frame.specs.Inside.Buffer.{putting, put};
 ghost use Rattle.store.specs.Contents.{cluster_of};
 ghost use Rattle.reporting.specs.Table.{capacity};
-ghost use Rattle.reporting.specs.Carried.{is_table};
 ghost use Rattle.report.specs.Round.{above};
 ghost use Rattle.report.specs.Turn.{turn_for, id_of, key_of, value_in, record_in, after_turn, turn_of};
 ghost use Rattle.report.specs.Inside.Turn.{Tries, Steps, mine_of, Sweeps, Finishes};
@@ -13,15 +12,15 @@ use super::report::{put_record, unasked};
 use frame::answer::{Answer, Refusal, refuse};
 use frame::command_identifier::CommandIdentifier;
 use frame::header::write_response_header;
-use frame::reply::{Put, clear};
+use frame::reply::clear;
 use reporting::carried::is_table;
 use reporting::entry::Key;
-use reporting::lent::{due_in, mark_in};
+use reporting::held::TableMut;
 use store::layout::is_store;
 use store::lookup::{Attribute, attribute_at, cluster_of, count_of, is_reportable};
 use store::value::value_of;
 use types::ids::AttributeId;
-use types::value::{Number, number_at};
+use types::value::number_at;
 
 // What an attribute came to: not due, a frame longer by its record, or no room for that.
 #[derive(Clone, Copy)]
@@ -43,11 +42,7 @@ pub struct Swept {
 fn value_in(store: &[u8], a: Attribute) -> i64
     ensures { result ≡ value_in store.now a }
 {
-    let number = number_at(store, a.offset as usize, a.type_id);
-    let Number::Value(z) = number else {
-        return 0;
-    };
-    z
+    number_at(store, a.offset as usize, a.type_id).unwrap_or(0)
 }
 
 // What its entry is found by.
@@ -63,7 +58,7 @@ fn key_of(store: &[u8], a: Attribute) -> Key
 }
 
 // Puts its record.
-fn put_attribute(frame: &mut [u8], out: usize, store: &[u8], a: Attribute) -> Put
+fn put_attribute(frame: &mut [u8], out: usize, store: &[u8], a: Attribute) -> Option<usize>
     requires { id_of a < 65536 }
     ensures { putting result frame.new ≡ put frame.old out (record_in store.now a) }
 {
@@ -86,28 +81,28 @@ fn is_above(last: u32, a: Attribute) -> bool
 fn try_attribute(
     store: &[u8],
     a: Attribute,
-    table: &mut [u8],
+    table: &mut TableMut<'_>,
     time: u32,
     frame: &mut [u8],
     out: usize,
 ) -> Tried
-    requires table_value { is_table capacity table.old ≡ true }
-    requires a_bound { id_of a < 65536 }
-    ensures { Tries store.now a time table.old frame.old out result table.new frame.new }
+    requires { id_of a < 65536 }
+    ensures same_reference { table.new.bytes.ghost_name ≡ table.old.bytes.ghost_name }
+    ensures tried { Tries store.now a time table.old.bytes.now frame.old out result table.new.bytes.now frame.new }
 {
     if !is_reportable(a) {
         return Tried::Passed;
     }
     let value = value_in(store, a);
     let key = key_of(store, a);
-    if !due_in(table, key, time, value) {
+    if !table.read().due(key, time, value) {
         return Tried::Passed;
     }
     let put = put_attribute(frame, out, store, a);
-    let Put::At(o) = put else {
+    let Some(o) = put else {
         return Tried::Full;
     };
-    mark_in(table, key, time, value);
+    table.mark(key, time, value);
     Tried::Longer(o)
 }
 
@@ -116,14 +111,14 @@ fn sweep_one(
     store: &[u8],
     a: Attribute,
     mine: bool,
-    table: &mut [u8],
+    table: &mut TableMut<'_>,
     time: u32,
     frame: &mut [u8],
     c: Swept,
 ) -> Swept
-    requires table_value { is_table capacity table.old ≡ true }
-    requires a_bound { id_of a < 65536 }
-    ensures { Steps store.now a mine time table.old frame.old c result table.new frame.new }
+    requires { id_of a < 65536 }
+    ensures same_reference { table.new.bytes.ghost_name ≡ table.old.bytes.ghost_name }
+    ensures step { Steps store.now a mine time table.old.bytes.now frame.old c result table.new.bytes.now frame.new }
 {
     if c.full {
         return c;
@@ -163,22 +158,20 @@ fn sweep(
     store: &[u8],
     last: u32,
     upper: bool,
-    table: &mut [u8],
+    table: &mut TableMut<'_>,
     time: u32,
     frame: &mut [u8],
     from: Swept,
 ) -> Swept
-    requires { is_table capacity table.old ≡ true }
-    ensures { Sweeps store.now last upper time table.old frame.old from result table.new frame.new }
+    ensures same_reference { table.new.bytes.ghost_name ≡ table.old.bytes.ghost_name }
+    ensures swept { Sweeps store.now last upper time table.old.bytes.now frame.old from result table.new.bytes.now frame.new }
 {
     let n = count_of(store);
-    let mut i: u16 = 0;
     let mut c = from;
-    while i < n {
+    for i in 0..n {
         let a = attribute_at(store, i);
         let mine = is_mine(last, upper, a);
         c = sweep_one(store, a, mine, table, time, frame, c);
-        i += 1;
     }
     c
 }
@@ -188,7 +181,7 @@ fn finish(frame: &mut [u8], from: usize, c: Swept) -> Answer
     ensures { Finishes frame.old from c result frame.new }
 {
     if from < c.out {
-        return Answer::Reply(c.out);
+        return Ok(c.out);
     }
     if c.full {
         return refuse(frame, Refusal::ReplyTooLong);
@@ -228,12 +221,13 @@ pub fn report_turn(
             last: last,
         };
     }
+    let mut held = TableMut { bytes: table };
     clear(frame);
     let request = unasked(sequence);
     let put = write_response_header(frame, request, CommandIdentifier::ReportAttributes);
-    let Put::At(from) = put else {
+    let Some(from) = put else {
         return Turned {
-            answer: Answer::Refused(Refusal::ReplyTooLong),
+            answer: Err(Refusal::ReplyTooLong),
             last: last,
         };
     };
@@ -242,8 +236,8 @@ pub fn report_turn(
         last: last,
         full: false,
     };
-    let first = sweep(store, last, true, table, time, frame, start);
-    let both = sweep(store, last, false, table, time, frame, first);
+    let first = sweep(store, last, true, &mut held, time, frame, start);
+    let both = sweep(store, last, false, &mut held, time, frame, first);
     let answer = finish(frame, from, both);
     Turned {
         answer: answer,

@@ -1,17 +1,19 @@
 -- Numbers and rows of numbers as bytes, once over the widths. Assumes nothing.
-use Prim.Native.Nat.{ℕ, zero, suc, ◌+◌, ◌*◌, ◌/◌, ◌%◌, ◌^◌, ◌≤◌, ◌<◌}
+use Prim.Native.Nat.{ℕ, zero, suc, ◌+◌, ◌-◌, ◌*◌, ◌/◌, ◌%◌, ◌^◌, ◌≤◌, ◌<◌}
 use mathlib.Core.Path.{◌≡◌, refl, ap, sym, ◌∙◌}
 use mathlib.Core.Bool.{Bool, true, false, ◌&&◌, false≢true}
 use mathlib.Core.List.{List, [], ◌∷◌, ◌++◌, append_assoc}
 use native.Mathlib.Omega.{arith}
-use native.Mathlib.Nat.{mod-lt, mod-eq_of_lt, mul_assoc, suc-mul, zero-mul, div-one, div-div-eq-div-mul}
+use native.Mathlib.Nat.{pow-suc, mul_comm, mod-lt, mod-eq_of_lt, mul_assoc, suc-mul, zero-mul, div-one, div-div-eq-div-mul}
 use lib.Pow.{pow_pos}
-use lib.ListN.{length, get_or, take, drop, set, length-append, length-drop}
-use lib.Seq.{sets, take_at, drop_at, take-add}
+use lib.ListN.{length, get_or, take, drop, length-append, length-drop}
+use lib.Seq.{sets, take_at, drop_at, take-add, take-take}
 use lib.Dec.{eqb}
 use borrow.Author.Tests.{eqb-true}
 use Rattle.types.specs.Number.{AllBytes, all_zero, zeros, le, bytes_of, unsigned_at}
-use Rattle.types.proofs.Numbers.{pow_byte, bytes_drop, unsigned_none, unsigned_step, le_below, le_bytes, bytes_cut, length_bytes}
+use Rattle.types.proofs.Numbers.{pow_byte, bytes_drop, unsigned_none, unsigned_step, one_byte, le_below, le_bytes, length_bytes}
+use Rattle.frame.proofs.Buffer.{mid_sets}
+use Rattle.std.specs.Int.{sum_through, byte_worth, bytes_low_first}
 use Rattle.reporting.specs.Carried.{total, laid, numbers_in, rows_laid, rows_in}
 
 -- ---- one number
@@ -40,26 +42,45 @@ unsigned_join s at (suc a) b =
     let m : 2 ^ (8 * suc a) * x ≡ 256 * (2 ^ (8 * a) * x) = ap (λ (n : ℕ). n * x) (pow_byte a) ∙ mul_assoc 256 (2 ^ (8 * a)) x in
     rw (p, w) (omega (arith, m, unsigned_step s at a, unsigned_step s at (a + b), unsigned_join s (suc at) a b))
 
--- two parts of a number written one behind the other, the low one first
-put_join : (l : List ℕ) (at a b n : ℕ) → sets (sets l at (bytes_of a n)) (at + a) (bytes_of b (n / 2 ^ (8 * a))) ≡ sets l at (bytes_of (a + b) n)
-unfolding bytes_of
-put_join l at zero b n =
-    let p : at + 0 ≡ at = omega arith in
-    let w : 0 + b ≡ b = omega arith in
-    rw (p, w, div-one n)
-put_join l at (suc a) b n =
-    let p : at + suc a ≡ suc at + a = omega arith in
-    let w : suc a + b ≡ suc (a + b) = omega arith in
-    let d : n / 2 ^ (8 * suc a) ≡ n / 256 / 2 ^ (8 * a) = ap (λ (m : ℕ). n / m) (pow_byte a) ∙ sym (div-div-eq-div-mul n 256 (2 ^ (8 * a))) in
-    rw (p, w, d) (put_join (set l at (n % 256)) (suc at) a b (n / 256))
+pow_bytes : (k : ℕ) → 256 ^ k ≡ 2 ^ (8 * k)
+pow_bytes zero = refl
+pow_bytes (suc k) = pow-suc 256 k ∙ mul_comm (256 ^ k) 256 ∙ ap (λ (p : ℕ). 256 * p) (pow_bytes k) ∙ sym (pow_byte k)
 
--- the same of two writes, the low one of the number cut to its width
-pub put_halves : (at a b n : ℕ) (l₀ l₁ l₂ : List ℕ) → l₁ ≡ sets l₀ at (bytes_of a (n % 2 ^ (8 * a))) → l₂ ≡ sets l₁ (at + a) (bytes_of b (n / 2 ^ (8 * a)))
-    → l₂ ≡ sets l₀ at (bytes_of (a + b) n)
-put_halves at a b n l₀ l₁ l₂ e₁ e₂ =
-    e₂
-    ∙ ap (λ (l : List ℕ). sets l (at + a) (bytes_of b (n / 2 ^ (8 * a)))) (e₁ ∙ ap (sets l₀ at) (bytes_cut a n))
-    ∙ put_join l₀ at a b n
+-- std's number of bytes is ours
+number_le : (w : ℕ) (bs : List ℕ) → sum_through (λ i. byte_worth i (get_or bs i 0)) w ≡ unsigned_at bs 0 (suc w)
+number_le zero bs = one_byte bs 0
+number_le (suc w) bs =
+    let z : 0 + suc w ≡ suc w = omega arith in
+    let n : suc w + 1 ≡ suc (suc w) = omega arith in
+    (λ i. number_le w bs i + (mul_comm (get_or bs (suc w) 0) (256 ^ suc w) ∙ (λ j. pow_bytes (suc w) j * one_byte bs (suc w) j)) i)
+    ∙ ap (λ (k : ℕ). unsigned_at bs 0 (suc w) + 2 ^ (8 * suc w) * unsigned_at bs k 1) (sym z)
+    ∙ unsigned_join bs 0 (suc w) 1
+    ∙ ap (unsigned_at bs 0) n
+
+-- the same of the bytes at a place
+pub read_number : (w at : ℕ) (bs number : List ℕ) → number ≡ take (at + suc w - at) (drop at bs) → sum_through (λ i. byte_worth i (get_or number i 0)) w ≡ unsigned_at bs at (suc w)
+unfolding unsigned_at
+read_number w at bs number e =
+    let k : at + suc w - at ≡ suc w = omega arith in
+    number_le w number
+    ∙ ap (λ (l : List ℕ). le (take (suc w) l)) (e ∙ ap (λ (m : ℕ). take m (drop at bs)) k)
+    ∙ ap le (take-take (suc w) (suc w) (drop at bs) (omega arith))
+
+-- and std's bytes of a number are ours
+bytes_from : (i k n : ℕ) → bytes_low_first i k n ≡ bytes_of k (n / 256 ^ i)
+unfolding bytes_of
+bytes_from i zero n = refl
+bytes_from zero (suc k) n = rw (div-one n) (ap (λ (l : List ℕ). n % 256 ∷ l) (bytes_from 1 k n))
+bytes_from (suc i) (suc k) n =
+    let e : n / 256 ^ suc (suc i) ≡ n / 256 ^ suc i / 256 = ap (λ (p : ℕ). n / p) (pow-suc 256 (suc i)) ∙ sym (div-div-eq-div-mul n (256 ^ suc i) 256) in
+    ap (λ (l : List ℕ). n / 256 ^ suc i % 256 ∷ l) (bytes_from (suc (suc i)) k n ∙ ap (bytes_of k) e)
+
+-- the same of a number's bytes that are written over those at a place
+pub write_number : (w at n : ℕ) (bs bytes : List ℕ) → bytes ≡ bytes_low_first 0 w n → at + w ≤ length bs → take at bs ++ (bytes ++ drop (at + w - at) (drop at bs)) ≡ sets bs at (bytes_of w n)
+write_number w at n bs bytes e h =
+    let b : bytes ≡ bytes_of w n = e ∙ bytes_from 0 w n ∙ ap (bytes_of w) (div-one n) in
+    let m : length bytes ≡ w = ap length b ∙ length_bytes w n in
+    mid_sets bs bytes at (at + w - at) (omega (arith, m)) (omega (arith, m)) ∙ ap (sets bs at) b
 
 -- ---- a row of numbers
 

@@ -1,43 +1,17 @@
 -- What the code's slots and loops do, against the definitions. Assumes nothing.
-use Prim.Native.Nat.{ℕ, ◌+◌, ◌-◌, ◌^◌, ◌≤◌, ◌<◌}
+use Prim.Native.Nat.{ℕ, ◌+◌, ◌≤◌, ◌<◌}
 use mathlib.Core.Path.{◌≡◌, refl, ap, sym, ◌∙◌}
-use mathlib.Core.Bool.{true, false, ◌&&◌, ◌||◌, true≢false, false≢true}
+use mathlib.Core.Bool.{true, false, ◌&&◌, ◌||◌}
 use mathlib.Core.List.{List, [], ◌∷◌}
 use native.Mathlib.Omega.{arith}
-use native.Mathlib.Nat.{mod-eq_of_lt}
 use lib.ListN.{get_or, drop}
 use lib.Seq.{sets, drop-drop}
-use lib.Dec.{leb, eqb, leb-zero}
-use lib.IntN.{ℤ, pos, negsuc, nat_abs}
-use lib.Signed.{mag, le_z}
+use lib.Dec.{leb, eqb}
 use borrow.Author.Tests.{eq-eqb, ne_eqb, le-leb, lt-leb}
-use mir.Syntax.{w64}
-use mir.Val.{SFits, to_z, of_z}
-use mir.Facts.{to_z-of_z}
-use Rattle.types.specs.Number.{bytes_of, unsigned_at, signed_at, residue}
+use Rattle.types.specs.Number.{bytes_of, unsigned_at, signed_at}
 use Rattle.types.proofs.Numbers.{one_byte, length_bytes}
-use Rattle.types.proofs.Machine.{flipped_is}
 use Rattle.frame.proofs.Buffer.{sets_append}
 use Rattle.reporting.specs.Carried.{widths, laid, numbers_in, is_slot, entry_of}
-
--- ---- the bits of a signed number
-
-bits_kept : (z : ℤ) → mag z < 2 ^ 63 → le_z (pos 0) z ≡ true → nat_abs z ≡ residue (2 ^ 64) z
-unfolding residue
-bits_kept (pos n) m e = sym (mod-eq_of_lt (omega arith))
-bits_kept (negsuc n) m e = absurd (false≢true e)
-
-bits_flipped : (z : ℤ) (x : ℕ) → mag z < 2 ^ 63 → le_z (pos 0) z ≡ false → x + 1 ≡ nat_abs z → 18446744073709551615 - x ≡ residue (2 ^ 64) z
-unfolding residue
-bits_flipped (pos n) x m e k = absurd (true≢false (sym (leb-zero n) ∙ e))
-bits_flipped (negsuc n) x m e k = omega (arith, mod-eq_of_lt {n = n} {m = 2 ^ 64} (omega arith))
-
-module _ (z : ℤ) (f : SFits w64 z) where
-  pub bits_low : le_z (to_z w64 0) (to_z w64 (of_z w64 z)) ≡ true → nat_abs (to_z w64 (of_z w64 z)) ≡ residue (2 ^ 64) z
-  bits_low e = ap nat_abs (to_z-of_z f) ∙ bits_kept z f.sfits (rw (to_z-of_z f) at e)
-
-  pub bits_high : le_z (to_z w64 0) (to_z w64 (of_z w64 z)) ≡ false → 18446744073709551615 - nat_abs (to_z w64 (18446744073709551615 - of_z w64 z)) ≡ residue (2 ^ 64) z
-  bits_high e = bits_flipped z (nat_abs (to_z w64 (18446744073709551615 - of_z w64 z))) f.sfits (rw (to_z-of_z f) at e) (flipped_is z f e)
 
 -- ---- a slot at a place
 

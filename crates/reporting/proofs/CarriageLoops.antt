@@ -2,11 +2,13 @@
 use Prim.Native.Nat.{ℕ, zero, suc, ◌+◌, ◌-◌, ◌*◌, ◌≤◌, ◌<◌}
 use mathlib.Core.Path.{◌≡◌, refl, ap, sym, ◌∙◌, subst}
 use mathlib.Core.Bool.{Bool, true, false, cond, ◌&&◌, and-true, and-false}
-use mathlib.Core.List.{List, [], ◌∷◌, ◌++◌, map, append_assoc, append-nil}
+use mathlib.Core.List.{List, [], ◌∷◌, ◌++◌, map, map-map, append_assoc, append-nil}
 use native.Mathlib.Omega.{arith}
 use native.Mathlib.Nat.{sub-zero, mul_comm}
 use native.Mathlib.Numerals.{add-one}
 use lib.ListN.{length, get_or, take, drop, set, length-set, length-map, length-replicate}
+use Rattle.std.specs.List.{range_with_len}
+use Rattle.std.proofs.lemmas.List.FromFn.{map-range_with_len_more}
 use lib.Seq.{sets, length-sets, drop-drop, take-suc, take-suc-set, length-take-le}
 use borrow.Author.Tests.{eq-eqb, ne_eqb, le-leb, lt-leb}
 use Rattle.types.specs.Number.{all_zero, zeros}
@@ -15,7 +17,7 @@ use Rattle.frame.proofs.Buffer.{sets_padded}
 use Rattle.reporting.specs.declared.entry.Entry.{Entry}
 use Rattle.reporting.specs.declared.table.ReportingTable.{ReportingTable}
 use Rattle.reporting.specs.Table.{capacity, Table, holding, table_of}
-use Rattle.reporting.specs.Carried.{widths, total, laid, numbers_in, rows_laid, rows_in, numbers_of, entry_of, is_slot, are_slots, count_in, slots_in, table_in, table_bytes, is_table, quieted, Reading, table_read, read_t, written, write_t, slot_bytes, table_length}
+use Rattle.reporting.specs.Carried.{widths, total, laid, numbers_in, rows_laid, rows_in, numbers_of, entry_of, are_slots, count_in, slots_in, table_in, table_bytes, is_table, quieted, Reading, table_read, read_t, written, write_t, slot_bytes, table_length}
 use Rattle.reporting.specs.Claims.RoundTrip.{Clean, AllClean}
 use Rattle.reporting.proofs.Slots.{is-table}
 use Rattle.reporting.proofs.Carriage.{length_laid, length_rows}
@@ -30,10 +32,6 @@ pub empty_length : length (table_bytes capacity []) ≡ table_length
 empty_length = ap length empty_bytes ∙ length-replicate {A = ℕ} table_length 0
 
 -- ---- the slots, one after the other
-
--- the slots from the i-th on
-abbrev pub slots_from : List ℕ → ℕ → ℕ → List (List ℕ)
-slots_from bs count i = rows_in widths (count - i) (drop (1 + slot_bytes * i) bs)
 
 -- of the rows from number i on, the first of which stands at `at`, one and the others; and none of none
 module _ (ws bs : List ℕ) (count i at : ℕ) where
@@ -50,67 +48,52 @@ module _ (ws bs : List ℕ) (count i at : ℕ) where
       let n : count - i ≡ 0 = omega arith in
       ap (λ (k : ℕ). rows_in ws k (drop at bs)) n
 
+-- the slots from the i-th on
+abbrev pub slots_from : List ℕ → ℕ → ℕ → List (List ℕ)
+slots_from bs count i = rows_in widths (count - i) (drop (1 + slot_bytes * i) bs)
+
 pub slots_more : (bs : List ℕ) (count i : ℕ) → i < count → slots_from bs count i ≡ numbers_in widths (drop (1 + slot_bytes * i) bs) ∷ slots_from bs count (i + 1)
 slots_more bs count i h = rows_more widths bs count i (1 + slot_bytes * i) (1 + slot_bytes * (i + 1)) h (omega arith)
 
 pub slots_end : (bs : List ℕ) (count i : ℕ) → count ≤ i → slots_from bs count i ≡ []
 slots_end bs count i h = rows_end widths bs count i (1 + slot_bytes * i) h
 
--- what is looked at after i slots: they are in form, so that the others decide
-abbrev pub FormSoFar : List ℕ → ℕ → ℕ → Type 0
-FormSoFar bs count i = are_slots (slots_from bs count i) ≡ are_slots (rows_in widths count (drop 1 bs))
-
 pub slots_start : (bs : List ℕ) (count : ℕ) → slots_from bs count 0 ≡ rows_in widths count (drop 1 bs)
 slots_start bs count = ap (λ (k : ℕ). rows_in widths k (drop 1 bs)) (sub-zero count)
 
-pub form_start : (bs : List ℕ) (count : ℕ) → FormSoFar bs count 0
-form_start bs count = ap are_slots (slots_start bs count)
+-- the numbers of the i-th slot
+abbrev pub slot_in : List ℕ → ℕ → List ℕ
+slot_in bs i = numbers_in widths (drop (1 + slot_bytes * i) bs)
 
-module _ (bs : List ℕ) (count i : ℕ) (s : FormSoFar bs count i) where
-  form_next : (b : Bool) → i < count → is_slot (numbers_in widths (drop (1 + slot_bytes * i) bs)) ≡ b → (b && are_slots (slots_from bs count (i + 1))) ≡ are_slots (rows_in widths count (drop 1 bs))
-  unfolding are_slots
-  form_next b h f = sym (ap are_slots (slots_more bs count i h) ∙ ap (λ (t : Bool). t && are_slots (slots_from bs count (i + 1))) f) ∙ s
+-- behind one slot the next
+next_slot : (bs : List ℕ) (i : ℕ) → drop (total widths) (drop (1 + slot_bytes * i) bs) ≡ drop (1 + slot_bytes * (i + 1)) bs
+next_slot bs i =
+    let p : 1 + slot_bytes * i + total widths ≡ 1 + slot_bytes * (i + 1) = omega arith in
+    drop-drop (total widths) (1 + slot_bytes * i) bs ∙ ap (λ (k : ℕ). drop k bs) p
 
-  pub form_more : i < count → is_slot (numbers_in widths (drop (1 + slot_bytes * i) bs)) ≡ true → FormSoFar bs count (i + 1)
-  form_more h f = form_next true h f
+-- n slots from the i-th on, each looked at in its place
+pub slots_placed : (bs : List ℕ) (n i : ℕ) → rows_in widths n (drop (1 + slot_bytes * i) bs) ≡ map (slot_in bs) (range_with_len i n)
+unfolding rows_in
+slots_placed bs zero i = refl
+slots_placed bs (suc n) i = ap (λ (r : List (List ℕ)). slot_in bs i ∷ r) (ap (rows_in widths n) (next_slot bs i) ∙ slots_placed bs n (i + 1))
 
-  -- a slot that is not in form
-  pub form_bad : i < count → is_slot (numbers_in widths (drop (1 + slot_bytes * i) bs)) ≡ false → false ≡ are_slots (rows_in widths count (drop 1 bs))
-  form_bad h f = form_next false h f
+-- what is read after i slots: their entries stand in their places
+abbrev pub ReadSoFar : List ℕ → List Entry → ℕ → Type 0
+ReadSoFar bs es i = take i es ≡ map (λ j. entry_of (slot_in bs j)) (range_with_len 0 i)
 
-  pub form_done : count ≤ i → true ≡ are_slots (rows_in widths count (drop 1 bs))
-  unfolding are_slots
-  form_done h = sym (ap are_slots (slots_end bs count i h)) ∙ s
-
--- what is read after i slots: their entries stand in their places, and the others are still to come
-pub record ReadSoFar (bs : List ℕ) (count : ℕ) (es : List Entry) (i : ℕ) : Type 0 where
-  pub within : i ≤ count
-  pub entries : take i es ++ map entry_of (slots_from bs count i) ≡ map entry_of (rows_in widths count (drop 1 bs))
-
-pub read_start : (bs : List ℕ) (count : ℕ) (es : List Entry) → ReadSoFar bs count es 0
-read_start bs count es = record { within = omega arith; entries = ap (map entry_of) (slots_start bs count) }
-
-module _ (bs : List ℕ) (count : ℕ) (es : List Entry) (i : ℕ) (s : ReadSoFar bs count es i) where
-  pub read_more : (e : Entry) → i < count → i < length es → e ≡ entry_of (numbers_in widths (drop (1 + slot_bytes * i) bs)) → ReadSoFar bs count (set es i e) (i + 1)
-  read_more e h k p =
-      let later : List Entry = map entry_of (slots_from bs count (i + 1)) in
-      record {
-        within = omega arith;
-        entries = ap (λ (j : ℕ). take j (set es i e) ++ later) (add-one i)
-            ∙ ap (λ (l : List Entry). l ++ later) (take-suc-set es i e k)
-            ∙ append_assoc (take i es) (e ∷ []) later
-            ∙ ap (λ (x : Entry). take i es ++ (x ∷ later)) p
-            ∙ ap (λ (r : List (List ℕ)). take i es ++ map entry_of r) (sym (slots_more bs count i h))
-            ∙ s.entries;
-      }
+module _ (bs : List ℕ) (es : List Entry) (i : ℕ) (s : ReadSoFar bs es i) where
+  pub read_more : (e : Entry) → i < length es → e ≡ entry_of (slot_in bs i) → ReadSoFar bs (set es i e) (i + 1)
+  read_more e h p =
+      ap (λ (j : ℕ). take j (set es i e)) (add-one i)
+      ∙ take-suc-set es i e h
+      ∙ (λ j. s j ++ (p j ∷ []))
+      ∙ sym (map-range_with_len_more (λ j. entry_of (slot_in bs j)) 0 i i (omega arith))
 
   -- all are read
-  pub read_done : count ≤ i → count ≤ capacity → ◌≡◌ {A = Reading} (record { known = true; table = table_of (record { entries = es; count = count }) }) (table_read true (map entry_of (rows_in widths count (drop 1 bs))))
-  read_done h small =
-      let z = slots_end bs count i h in
-      let q : i ≡ count = omega (arith, s.within) in
-      let l : List Entry = map entry_of (rows_in widths count (drop 1 bs)) in
-      let b : take count es ≡ l = ap (λ (j : ℕ). take j es) (sym q) ∙ sym (append-nil (take i es)) ∙ ap (λ (r : List (List ℕ)). take i es ++ map entry_of r) (sym z) ∙ s.entries in
+  pub read_done : (count : ℕ) → i ≡ count → count ≤ capacity → ◌≡◌ {A = Reading} (record { known = true; table = table_of (record { entries = es; count = count }) }) (table_read true (map entry_of (rows_in widths count (drop 1 bs))))
+  read_done count q small =
+      let b : take count es ≡ map entry_of (rows_in widths count (drop 1 bs)) =
+      subst (ReadSoFar bs es) q s ∙ sym (ap (map entry_of) (slots_placed bs count 0) ∙ map-map entry_of (slot_in bs) (range_with_len 0 count)) in
       ap (λ (x : Table). record { known = true; table = x }) (is-table (record { entries = es; count = count }) small ∙ ap holding b)
 
 -- ---- the tests before

@@ -1,4 +1,5 @@
 -- What the code of the table gave back, by its contracts, is an honest history; so demand 3 holds of it. Assumes nothing.
+use Rattle.std.specs.Prelude.{Result}
 use mathlib.Core.Path.{◌≡◌, refl, sym, ap, ◌∙◌, subst}
 use mathlib.Core.Bool.{Bool, true, false, cond}
 use mathlib.Core.List.{List, [], ◌∷◌, ◌++◌}
@@ -9,7 +10,7 @@ use Rattle.reporting.specs.declared.entry.ReportingConfig.{ReportingConfig}
 use Rattle.reporting.specs.declared.entry.Entry.{Entry}
 use Rattle.reporting.specs.declared.table.ReportingTable.{ReportingTable}
 use Rattle.reporting.specs.declared.table.Changed.{Changed}
-use Rattle.reporting.specs.declared.table.Report.{Report}
+use Rattle.frame.specs.declared.answer.Refusal.{Refusal}
 use Rattle.reporting.specs.Entries.{accepts_l, configure_l}
 use Rattle.reporting.specs.Table.{capacity, table_of, holding, change_told, report_told, HandedBack, handed_back, done_t, full_t, configure_t, clear_t, mark_t, ask_t}
 use Rattle.reporting.specs.Claims.Events.{Event, configured, cleared, marked, after, Tells, Honest}
@@ -35,7 +36,7 @@ module _ (l : List Entry) (es : List Event) where
       go false e q =
           subst (λ a. Honest capacity (if_accepted a (configured k g) ++ es) l) (sym (ap (λ (o : HandedBack). o.told) q)) (ih l (ap (λ (o : HandedBack). o.table) q))
 
-  ask_told : (k : Key) (now : ℕ) (v : ℤ) (r : Report) → report_told r ≡ ask_t k now v (holding l) → Honest capacity es l
+  ask_told : (k : Key) (now : ℕ) (v : ℤ) (r : Result Bool Refusal) → report_told r ≡ ask_t k now v (holding l) → Honest capacity es l
       → Honest capacity (if_answered k now v (report_told r) ++ es) l
   ask_told k now v r q ih = subst (λ a. Honest capacity (if_answered k now v a ++ es) l) (sym q) (refl, ih)
 

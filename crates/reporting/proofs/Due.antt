@@ -1,6 +1,6 @@
 -- When a report is due: the rule by its cases. Assumes nothing.
 use mathlib.Core.Path.{◌≡◌, ◌∙◌}
-use mathlib.Core.Bool.{Bool, true, false, not, ◌&&◌, and-false}
+use mathlib.Core.Bool.{true, false, not, ◌&&◌, and-false}
 use mathlib.Core.Logic.{◌⊎◌, inl, inr}
 use Prim.Native.Nat.{ℕ, ◌-◌, ◌<◌, ◌≤◌}
 use lib.Dec.{leb, eqb}
@@ -36,11 +36,6 @@ due_marked e now v h m = simp (ne_eqb _ _ h, m)
 -- an entry that was not
 pub due_first : (e : Entry) (now : ℕ) (v : ℤ) → (e.config.max_interval ≡ 0xffff → ⊥) → e.marked ≡ false → due_e e now v ≡ true
 due_first e now v h m = simp (ne_eqb _ _ h, m)
-
--- as the code comes to it: the signed numbers read back from their bits
-pub due_code : (e : Entry) (now : ℕ) (v v' w' : ℤ) (s m : ℕ) (r : Bool) → (e.config.max_interval ≡ 0xffff → ⊥) → e.marked ≡ true
-    → s ≡ now - e.last_time → m ≡ moved_by e.config w' v' → v' ≡ v → w' ≡ e.last_value → r ≡ ripe e.config s m → r ≡ due_e e now v
-due_code e now v v' w' s m r h k es em ev ew er = rw (due_marked e now v h k, ← es, ← ew, ← ev, ← em) er
 
 -- how far a value moved is a distance, as the configuration's mark says
 pub moved_code : (g : ReportingConfig) (from to from' to' : ℤ) (r : ℕ) → from' ≡ from → to' ≡ to → r ≡ dist_by g.unsigned to' from' → r ≡ moved_by g from to

@@ -1,8 +1,8 @@
 -- Events and calls: what an event leaves of another key's entry, that keys stay distinct, and that a call is its events. Assumes
 -- nothing.
+use Rattle.std.specs.Prelude.{Some}
 use mathlib.Core.Path.{◌≡◌, refl, sym, ap, ◌∙◌, subst}
 use mathlib.Core.Bool.{Bool, true, false, cond, ◌||◌, false≢true}
-use mathlib.Core.Option.{some}
 use mathlib.Core.List.{List, [], ◌∷◌, ◌++◌}
 use Prim.Native.Nat.{ℕ}
 use lib.ListN.{length, get_or}
@@ -45,17 +45,17 @@ configure_distinct limit k g l d = go (ltb (find_l k l) (length l)) refl (ltb (l
     go false e false = d
 
 -- an accepted configuration stands, as not yet reported
-pub configure_own : (limit : ℕ) (k : Key) (g : ReportingConfig) (l : List Entry) → accepts_l limit k l ≡ true → lookup_l k (configure_l limit k g l) ≡ some (fresh k g)
+pub configure_own : (limit : ℕ) (k : Key) (g : ReportingConfig) (l : List Entry) → accepts_l limit k l ≡ true → lookup_l k (configure_l limit k g l) ≡ Some (fresh k g)
 configure_own limit k g l = go (ltb (find_l k l) (length l)) refl (ltb (length l) limit)
   where
     go : (t : Bool) → ltb (find_l k l) (length l) ≡ t → (u : Bool) → (t || u) ≡ true
-        → lookup_l k (cond t (update_l k (replaced k g) l) (cond u (l ++ (fresh k g ∷ [])) l)) ≡ some (fresh k g)
+        → lookup_l k (cond t (update_l k (replaced k g) l) (cond u (l ++ (fresh k g ∷ [])) l)) ≡ Some (fresh k g)
     go true e u a = update_own k (replaced k g) (fresh_keeps k g) l (get_or l (find_l k l) (fresh k g)) (lookup_at k l (fresh k g) (ltb-true _ _ e))
     go false e true a = append_own l (fresh k g) (lookup_none k l (ltb-false _ _ e))
     go false e false a = absurd (false≢true a)
 
 -- a mark of the key's own entry
-pub mark_own : (k : Key) (now : ℕ) (v : ℤ) (l : List Entry) (e : Entry) → lookup_l k l ≡ some e → lookup_l k (mark_l k now v l) ≡ some (mark_e now v e)
+pub mark_own : (k : Key) (now : ℕ) (v : ℤ) (l : List Entry) (e : Entry) → lookup_l k l ≡ Some e → lookup_l k (mark_l k now v l) ≡ Some (mark_e now v e)
 mark_own k now v l e h = update_own k (mark_e now v) (λ e m. refl) l e h
 
 -- What happens to another key leaves the key's entry, also a clear that moves it to another place.

@@ -1,9 +1,9 @@
 -- What the operations on a table's bytes find, and what they then say. Assumes nothing.
+use Rattle.std.specs.Prelude.{Err, None, Ok, Option, Result, Some}
 use Prim.Native.Nat.{ℕ, zero, suc, ◌+◌, ◌*◌, ◌^◌, ◌≤◌, ◌<◌}
 use mathlib.Core.Path.{◌≡◌, refl, ap, sym, ◌∙◌}
 use mathlib.Core.Bool.{Bool, true, false, cond, ◌&&◌, ◌||◌, and-true, and-false}
 use mathlib.Core.List.{List, [], ◌∷◌, ◌++◌, map}
-use mathlib.Core.Option.{some}
 use native.Mathlib.Omega.{arith}
 use lib.ListN.{length, get_or, take, drop, set, length-set}
 use lib.Seq.{sets, drop-drop, take_all, take-suc, length-take-le}
@@ -16,11 +16,7 @@ use Rattle.frame.specs.declared.answer.Refusal.TheVariants.{NotATable}
 use Rattle.reporting.specs.declared.entry.Key.{Key}
 use Rattle.reporting.specs.declared.entry.ReportingConfig.{ReportingConfig}
 use Rattle.reporting.specs.declared.entry.Entry.{Entry}
-use Rattle.reporting.specs.declared.table.Change.{Change}
-use Rattle.reporting.specs.declared.table.Change.TheVariants as ChangeV
-use Rattle.reporting.specs.declared.table.Report.TheVariants as ReportV
-use Rattle.reporting.specs.declared.table.Setting.{Setting}
-use Rattle.reporting.specs.declared.table.Setting.TheVariants as SettingV
+use Rattle.frame.specs.declared.answer.Refusal.{Refusal}
 use Rattle.reporting.specs.Entries.{matches, find_l, lookup_l, update_l, fresh, replaced, accepts_l, configure_l, clear_l, mark_e, mark_l}
 use Rattle.reporting.specs.Due.{due_e, due_o, due_l}
 use Rattle.reporting.specs.Table.{capacity, holding, ReportTold, report_told, setting_told, setting_o, configuration_t}
@@ -105,11 +101,11 @@ module _ (bs : List ℕ) where
   unfolding on_lent
   known_so refusal rest h = ap (λ (b : Bool). cond b (rest (table_in bs)) refusal) (sym h)
 
-  pub ask_refused : (k : Key) (now : ℕ) (v : ℤ) → is_table capacity bs ≡ false → report_told (ReportV.Refused NotATable) ≡ ask_lent k now v bs
+  pub ask_refused : (k : Key) (now : ℕ) (v : ℤ) → is_table capacity bs ≡ false → report_told (Err NotATable) ≡ ask_lent k now v bs
   unfolding ask_lent
   ask_refused k now v h = refused_so _ _ h
 
-  pub setting_refused : (k : Key) → is_table capacity bs ≡ false → setting_told (SettingV.Refused NotATable) ≡ configuration_lent k bs
+  pub setting_refused : (k : Key) → is_table capacity bs ≡ false → setting_told (Err NotATable) ≡ configuration_lent k bs
   unfolding configuration_lent
   setting_refused k h = refused_so _ _ h
 
@@ -121,13 +117,13 @@ module _ (bs : List ℕ) where
   unfolding clear_lent
   clear_refused k h = refused_so _ _ h
 
-  pub configure_refused : (k : Key) (g : ReportingConfig) → is_table capacity bs ≡ false → left_as (ChangeV.Refused NotATable) bs ≡ configure_lent k g bs
+  pub configure_refused : (k : Key) (g : ReportingConfig) → is_table capacity bs ≡ false → left_as (Err NotATable) bs ≡ configure_lent k g bs
   unfolding configure_lent
   configure_refused k g h = refused_so _ _ h
 
 -- what configuring says, and the bytes of the entries that it leaves
 abbrev changed : Key → ReportingConfig → List Entry → ChangeLeft
-changed k g l = left_as (cond (accepts_l capacity k l) ChangeV.Done ChangeV.Full) (table_bytes capacity (configure_l capacity k g l))
+changed k g l = left_as (Ok (accepts_l capacity k l)) (table_bytes capacity (configure_l capacity k g l))
 
 -- in bytes that are a table, the scan for the key k came to `at`
 pub record FoundSlot (bs : List ℕ) (k : Key) (at : ℕ) : Type 0 where
@@ -144,8 +140,8 @@ module _ {bs : List ℕ} {k : Key} {at : ℕ} (found : FoundSlot bs k at) where
   pub found_entry : (d : Entry) → at < count_in bs → get_or (table_in bs) (find_l k (table_in bs)) d ≡ slot_entry bs at
   found_entry d h = ap (λ (i : ℕ). get_or (table_in bs) i d) (sym found.place) ∙ nth_entry bs at d h
 
-  found_is : at < count_in bs → lookup_l k (table_in bs) ≡ some (slot_entry bs at)
-  found_is h = lookup_at k (table_in bs) (slot_entry bs at) (present h) ∙ ap some (found_entry (slot_entry bs at) h)
+  found_is : at < count_in bs → lookup_l k (table_in bs) ≡ Some (slot_entry bs at)
+  found_is h = lookup_at k (table_in bs) (slot_entry bs at) (present h) ∙ ap Some (found_entry (slot_entry bs at) h)
 
   pub due_absent : (now : ℕ) (v : ℤ) → count_in bs ≤ at → false ≡ due_l k now v (table_in bs)
   due_absent now v h = sym (ap (λ m. due_o m now v) (lookup_none k (table_in bs) (absent h)))
@@ -154,11 +150,11 @@ module _ {bs : List ℕ} {k : Key} {at : ℕ} (found : FoundSlot bs k at) where
   pub due_is : (e : Entry) (now : ℕ) (v v' : ℤ) (b : Bool) → e ≡ slot_entry bs at → v' ≡ v → at < count_in bs → b ≡ due_e e now v' → b ≡ due_l k now v (table_in bs)
   due_is e now v v' b ee ev h eb = eb ∙ (λ i. due_e (ee i) now (ev i)) ∙ sym (ap (λ m. due_o m now v) (found_is h))
 
-  pub setting_absent : count_in bs ≤ at → setting_told SettingV.Nothing ≡ configuration_t k (holding (table_in bs))
+  pub setting_absent : count_in bs ≤ at → setting_told (Ok None) ≡ configuration_t k (holding (table_in bs))
   setting_absent h = sym (ap setting_o (lookup_none k (table_in bs) (absent h)))
 
-  pub setting_is : (e : Entry) → e ≡ slot_entry bs at → at < count_in bs → setting_told (SettingV.Given e.config) ≡ configuration_t k (holding (table_in bs))
-  setting_is e ee h = ap (λ (x : Entry). setting_told (SettingV.Given x.config)) ee ∙ sym (ap setting_o (found_is h))
+  pub setting_is : (e : Entry) → e ≡ slot_entry bs at → at < count_in bs → setting_told (Ok (Some e.config)) ≡ configuration_t k (holding (table_in bs))
+  setting_is e ee h = ap (λ (x : Entry). setting_told (Ok (Some x.config))) ee ∙ sym (ap setting_o (found_is h))
 
   -- ---- what is left
 
@@ -186,38 +182,38 @@ module _ {bs : List ℕ} {k : Key} {at : ℕ} (found : FoundSlot bs k at) where
 
     -- the answer and the entries by the tests of accepts_l and configure_l
     as_configured : (g : ReportingConfig) (a b : Bool) → ltb (find_l k (table_in bs)) (length (table_in bs)) ≡ a → ltb (length (table_in bs)) capacity ≡ b
-        → left_as (cond (a || b) ChangeV.Done ChangeV.Full) (table_bytes capacity (cond a (update_l k (replaced k g) (table_in bs)) (cond b (table_in bs ++ (fresh k g ∷ [])) (table_in bs)))) ≡ changed k g (table_in bs)
+        → left_as (Ok (a || b)) (table_bytes capacity (cond a (update_l k (replaced k g) (table_in bs)) (cond b (table_in bs ++ (fresh k g ∷ [])) (table_in bs)))) ≡ changed k g (table_in bs)
     as_configured g a b ea eb =
         sym
         (λ i.
-        left_as (cond (ea i || eb i) ChangeV.Done ChangeV.Full)
+        left_as (Ok (ea i || eb i))
         (table_bytes capacity (cond (ea i) (update_l k (replaced k g) (table_in bs)) (cond (eb i) (table_in bs ++ (fresh k g ∷ [])) (table_in bs)))))
 
-    pub configure_full : (g : ReportingConfig) → capacity ≤ at → left_as ChangeV.Full bs ≡ changed k g (table_in bs)
+    pub configure_full : (g : ReportingConfig) → capacity ≤ at → left_as (Ok false) bs ≡ changed k g (table_in bs)
     configure_full g p =
         let n = table_count bs in
         let c = known_count bs found.known in
         let f = find_le k (table_in bs) in
-        ap (left_as ChangeV.Full) kept
+        ap (left_as (Ok false)) kept
         ∙ as_configured g false false (le-ltb (find_l k (table_in bs)) (length (table_in bs)) (omega (arith, n, c, f, found.place))) (le-ltb (length (table_in bs)) capacity (omega (arith, n, c, f, found.place)))
 
     pub configure_old : (g : ReportingConfig) (after : List ℕ) (e : Entry) → e ≡ fresh k g → at < count_in bs → after ≡ sets bs (1 + slot_bytes * at) (laid widths (numbers_of e))
-        → left_as ChangeV.Done after ≡ changed k g (table_in bs)
+        → left_as (Ok true) after ≡ changed k g (table_in bs)
     configure_old g after e ee p w =
-        ap (left_as ChangeV.Done) (patched after (replaced k g) e ee p w)
+        ap (left_as (Ok true)) (patched after (replaced k g) e ee p w)
         ∙ as_configured g true (ltb (length (table_in bs)) capacity) (lt-ltb _ _ (present p)) refl
 
     pub configure_new : (g : ReportingConfig) (after : List ℕ) (e : Entry) → e ≡ fresh k g → count_in bs ≤ at → at < capacity → after ≡ sets bs (1 + slot_bytes * at) (laid widths (numbers_of e))
-        → left_as ChangeV.Done (set after 0 (count_in bs + 1)) ≡ changed k g (table_in bs)
+        → left_as (Ok true) (set after 0 (count_in bs + 1)) ≡ changed k g (table_in bs)
     configure_new g after e ee p r w =
         let n = table_count bs in
         let f = find_le k (table_in bs) in
         let i : at ≡ length (table_in bs) = omega (arith, n, f, found.place) in
         let c : count_in bs + 1 ≡ suc (length (table_in bs)) = omega (arith, n) in
         let b : List ℕ = laid widths (numbers_of (fresh k g)) in
-        ap (λ (x : List ℕ). left_as ChangeV.Done (set x 0 (count_in bs + 1))) (w ∙ (λ j. sets (kept j) (1 + slot_bytes * i j) (laid widths (numbers_of (ee j)))))
-        ∙ ap (λ (m : ℕ). left_as ChangeV.Done (set (sets (table_bytes capacity (table_in bs)) (1 + slot_bytes * length (table_in bs)) b) 0 m)) c
-        ∙ ap (left_as ChangeV.Done) (slot_added capacity (table_in bs) (fresh k g) (omega arith))
+        ap (λ (x : List ℕ). left_as (Ok true) (set x 0 (count_in bs + 1))) (w ∙ (λ j. sets (kept j) (1 + slot_bytes * i j) (laid widths (numbers_of (ee j)))))
+        ∙ ap (λ (m : ℕ). left_as (Ok true) (set (sets (table_bytes capacity (table_in bs)) (1 + slot_bytes * length (table_in bs)) b) 0 m)) c
+        ∙ ap (left_as (Ok true)) (slot_added capacity (table_in bs) (fresh k g) (omega arith))
         ∙ as_configured g false true (le-ltb _ _ (absent p)) (lt-ltb (length (table_in bs)) capacity (omega arith))
 
     pub clear_absent : count_in bs ≤ at → bs ≡ table_bytes capacity (clear_l k (table_in bs))
@@ -270,7 +266,7 @@ module _ (bs : List ℕ) (h : AllBytes bs) (t : is_table capacity bs ≡ true) w
   pub mark_seen : (k : Key) (now : ℕ) (v : ℤ) (after : List ℕ) → now < 2 ^ 32 → mag v < 2 ^ 63 → after ≡ table_bytes capacity (mark_l k now v (table_in bs)) → read_t capacity after ≡ table_read true (mark_l k now v (table_in bs))
   mark_seen k now v after n m e = let f = mark_keeps capacity k now v (table_in bs) n m fit in ap (read_t capacity) e ∙ read_written capacity (mark_l k now v (table_in bs)) f.small f.clean
 
-  pub configure_seen : (k : Key) (g : ReportingConfig) (answer : Change) (after : List ℕ) → Clean (fresh k g) → left_as answer after ≡ changed k g (table_in bs) → kept_as answer after ≡ configure_in k g (table_in bs)
+  pub configure_seen : (k : Key) (g : ReportingConfig) (answer : Bool) (after : List ℕ) → Clean (fresh k g) → left_as (Ok answer) after ≡ changed k g (table_in bs) → kept_as answer after ≡ configure_in k g (table_in bs)
   unfolding configure_in
   configure_seen k g answer after c e =
       let f = configure_keeps capacity k g (table_in bs) c fit in
@@ -286,7 +282,7 @@ seen_bytes l bs h e = let r = read_is capacity bs l e in sym (bytes_back capacit
 -- ---- the check, and then the function without it
 
 module _ (bs : List ℕ) (t : is_table capacity bs ≡ true) where
-  pub setting_known : (k : Key) (answer : Setting) → setting_told answer ≡ configuration_t k (holding (table_in bs)) → setting_told answer ≡ configuration_lent k bs
+  pub setting_known : (k : Key) (answer : Result (Option ReportingConfig) Refusal) → setting_told answer ≡ configuration_t k (holding (table_in bs)) → setting_told answer ≡ configuration_lent k bs
   unfolding configuration_lent
   setting_known k answer e = e ∙ known_so bs _ _ t
 
@@ -302,7 +298,7 @@ module _ (bs : List ℕ) (t : is_table capacity bs ≡ true) where
   unfolding clear_lent
   clear_known k after h e = ap (λ (l : List ℕ). written true l) (seen_bytes (clear_l k (table_in bs)) after h e) ∙ known_so bs _ _ t
 
-  pub configure_known : (k : Key) (g : ReportingConfig) (answer : Change) (after : List ℕ) → AllBytes after → kept_as answer after ≡ configure_in k g (table_in bs) → left_as answer after ≡ configure_lent k g bs
+  pub configure_known : (k : Key) (g : ReportingConfig) (answer : Bool) (after : List ℕ) → AllBytes after → kept_as answer after ≡ configure_in k g (table_in bs) → left_as (Ok answer) after ≡ configure_lent k g bs
   unfolding configure_lent configure_in
   configure_known k g answer after h e =
       let b = seen_bytes (configure_l capacity k g (table_in bs)) after h (ap (λ (x : ChangeKept). x.table) e) in

@@ -1,7 +1,7 @@
 -- The operations on the list of entries as reads and writes at a place. Assumes nothing.
+use Rattle.std.specs.Prelude.{None, Some}
 use mathlib.Core.Path.{◌≡◌, refl, ap}
 use mathlib.Core.Bool.{Bool, true, false, cond}
-use mathlib.Core.Option.{none, some}
 use mathlib.Core.List.{List, [], ◌∷◌}
 use Prim.Native.Nat.{ℕ, zero, suc, ◌+◌, ◌≤◌, ◌<◌, zero-le}
 use native.Mathlib.Omega.{arith}
@@ -27,21 +27,21 @@ pub find_next : (k : Key) (l : List Entry) (i : ℕ) (d : Entry) → i < length 
 find_next k l i d h m = rw (drop-cons l i d h, m)
 
 -- where there is an entry of the key, and where there is none
-pub lookup_at : (k : Key) (l : List Entry) (d : Entry) → find_l k l < length l → lookup_l k l ≡ some (get_or l (find_l k l) d)
+pub lookup_at : (k : Key) (l : List Entry) (d : Entry) → find_l k l < length l → lookup_l k l ≡ Some (get_or l (find_l k l) d)
 lookup_at k [] d h = absurd (omega arith)
 lookup_at k (e ∷ es) d h = go (matches k e) h (lookup_at k es d)
   where
-    go : (t : Bool) → cond t 0 (suc (find_l k es)) < suc (length es) → (find_l k es < length es → lookup_l k es ≡ some (get_or es (find_l k es) d))
-        → cond t (some e) (lookup_l k es) ≡ some (get_or (e ∷ es) (cond t 0 (suc (find_l k es))) d)
+    go : (t : Bool) → cond t 0 (suc (find_l k es)) < suc (length es) → (find_l k es < length es → lookup_l k es ≡ Some (get_or es (find_l k es) d))
+        → cond t (Some e) (lookup_l k es) ≡ Some (get_or (e ∷ es) (cond t 0 (suc (find_l k es))) d)
     go true h ih = refl
     go false h ih = ih (omega arith)
 
-pub lookup_none : (k : Key) (l : List Entry) → length l ≤ find_l k l → lookup_l k l ≡ none
+pub lookup_none : (k : Key) (l : List Entry) → length l ≤ find_l k l → lookup_l k l ≡ None
 lookup_none k [] h = refl
 lookup_none k (e ∷ es) h = go (matches k e) h (lookup_none k es)
   where
-    go : (t : Bool) → suc (length es) ≤ cond t 0 (suc (find_l k es)) → (length es ≤ find_l k es → lookup_l k es ≡ none)
-        → cond t (some e) (lookup_l k es) ≡ none
+    go : (t : Bool) → suc (length es) ≤ cond t 0 (suc (find_l k es)) → (length es ≤ find_l k es → lookup_l k es ≡ None)
+        → cond t (Some e) (lookup_l k es) ≡ None
     go true h ih = absurd (omega arith)
     go false h ih = ih (omega arith)
 

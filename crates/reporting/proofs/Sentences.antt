@@ -1,9 +1,10 @@
 -- Document 01's sentences about the table, each as a law of the definitions (the claims of specs/Claims/Sentences.antt). `limit` is how many
 -- entries it may have. Assumes nothing.
+use Rattle.std.specs.Prelude.{None, Ok, Some}
 use mathlib.Core.Path.{◌≡◌, refl, sym, ap, ◌∙◌}
 use mathlib.Core.Logic.{◌↔◌, inl, inr}
 use mathlib.Core.Bool.{Bool, true, false, not, cond, ◌&&◌, ◌||◌, true≢false}
-use mathlib.Core.Option.{none, some, some-ne-none}
+use Rattle.std.proofs.lemmas.Option.{none-some}
 use mathlib.Core.List.{List, [], ◌∷◌, ◌++◌}
 use Prim.Native.Nat.{ℕ, zero, suc, ◌+◌, ◌-◌, ◌≤◌, ◌<◌, zero-le}
 use native.Mathlib.Omega.{arith}
@@ -16,7 +17,6 @@ use Rattle.reporting.specs.declared.entry.Key.{Key}
 use Rattle.reporting.specs.declared.entry.ReportingConfig.{ReportingConfig}
 use Rattle.reporting.specs.declared.entry.Entry.{Entry}
 use Rattle.reporting.specs.declared.table.ReportingTable.{ReportingTable}
-use Rattle.reporting.specs.declared.table.Change.TheVariants as ChangeV
 use Rattle.reporting.specs.Entries.{matches, find_l, lookup_l, Distinct, others, update_l, fresh, replaced, accepts_l, configure_l, last_first, clear_l, mark_e}
 use Rattle.reporting.specs.Due.{moved_by, ripe, due_o}
 use Rattle.reporting.specs.Table.{capacity, holding, ChangeTold, ReportTold, change_told, zero_config, done_t, full_t, configure_t, ask_t}
@@ -32,18 +32,18 @@ use Rattle.reporting.proofs.Promise.{moved_iff}
 
 -- ---- whether a key stands
 
-missing_find : (k : Key) (l : List Entry) → lookup_l k l ≡ none → length l ≤ find_l k l
+missing_find : (k : Key) (l : List Entry) → lookup_l k l ≡ None → length l ≤ find_l k l
 missing_find k [] h = zero-le
 missing_find k (e ∷ es) h =
     let ih = missing_find k es (missing_tail k e es h) in
     rw (missing_head k e es h) (omega (arith, ih))
 
-standing_find : (k : Key) (l : List Entry) (e : Entry) → lookup_l k l ≡ some e → find_l k l < length l
+standing_find : (k : Key) (l : List Entry) (e : Entry) → lookup_l k l ≡ Some e → find_l k l < length l
 standing_find k l e h = go (ltb (find_l k l) (length l)) refl
   where
     go : (b : Bool) → ltb (find_l k l) (length l) ≡ b → find_l k l < length l
     go true t = ltb-true _ _ t
-    go false t = absurd (some-ne-none e (sym h ∙ lookup_none k l (ltb-false _ _ t)))
+    go false t = absurd (none-some e (sym (lookup_none k l (ltb-false _ _ t)) ∙ h))
 
 update_length : (k : Key) (f : Entry → Entry) (l : List Entry) → length (update_l k f l) ≡ length l
 update_length k f l = ap length (update_at k f l (fresh k zero_config)) ∙ simp length-set
@@ -101,7 +101,7 @@ configure_again limit k g l e h = (
 -- ---- "A direct configure takes any interval, failing exactly when sixteen others stand."
 
 told_is : (limit : ℕ) (k : Key) (g : ReportingConfig) (l : List Entry) (b : Bool) → accepts_l limit k l ≡ b
-    → (configure_t limit k g (holding l)).told ≡ cond b (change_told ChangeV.Done) (change_told ChangeV.Full)
+    → (configure_t limit k g (holding l)).told ≡ cond b (change_told (Ok true)) (change_told (Ok false))
 told_is limit k g l true e = rw e
 told_is limit k g l false e = rw e
 
@@ -132,7 +132,7 @@ module _ (limit : ℕ) (k : Key) (g : ReportingConfig) (l : List Entry) (within 
       let n = ltb-false (length l) limit q in
       (others_find k l).1 (ltb-false _ _ p) ∙ omega (arith, n)
 
-  full : (b : Bool) → accepts_l limit k l ≡ b → (configure_t limit k g (holding l)).told ≡ change_told ChangeV.Full → others k l ≡ limit
+  full : (b : Bool) → accepts_l limit k l ≡ b → (configure_t limit k g (holding l)).told ≡ change_told (Ok false) → others k l ≡ limit
   full true e h = absurd (true≢false (ap (λ (x : ChangeTold). x.accepted) (sym (told_is limit k g l true e) ∙ h)))
   full false e h = to_others (ltb (find_l k l) (length l)) (ltb (length l) limit) refl refl e
 
@@ -143,7 +143,7 @@ module _ (limit : ℕ) (k : Key) (g : ReportingConfig) (l : List Entry) (within 
       let q : ltb (length l) limit ≡ false = le-ltb (length l) limit (omega arith) in
       rw (p, q)
 
-  pub fails_exactly : ((configure_t limit k g (holding l)).told ≡ change_told ChangeV.Full) ↔ (others k l ≡ limit)
+  pub fails_exactly : ((configure_t limit k g (holding l)).told ≡ change_told (Ok false)) ↔ (others k l ≡ limit)
   fails_exactly = (
     full (accepts_l limit k l) refl,
     λ h. told_is limit k g l false (refused (ltb (find_l k l) (length l)) refl h),
@@ -171,11 +171,11 @@ clear_moves k l e h =
     let n = standing_find k l e h in
     ap done_t (clear_place k l (length l - 1) e n (omega arith))
 
-clear_own : (k : Key) (l : List Entry) → Distinct l → lookup_l k (clear_l k l) ≡ none
+clear_own : (k : Key) (l : List Entry) → Distinct l → lookup_l k (clear_l k l) ≡ None
 clear_own k [] d = refl
 clear_own k (e ∷ es) d = go (matches k e) refl (clear_own k es d.1)
   where
-    go : (t : Bool) → matches k e ≡ t → lookup_l k (clear_l k es) ≡ none → lookup_l k (cond t (last_first es) (e ∷ clear_l k es)) ≡ none
+    go : (t : Bool) → matches k e ≡ t → lookup_l k (clear_l k es) ≡ None → lookup_l k (cond t (last_first es) (e ∷ clear_l k es)) ≡ None
     go true m ih = hole_lookup es d.1 k ∙ ap (λ j. lookup_l j es) (sym (key_is k e m)) ∙ d.0
     go false m ih = lookup_pass k e (clear_l k es) m ∙ ih
 

@@ -1,5 +1,6 @@
 -- No second answer fits a contract: what an answer tells says which answer it is, and what the contracts see of a table leaves
 -- open only the slots past its count. Assumes nothing.
+use Rattle.std.specs.Prelude.{Err, None, Ok, Option, Result, Some, is_some}
 use mathlib.Core.Path.{◌≡◌, refl, sym, ap, ◌∙◌, subst}
 use mathlib.Core.Logic.{⊎_elim}
 use mathlib.Core.Bool.{Bool, true, false, cond, true≢false, false≢true}
@@ -12,76 +13,60 @@ use Rattle.types.specs.Number.{AllBytes}
 use Rattle.frame.proofs.Codes.{refusal_same, refusal_nonzero}
 use Rattle.reporting.specs.declared.entry.Entry.{Entry}
 use Rattle.reporting.specs.declared.table.ReportingTable.{ReportingTable}
-use Rattle.reporting.specs.declared.table.Change.{Change}
-use Rattle.reporting.specs.declared.table.Change.TheVariants as ChangeV
+use Rattle.frame.specs.declared.answer.Refusal.{Refusal}
 use Rattle.reporting.specs.declared.table.Changed.{Changed}
-use Rattle.reporting.specs.declared.table.Report.{Report}
-use Rattle.reporting.specs.declared.table.Report.TheVariants as ReportV
-use Rattle.reporting.specs.declared.table.Setting.{Setting}
-use Rattle.reporting.specs.declared.table.Setting.TheVariants as SettingV
-use Rattle.reporting.specs.declared.table.Length.{Length}
-use Rattle.reporting.specs.declared.table.Length.TheVariants as LengthV
+use Rattle.reporting.specs.declared.entry.ReportingConfig.{ReportingConfig}
 use Rattle.reporting.specs.Table.{capacity, Table, holding, bad, live, table_of, entries_of, Alike, ChangeTold, change_told, ReportTold, report_told, SettingTold, setting_told, LengthTold, length_told, HandedBack, handed_back, configure_t, clear_t, mark_t, configuration_t, ask_t, length_t}
 use Rattle.reporting.specs.Entries.{configure_l, clear_l, mark_l}
-use Rattle.reporting.specs.Carried.{table_in, table_bytes, is_table, table_read, Reading, read_t, Written, written, write_t}
+use Rattle.reporting.specs.Carried.{table_in, table_bytes, is_table, table_read, Reading, read_t, Written, written, write_t, reading}
 use Rattle.reporting.specs.Lent.{ask_lent, configuration_lent, mark_lent, clear_lent, ChangeLeft}
 use Rattle.reporting.specs.Inside.{ChangeKept, configure_in}
-use Rattle.reporting.specs.Claims.Unique.{IsTableOnce, ReadTableOnce, WriteTableOnce, ReadSlotOnce, WriteSlotOnce, DistanceOnce, DistanceByOnce, IsOnce, WishOnce, MovedByOnce, RipeOnce, FreshOnce, IsOfOnce, EntryMarkOnce, ConfigurationInOnce, ConfigureInOnce, DueInOnce, MarkInOnce, ClearInOnce, DueOnce, FindSlotOnce, AskLentOnce, ConfigurationLentOnce, MarkLentOnce, ClearLentOnce, ConfigureLentOnce, U16InOnce, U64InOnce, PutU16InOnce, PutU64InOnce, NewOnce, ConfigureOnce, ClearOnce, ReportingTableMarkOnce, ConfigurationOnce, AskOnce, LenOnce}
+use Rattle.reporting.specs.Claims.Unique.{IsTableOnce, ReadTableOnce, WriteTableOnce, ReadSlotOnce, WriteSlotOnce, DistanceOnce, DistanceByOnce, IsOnce, WishOnce, MovedByOnce, RipeOnce, FreshOnce, IsOfOnce, EntryMarkOnce, DueOnce, FindSlotOnce, TableRefDueOnce, TableRefConfigurationOnce, ReadOnce, TableMutMarkOnce, TableMutConfigureOnce, TableMutClearOnce, AskLentOnce, ConfigurationLentOnce, MarkLentOnce, ClearLentOnce, ConfigureLentOnce, U16InOnce, U64InOnce, PutU16InOnce, PutU64InOnce, NewOnce, ConfigureOnce, ClearOnce, ReportingTableMarkOnce, ConfigurationOnce, AskOnce, LenOnce}
 use Rattle.reporting.proofs.CarriageTable.{bytes_back}
 use Rattle.reporting.proofs.Lending.{seen_bytes}
 
 -- ---- answers
 
-pub change_same : (a b : Change) → change_told a ≡ change_told b → a ≡ b
+pub change_same : (a b : Result Bool Refusal) → change_told a ≡ change_told b → a ≡ b
 change_same a b p = go a b (ap (λ (x : ChangeTold). x.number) p) (ap (λ (x : ChangeTold). x.accepted) p)
   where
-    go : (a b : Change) → (change_told a).number ≡ (change_told b).number → (change_told a).accepted ≡ (change_told b).accepted → a ≡ b
-    go ChangeV.Done ChangeV.Done n v = refl
-    go ChangeV.Done ChangeV.Full n v = absurd (true≢false v)
-    go ChangeV.Done (ChangeV.Refused w) n v = absurd (true≢false v)
-    go ChangeV.Full ChangeV.Done n v = absurd (false≢true v)
-    go ChangeV.Full ChangeV.Full n v = refl
-    go ChangeV.Full (ChangeV.Refused w) n v = absurd (omega (arith, refusal_nonzero w))
-    go (ChangeV.Refused u) ChangeV.Done n v = absurd (false≢true v)
-    go (ChangeV.Refused u) ChangeV.Full n v = absurd (omega (arith, refusal_nonzero u))
-    go (ChangeV.Refused u) (ChangeV.Refused w) n v = ap ChangeV.Refused (refusal_same u w n)
+    go : (a b : Result Bool Refusal) → (change_told a).number ≡ (change_told b).number → (change_told a).accepted ≡ (change_told b).accepted → a ≡ b
+    go (Ok x) (Ok y) n v = ap Ok v
+    go (Ok x) (Err w) n v = absurd (omega (arith, refusal_nonzero w))
+    go (Err u) (Ok y) n v = absurd (omega (arith, refusal_nonzero u))
+    go (Err u) (Err w) n v = ap Err (refusal_same u w n)
 
-pub report_same : (a b : Report) → report_told a ≡ report_told b → a ≡ b
+pub report_same : (a b : Result Bool Refusal) → report_told a ≡ report_told b → a ≡ b
 report_same a b p = go a b (ap (λ (x : ReportTold). x.number) p) (ap (λ (x : ReportTold). x.due) p)
   where
-    go : (a b : Report) → (report_told a).number ≡ (report_told b).number → (report_told a).due ≡ (report_told b).due → a ≡ b
-    go ReportV.Due ReportV.Due n v = refl
-    go ReportV.Due ReportV.NotDue n v = absurd (true≢false v)
-    go ReportV.Due (ReportV.Refused w) n v = absurd (true≢false v)
-    go ReportV.NotDue ReportV.Due n v = absurd (false≢true v)
-    go ReportV.NotDue ReportV.NotDue n v = refl
-    go ReportV.NotDue (ReportV.Refused w) n v = absurd (omega (arith, refusal_nonzero w))
-    go (ReportV.Refused u) ReportV.Due n v = absurd (false≢true v)
-    go (ReportV.Refused u) ReportV.NotDue n v = absurd (omega (arith, refusal_nonzero u))
-    go (ReportV.Refused u) (ReportV.Refused w) n v = ap ReportV.Refused (refusal_same u w n)
+    go : (a b : Result Bool Refusal) → (report_told a).number ≡ (report_told b).number → (report_told a).due ≡ (report_told b).due → a ≡ b
+    go (Ok x) (Ok y) n v = ap Ok v
+    go (Ok x) (Err w) n v = absurd (omega (arith, refusal_nonzero w))
+    go (Err u) (Ok y) n v = absurd (omega (arith, refusal_nonzero u))
+    go (Err u) (Err w) n v = ap Err (refusal_same u w n)
 
-pub setting_same : (a b : Setting) → setting_told a ≡ setting_told b → a ≡ b
+pub setting_same : (a b : Result (Option ReportingConfig) Refusal) → setting_told a ≡ setting_told b → a ≡ b
 setting_same a b p = go a b p (ap (λ (x : SettingTold). x.number) p) (ap (λ (x : SettingTold). x.found) p)
   where
-    go : (a b : Setting) → setting_told a ≡ setting_told b → (setting_told a).number ≡ (setting_told b).number → (setting_told a).found ≡ (setting_told b).found → a ≡ b
-    go (SettingV.Given g) (SettingV.Given h) p n v = ap (λ (x : SettingTold). SettingV.Given x.configuration) p
-    go (SettingV.Given g) SettingV.Nothing p n v = absurd (true≢false v)
-    go (SettingV.Given g) (SettingV.Refused w) p n v = absurd (true≢false v)
-    go SettingV.Nothing (SettingV.Given h) p n v = absurd (false≢true v)
-    go SettingV.Nothing SettingV.Nothing p n v = refl
-    go SettingV.Nothing (SettingV.Refused w) p n v = absurd (omega (arith, refusal_nonzero w))
-    go (SettingV.Refused u) (SettingV.Given h) p n v = absurd (false≢true v)
-    go (SettingV.Refused u) SettingV.Nothing p n v = absurd (omega (arith, refusal_nonzero u))
-    go (SettingV.Refused u) (SettingV.Refused w) p n v = ap SettingV.Refused (refusal_same u w n)
+    go : (a b : Result (Option ReportingConfig) Refusal) → setting_told a ≡ setting_told b → (setting_told a).number ≡ (setting_told b).number → (setting_told a).found ≡ (setting_told b).found → a ≡ b
+    go (Ok (Some g)) (Ok (Some h)) p n v = ap (λ (x : SettingTold). Ok (Some x.configuration)) p
+    go (Ok (Some g)) (Ok None) p n v = absurd (true≢false v)
+    go (Ok (Some g)) (Err w) p n v = absurd (true≢false v)
+    go (Ok None) (Ok (Some h)) p n v = absurd (false≢true v)
+    go (Ok None) (Ok None) p n v = refl
+    go (Ok None) (Err w) p n v = absurd (omega (arith, refusal_nonzero w))
+    go (Err u) (Ok (Some h)) p n v = absurd (false≢true v)
+    go (Err u) (Ok None) p n v = absurd (omega (arith, refusal_nonzero u))
+    go (Err u) (Err w) p n v = ap Err (refusal_same u w n)
 
-pub length_same : (a b : Length) → length_told a ≡ length_told b → a ≡ b
+pub length_same : (a b : Result ℕ Refusal) → length_told a ≡ length_told b → a ≡ b
 length_same a b p = go a b (ap (λ (x : LengthTold). x.number) p) (ap (λ (x : LengthTold). x.length) p)
   where
-    go : (a b : Length) → (length_told a).number ≡ (length_told b).number → (length_told a).length ≡ (length_told b).length → a ≡ b
-    go (LengthV.Entries m) (LengthV.Entries n) e v = ap LengthV.Entries v
-    go (LengthV.Entries m) (LengthV.Refused w) e v = absurd (omega (arith, refusal_nonzero w))
-    go (LengthV.Refused u) (LengthV.Entries n) e v = absurd (omega (arith, refusal_nonzero u))
-    go (LengthV.Refused u) (LengthV.Refused w) e v = ap LengthV.Refused (refusal_same u w e)
+    go : (a b : Result ℕ Refusal) → (length_told a).number ≡ (length_told b).number → (length_told a).length ≡ (length_told b).length → a ≡ b
+    go (Ok m) (Ok n) e v = ap Ok v
+    go (Ok m) (Err w) e v = absurd (omega (arith, refusal_nonzero w))
+    go (Err u) (Ok n) e v = absurd (omega (arith, refusal_nonzero u))
+    go (Err u) (Err w) e v = ap Err (refusal_same u w e)
 
 -- ---- tables
 
@@ -120,13 +105,13 @@ one_result o r s p q =
     )
 
 -- two answers that meet one contract of ask, configuration or len
-pub one_report : (o : ReportTold) (r s : Report) → report_told r ≡ o → report_told s ≡ o → r ≡ s
+pub one_report : (o : ReportTold) (r s : Result Bool Refusal) → report_told r ≡ o → report_told s ≡ o → r ≡ s
 one_report o r s p q = report_same r s (p ∙ sym q)
 
-pub one_setting : (o : SettingTold) (r s : Setting) → setting_told r ≡ o → setting_told s ≡ o → r ≡ s
+pub one_setting : (o : SettingTold) (r s : Result (Option ReportingConfig) Refusal) → setting_told r ≡ o → setting_told s ≡ o → r ≡ s
 one_setting o r s p q = setting_same r s (p ∙ sym q)
 
-pub one_length : (o : LengthTold) (r s : Length) → length_told r ≡ o → length_told s ≡ o → r ≡ s
+pub one_length : (o : LengthTold) (r s : Result ℕ Refusal) → length_told r ≡ o → length_told s ≡ o → r ≡ s
 one_length o r s p q = length_same r s (p ∙ sym q)
 
 -- two answers and exit buffers that meet one contract of what is written
@@ -139,9 +124,14 @@ pub is_table_once : IsTableOnce
 is_table_once bytes r q e f = e ∙ sym f
 
 pub read_table_once : ReadTableOnce
-read_table_once bytes r q e f =
-    let p = e ∙ sym f in
-    (ap (λ (x : Reading). x.known) p, alike r.table q.table (ap (λ (x : Reading). x.table) p))
+read_table_once bytes r q e f = (
+  known r ∙ ap (λ (x : Reading). x.known) (e ∙ sym f) ∙ sym (known q),
+  λ t u a b. alike t u (ap (λ (x : Reading). x.table) (ap reading (sym a) ∙ e ∙ sym f ∙ ap reading b)),
+)
+  where
+    known : (r : Option ReportingTable) → is_some r ≡ (reading r).known
+    known (Some t) = refl
+    known None = refl
 
 pub write_table_once : WriteTableOnce
 write_table_once bytes table r q x y e f = one_written (write_t capacity table bytes) r q x y e f
@@ -186,10 +176,40 @@ entry_mark_once self now value r q e f = e ∙ sym f
 pub due_once : DueOnce
 due_once self now value r q e f = e ∙ sym f
 
--- src/lent.rt
+-- src/held.rt
 
 pub find_slot_once : FindSlotOnce
-find_slot_once bytes key r q e f = e ∙ sym f
+find_slot_once self key r q e f = e ∙ sym f
+
+pub table_ref_due_once : TableRefDueOnce
+table_ref_due_once self key time value r q e f = e ∙ sym f
+
+pub table_ref_configuration_once : TableRefConfigurationOnce
+table_ref_configuration_once self key r q e f =
+    let same : ◌≡◌ {A = Result (Option ReportingConfig) Refusal} (Ok r) (Ok q) = one_setting (configuration_t key (holding (table_in self))) (Ok r) (Ok q) e f in
+    cc
+
+pub read_once : ReadOnce
+read_once self r q e f = e ∙ sym f
+
+-- two buffers in which a reader sees the same entries
+one_seen : (l : List Entry) (x y : List ℕ) → AllBytes x → AllBytes y → read_t capacity x ≡ table_read true l → read_t capacity y ≡ table_read true l → x ≡ y
+one_seen l x y a b e f = seen_bytes l x a e ∙ sym (seen_bytes l y b f)
+
+pub table_mut_mark_once : TableMutMarkOnce
+table_mut_mark_once self key time value x y a b e f = one_seen (mark_l key time value (table_in self)) x y a b e f
+
+pub table_mut_configure_once : TableMutConfigureOnce
+unfolding configure_in
+table_mut_configure_once self key config r q x y a b e f = (
+  ap (λ (z : ChangeKept). z.told.accepted) (e ∙ sym f),
+  one_seen (configure_l capacity key config (table_in self)) x y a b (ap (λ (z : ChangeKept). z.table) e) (ap (λ (z : ChangeKept). z.table) f),
+)
+
+pub table_mut_clear_once : TableMutClearOnce
+table_mut_clear_once self key x y a b e f = one_seen (clear_l key (table_in self)) x y a b e f
+
+-- src/lent.rt
 
 pub ask_lent_once : AskLentOnce
 ask_lent_once bytes key now value r q e f = one_report (ask_lent key now value bytes) r q e f
@@ -208,32 +228,9 @@ configure_lent_once bytes key config r q x y e f =
     let p = e ∙ sym f in
     (change_same r q (ap (λ (z : ChangeLeft). z.told) p), ap (λ (z : ChangeLeft). z.bytes) p)
 
-pub configuration_in_once : ConfigurationInOnce
-configuration_in_once bytes key r q e f = one_setting (configuration_t key (holding (table_in bytes))) r q e f
-
--- two buffers in which a reader sees the same entries
-one_seen : (l : List Entry) (x y : List ℕ) → AllBytes x → AllBytes y → read_t capacity x ≡ table_read true l → read_t capacity y ≡ table_read true l → x ≡ y
-one_seen l x y a b e f = seen_bytes l x a e ∙ sym (seen_bytes l y b f)
-
 -- bytes that are one table are the same
 pub one_carried : (x y : List ℕ) → AllBytes x → AllBytes y → is_table capacity x ≡ true → is_table capacity y ≡ true → holding (table_in x) ≡ holding (table_in y) → x ≡ y
 one_carried x y a b t u e = sym (bytes_back capacity x a t) ∙ ap (λ (l : Table). table_bytes capacity (entries_of l)) e ∙ bytes_back capacity y b u
-
-pub configure_in_once : ConfigureInOnce
-unfolding configure_in
-configure_in_once bytes key config r q x y a b e f = (
-  change_same r q (ap (λ (z : ChangeKept). z.told) (e ∙ sym f)),
-  one_seen (configure_l capacity key config (table_in bytes)) x y a b (ap (λ (z : ChangeKept). z.table) e) (ap (λ (z : ChangeKept). z.table) f),
-)
-
-pub due_in_once : DueInOnce
-due_in_once bytes key time value r q e f = e ∙ sym f
-
-pub mark_in_once : MarkInOnce
-mark_in_once bytes key time value x y a b e f = one_seen (mark_l key time value (table_in bytes)) x y a b e f
-
-pub clear_in_once : ClearInOnce
-clear_in_once bytes key x y a b e f = one_seen (clear_l key (table_in bytes)) x y a b e f
 
 -- src/table.rt
 

@@ -1,4 +1,5 @@
 -- Which numbers compare otherwise without their sign (specs/Claims/Unsigned.antt). Assumes nothing.
+use Rattle.std.specs.Prelude.{None, Option, Some}
 use mathlib.Core.Path.{◌≡◌, refl, sym, ap, ◌∙◌, subst}
 use mathlib.Core.Bool.{Bool, true, false, not, cond, ◌&&◌, ◌||◌, true≢false, false≢true}
 use mathlib.Core.List.{List}
@@ -10,10 +11,6 @@ use lib.Dec.{T, ltb, leb, eqb, eqb→eq}
 use lib.IntN.{ℤ, pos, negsuc}
 use lib.Signed.{mag}
 use borrow.Author.Tests.{leb-true, leb-false, eq-eqb, lt-ltb, le-ltb, le-leb, ne_eqb}
-use Rattle.types.specs.declared.ids.Size.{Size}
-use Rattle.types.specs.declared.ids.Size.TheVariants.{Bytes, Varies}
-use Rattle.types.specs.declared.value.Number.{Number}
-use Rattle.types.specs.declared.value.Number.TheVariants.{Value, None}
 use Rattle.types.specs.Number.{AllBytes, le, unsigned_at, signed_at, signed_of, residue}
 use Rattle.types.specs.Ids.{size_of, is_analog, is_float, is_signed}
 use Rattle.types.specs.Value.{number_by, number_at}
@@ -30,19 +27,19 @@ unfolding residue
 bits_kept n h = mod-eq_of_lt h
 
 -- what a number is
-given : ℤ → Number → ℤ
-given d (Value v) = v
+given : ℤ → Option ℤ → ℤ
+given d (Some v) = v
 given d None = d
 
-given_is : (v w : ℤ) → Value w ≡ Value v → w ≡ v
+given_is : (v w : ℤ) → Some w ≡ Some v → w ≡ v
 unfolding given
 given_is v w e = ap (given v) e
 
-never_none : {A : Type 0} (v : ℤ) → None ≡ Value v → A
+never_none : {A : Type 0} (v : ℤ) → None ≡ Some v → A
 never_none v e = go (ap told e)
   where
-    told : Number → Bool
-    told (Value w) = true
+    told : Option ℤ → Bool
+    told (Some w) = true
     told None = false
 
     go : {A : Type 0} → false ≡ true → A
@@ -59,10 +56,10 @@ natural_kept : (v : ℤ) → Natural v → pos (bits_of v) ≡ v
 natural_kept v n = ap (λ (z : ℤ). pos (bits_of z)) n.is ∙ ap pos (bits_kept n.number n.below) ∙ sym n.is
 
 -- so is every number of a type without a sign, unless it has 8 bytes
-plain_natural : (x : List ℕ) (p n : ℕ) (v : ℤ) → AllBytes x → eqb n 8 ≡ false → number_by (Bytes n) false x p ≡ Value v → Natural v
+plain_natural : (x : List ℕ) (p n : ℕ) (v : ℤ) → AllBytes x → eqb n 8 ≡ false → number_by (Some n) false x p ≡ Some v → Natural v
 plain_natural x p n v h k e = go (leb n 8) (leb n 7) refl refl e
   where
-    go : (a b : Bool) → leb n 8 ≡ a → leb n 7 ≡ b → cond a (Value (cond b (pos (unsigned_at x p n)) (signed_at x p 8))) None ≡ Value v → Natural v
+    go : (a b : Bool) → leb n 8 ≡ a → leb n 7 ≡ b → cond a (Some (cond b (pos (unsigned_at x p n)) (signed_at x p 8))) None ≡ Some v → Natural v
     go true true f g e =
         let small : n ≤ 7 = leb-true n 7 g in
         let m : 2 ^ (8 * n) ≤ 2 ^ 64 = pow_mono {i = 8 * n} {j = 64} (omega arith) in
@@ -72,12 +69,12 @@ plain_natural x p n v h k e = go (leb n 8) (leb n 7) refl refl e
         absurd (true≢false (sym (eq-eqb n 8 eight) ∙ k))
     go false b f g e = never_none v e
 
-apart_as_before : (size : Size) (signed : Bool) (x y : List ℕ) (p q : ℕ) (v w : ℤ) → AllBytes x → AllBytes y → (not signed && eight_bytes size) ≡ false
-    → number_by size signed x p ≡ Value v → number_by size signed y q ≡ Value w → dist_by (not signed) v w ≡ dist v w
+apart_as_before : (size : Option ℕ) (signed : Bool) (x y : List ℕ) (p q : ℕ) (v w : ℤ) → AllBytes x → AllBytes y → (not signed && eight_bytes size) ≡ false
+    → number_by size signed x p ≡ Some v → number_by size signed y q ≡ Some w → dist_by (not signed) v w ≡ dist v w
 apart_as_before size true x y p q v w hx hy k e f = refl
-apart_as_before (Bytes n) false x y p q v w hx hy k e f =
+apart_as_before (Some n) false x y p q v w hx hy k e f =
     λ i. dist (natural_kept v (plain_natural x p n v hx k e) i) (natural_kept w (plain_natural y q n w hy k f) i)
-apart_as_before Varies false x y p q v w hx hy k e f = never_none v e
+apart_as_before None false x y p q v w hx hy k e f = never_none v e
 
 pub others_as_before : OthersAsBefore
 unfolding number_at

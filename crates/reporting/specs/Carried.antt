@@ -1,11 +1,11 @@
 -- Definitions. The reporting table as lent bytes: a count, then slots of numbers, each number in its width, the low byte first; zeros to the end.
 -- Over the limit and the widths.
-use Rattle.std.specs.Prelude.{ℕ, zero, suc, ◌+◌, ◌*◌, ◌^◌, Bool, true, false, cond, ◌&&◌, ◌||◌, List, [], ◌∷◌, ◌++◌, map, length, get_or, take, drop, leb, eqb}
+use Rattle.std.specs.Prelude.{None, ℕ, zero, suc, ◌+◌, ◌*◌, ◌^◌, Bool, true, false, cond, ◌&&◌, ◌||◌, List, [], ◌∷◌, ◌++◌, map, length, get_or, take, drop, leb, eqb, Option, Some}
 use Rattle.types.specs.Number.{all_zero, le, bytes_of, signed_of, residue}
 use Rattle.frame.specs.Reply.{padded}
 use Rattle.reporting.specs.declared.entry.Entry.{Entry}
 use Rattle.reporting.specs.declared.table.ReportingTable.{ReportingTable}
-use Rattle.reporting.specs.declared.carried.ReadTable.{ReadTable}
+use Rattle.reporting.specs.declared.table.ReportingTable.{ReportingTable}
 use Rattle.reporting.specs.Entries.{fresh}
 use Rattle.reporting.specs.Table.{capacity, Table, holding, live, table_of}
 
@@ -126,11 +126,12 @@ pub record Reading : Type 0 where
   pub known : Bool
   pub table : Table
 
-abbrev pub reading : ReadTable → Reading
-reading r = record { known = r.known; table = table_of r.table }
-
 abbrev pub table_read : Bool → List Entry → Reading
 table_read known l = record { known = known; table = holding l }
+
+abbrev pub reading : Option ReportingTable → Reading
+reading (Some t) = record { known = true; table = table_of t }
+reading None = table_read false []
 
 -- the table that the bytes are; where they are none, the empty one
 unfoldable pub read_t : ℕ → List ℕ → Reading

@@ -4,8 +4,7 @@
 -- the first ask is a yes; every ask M seconds or more after the last yes is a yes; consecutive yeses are at least m and at most M+G-1 seconds apart;
 -- from m to M-1 seconds after the last yes, yes comes exactly when the value has since moved by a nonzero amount not under the configured change."
 -- All that is supposed is said of the events. The claims stand at the end of this file.
-use Rattle.std.specs.Prelude.{◌≡◌, ◌↔◌, ◌⊎◌, Bool, true, false, cond, List, [], ◌∷◌, ◌++◌, ℕ, ◌+◌, ◌-◌, ◌≤◌, ◌<◌, ℤ}
-use Rattle.std.proofs.Math.Option.{some}
+use Rattle.std.specs.Prelude.{◌≡◌, ◌↔◌, ◌⊎◌, Bool, true, false, cond, List, [], ◌∷◌, ◌++◌, ℕ, ◌+◌, ◌-◌, ◌≤◌, ◌<◌, ℤ, Some}
 use Rattle.frame.specs.declared.status.Status.TheVariants.{Success}
 use Rattle.reporting.specs.declared.entry.Key.{Key}
 use Rattle.reporting.specs.declared.entry.ReportingConfig.{ReportingConfig}
@@ -133,7 +132,7 @@ abbrev pub Demand3Standing : Type 0
 Demand3Standing =
     (limit : ℕ) (start : List Entry) (k : Key) (g : ReportingConfig) (G : ℕ) (later : List Event)
     → Distinct start
-    → lookup_l k start ≡ some (fresh k g)
+    → lookup_l k start ≡ Some (fresh k g)
     → Honest limit later start
     → AcceptedRecord g
     → Supposed k G later

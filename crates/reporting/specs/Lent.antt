@@ -1,15 +1,12 @@
 -- Definitions. The table's operations on the bytes that carry it: what each says, and the bytes afterwards. Bytes that are no table are refused, and
 -- stay as they are.
-use Rattle.std.specs.Prelude.{Bool, true, false, cond, List, map, ℕ, ℤ}
+use Rattle.std.specs.Prelude.{Bool, true, false, cond, List, map, ℕ, ℤ, Err, Ok, Result}
 use Rattle.frame.specs.Answer.{refusal_number}
 use Rattle.frame.specs.declared.answer.Refusal.TheVariants.{NotATable}
 use Rattle.reporting.specs.declared.entry.Key.{Key}
 use Rattle.reporting.specs.declared.entry.ReportingConfig.{ReportingConfig}
 use Rattle.reporting.specs.declared.entry.Entry.{Entry}
-use Rattle.reporting.specs.declared.table.Change.{Change}
-use Rattle.reporting.specs.declared.table.Change.TheVariants as ChangeV
-use Rattle.reporting.specs.declared.table.Report.TheVariants as ReportV
-use Rattle.reporting.specs.declared.table.Setting.TheVariants as SettingV
+use Rattle.frame.specs.declared.answer.Refusal.{Refusal}
 use Rattle.reporting.specs.Entries.{accepts_l, configure_l, clear_l, mark_l}
 use Rattle.reporting.specs.Table.{capacity, Table, holding, bad, ChangeTold, change_told, ReportTold, report_told, ask_t, SettingTold, setting_told, configuration_t}
 use Rattle.reporting.specs.Carried.{quieted, table_in, is_table, table_bytes, Written, written}
@@ -19,10 +16,10 @@ unfoldable pub on_lent : {R : Type 0} → List ℕ → R → (List Entry → R) 
 on_lent bs refusal rest = cond (is_table capacity bs) (rest (table_in bs)) refusal
 
 unfoldable pub ask_lent : Key → ℕ → ℤ → List ℕ → ReportTold
-ask_lent k now v bs = on_lent bs (report_told (ReportV.Refused NotATable)) (λ l. ask_t k now v (holding l))
+ask_lent k now v bs = on_lent bs (report_told (Err NotATable)) (λ l. ask_t k now v (holding l))
 
 unfoldable pub configuration_lent : Key → List ℕ → SettingTold
-configuration_lent k bs = on_lent bs (setting_told (SettingV.Refused NotATable)) (λ l. configuration_t k (holding l))
+configuration_lent k bs = on_lent bs (setting_told (Err NotATable)) (λ l. configuration_t k (holding l))
 
 -- the number that a Boolean tells: whether the bytes were a table
 abbrev pub table_number : Bool → ℕ
@@ -40,13 +37,13 @@ pub record ChangeLeft : Type 0 where
   pub told : ChangeTold
   pub bytes : List ℕ
 
-abbrev pub left_as : Change → List ℕ → ChangeLeft
+abbrev pub left_as : Result Bool Refusal → List ℕ → ChangeLeft
 left_as answer bytes = record { told = change_told answer; bytes = bytes }
 
 unfoldable pub configure_lent : Key → ReportingConfig → List ℕ → ChangeLeft
 configure_lent k g bs =
-    on_lent bs (left_as (ChangeV.Refused NotATable) bs)
-    (λ l. left_as (cond (accepts_l capacity k l) ChangeV.Done ChangeV.Full) (table_bytes capacity (configure_l capacity k g l)))
+    on_lent bs (left_as (Err NotATable) bs)
+    (λ l. left_as (Ok (accepts_l capacity k l)) (table_bytes capacity (configure_l capacity k g l)))
 
 -- the bytes of a table where it is one; else they stay
 abbrev pub bytes_after : List ℕ → Table → List ℕ

@@ -1,22 +1,14 @@
 -- Definitions. The table as a value of slots and a count, what its operations say, and what they leave (document 01, "The reporting table
 -- ..", and number 8 of "What a call says back"; document 02, request 7).
-use Rattle.std.specs.Prelude.{◌≡◌, ◌⊎◌, Bool, true, false, cond, List, [], ℕ, ◌<◌, length, take, ltb, ℤ}
-use Rattle.std.proofs.Math.Option.{Option, none, some}
+use Rattle.std.specs.Prelude.{◌≡◌, ◌⊎◌, Bool, true, false, cond, List, [], ℕ, ◌<◌, length, take, ltb, ℤ, Err, None, Ok, Option, Result, Some}
 use Rattle.frame.specs.Answer.{refusal_number}
 use Rattle.frame.specs.declared.answer.Refusal.TheVariants.{NotATable}
 use Rattle.reporting.specs.declared.entry.Key.{Key}
 use Rattle.reporting.specs.declared.entry.ReportingConfig.{ReportingConfig}
 use Rattle.reporting.specs.declared.entry.Entry.{Entry}
 use Rattle.reporting.specs.declared.table.ReportingTable.{ReportingTable}
-use Rattle.reporting.specs.declared.table.Change.{Change}
-use Rattle.reporting.specs.declared.table.Change.TheVariants as ChangeV
+use Rattle.frame.specs.declared.answer.Refusal.{Refusal}
 use Rattle.reporting.specs.declared.table.Changed.{Changed}
-use Rattle.reporting.specs.declared.table.Report.{Report}
-use Rattle.reporting.specs.declared.table.Report.TheVariants as ReportV
-use Rattle.reporting.specs.declared.table.Setting.{Setting}
-use Rattle.reporting.specs.declared.table.Setting.TheVariants as SettingV
-use Rattle.reporting.specs.declared.table.Length.{Length}
-use Rattle.reporting.specs.declared.table.Length.TheVariants as LengthV
 use Rattle.reporting.specs.Entries.{lookup_l, accepts_l, configure_l, clear_l, mark_l}
 use Rattle.reporting.specs.Due.{due_l}
 
@@ -55,19 +47,17 @@ pub record ChangeTold : Type 0 where
   pub number : ℕ
   pub accepted : Bool
 
-abbrev pub change_told : Change → ChangeTold
-change_told ChangeV.Done = record { number = 0; accepted = true }
-change_told ChangeV.Full = record { number = 0; accepted = false }
-change_told (ChangeV.Refused why) = record { number = refusal_number why; accepted = false }
+abbrev pub change_told : Result Bool Refusal → ChangeTold
+change_told (Ok accepted) = record { number = 0; accepted = accepted }
+change_told (Err why) = record { number = refusal_number why; accepted = false }
 
 pub record ReportTold : Type 0 where
   pub number : ℕ
   pub due : Bool
 
-abbrev pub report_told : Report → ReportTold
-report_told ReportV.Due = record { number = 0; due = true }
-report_told ReportV.NotDue = record { number = 0; due = false }
-report_told (ReportV.Refused why) = record { number = refusal_number why; due = false }
+abbrev pub report_told : Result Bool Refusal → ReportTold
+report_told (Ok due) = record { number = 0; due = due }
+report_told (Err why) = record { number = refusal_number why; due = false }
 
 -- where there is no configuration its three numbers are 0
 pub record SettingTold : Type 0 where
@@ -78,18 +68,18 @@ pub record SettingTold : Type 0 where
 abbrev pub zero_config : ReportingConfig
 zero_config = record { min_interval = 0; max_interval = 0; reportable_change = 0; unsigned = false }
 
-abbrev pub setting_told : Setting → SettingTold
-setting_told (SettingV.Given g) = record { number = 0; found = true; configuration = g }
-setting_told SettingV.Nothing = record { number = 0; found = false; configuration = zero_config }
-setting_told (SettingV.Refused why) = record { number = refusal_number why; found = false; configuration = zero_config }
+abbrev pub setting_told : Result (Option ReportingConfig) Refusal → SettingTold
+setting_told (Ok (Some g)) = record { number = 0; found = true; configuration = g }
+setting_told (Ok None) = record { number = 0; found = false; configuration = zero_config }
+setting_told (Err why) = record { number = refusal_number why; found = false; configuration = zero_config }
 
 pub record LengthTold : Type 0 where
   pub number : ℕ
   pub length : ℕ
 
-abbrev pub length_told : Length → LengthTold
-length_told (LengthV.Entries n) = record { number = 0; length = n }
-length_told (LengthV.Refused why) = record { number = refusal_number why; length = 0 }
+abbrev pub length_told : Result ℕ Refusal → LengthTold
+length_told (Ok n) = record { number = 0; length = n }
+length_told (Err why) = record { number = refusal_number why; length = 0 }
 
 -- ---- the operations that may change the table
 
@@ -102,14 +92,14 @@ abbrev pub handed_back : Changed → HandedBack
 handed_back r = record { told = change_told r.answer; table = table_of r.table }
 
 abbrev pub done_t : List Entry → HandedBack
-done_t l = record { told = change_told ChangeV.Done; table = holding l }
+done_t l = record { told = change_told (Ok true); table = holding l }
 
 abbrev pub full_t : List Entry → HandedBack
-full_t l = record { told = change_told ChangeV.Full; table = holding l }
+full_t l = record { told = change_told (Ok false); table = holding l }
 
 -- a count above the room: refused with number 8, and handed back as it came, every slot and the count
 abbrev pub refused_t : ReportingTable → HandedBack
-refused_t t = record { told = change_told (ChangeV.Refused NotATable); table = bad t }
+refused_t t = record { told = change_told (Err NotATable); table = bad t }
 
 abbrev pub configure_t : ℕ → Key → ReportingConfig → Table → HandedBack
 configure_t limit k g (holding l) = cond (accepts_l limit k l) (done_t (configure_l limit k g l)) (full_t l)
@@ -127,16 +117,16 @@ mark_t k now v (bad t) = refused_t t
 
 abbrev pub ask_t : Key → ℕ → ℤ → Table → ReportTold
 ask_t k now v (holding l) = record { number = 0; due = due_l k now v l }
-ask_t k now v (bad t) = report_told (ReportV.Refused NotATable)
+ask_t k now v (bad t) = report_told (Err NotATable)
 
 abbrev pub setting_o : Option Entry → SettingTold
-setting_o none = setting_told SettingV.Nothing
-setting_o (some e) = setting_told (SettingV.Given e.config)
+setting_o None = setting_told (Ok None)
+setting_o (Some e) = setting_told (Ok (Some e.config))
 
 abbrev pub configuration_t : Key → Table → SettingTold
 configuration_t k (holding l) = setting_o (lookup_l k l)
-configuration_t k (bad t) = setting_told (SettingV.Refused NotATable)
+configuration_t k (bad t) = setting_told (Err NotATable)
 
 abbrev pub length_t : Table → LengthTold
-length_t (holding l) = length_told (LengthV.Entries (length l))
-length_t (bad t) = length_told (LengthV.Refused NotATable)
+length_t (holding l) = length_told (Ok (length l))
+length_t (bad t) = length_told (Err NotATable)

@@ -1,7 +1,6 @@
 // The reporting table as bytes that a caller lends: docs/TABLE.md has the layout. Bytes in any other form are no table.
-ghost use Rattle.std.specs.Prelude.{◌≡◌, [], map, true, false, ◌+◌, ◌≤◌, length, take, drop};
+ghost use Rattle.std.specs.Prelude.{◌≡◌, Some, map, true, false, ◌+◌, ◌≤◌, length, take, drop};
 ghost use Rattle.std.proofs.lemmas.List.Edits.{sets};
-ghost use Rattle.types.specs.Number.{all_zero};
 ghost use Rattle.reporting.specs.Table.{capacity};
 ghost use Rattle.reporting.specs.Carried.{widths, laid, numbers_in, rows_in, if_marked, numbers_of, entry_of, quieted, is_slot, are_slots, is_table, reading, table_read, read_t, written, write_t, slot_bytes, table_length};
 ghost use Rattle.reporting.specs.Claims.RoundTrip.{Clean};
@@ -20,31 +19,11 @@ pub const SLOT: usize = 30;
 // The count's byte, and the slots.
 pub const TABLE_BYTES: usize = 1 + LIMIT * SLOT;
 
-// Whether the bytes were a table; where they were none, the table is the empty one.
-#[derive(Clone, Copy)]
-pub struct ReadTable {
-    pub table: ReportingTable,
-    pub known: bool,
-}
-
 // What is written of an entry's last report, or of its mark: 0 where there is none.
 fn told_if(told: bool, n: u64) -> u64
     ensures { result ≡ if_marked told n }
 {
-    if told {
-        return n;
-    }
-    0
-}
-
-// Whether all bytes from `from` on are 0.
-fn zero_from(bytes: &[u8], from: usize) -> bool
-    ensures { result ≡ all_zero (drop from bytes.now) }
-{
-    if bytes.len() <= from {
-        return true;
-    }
-    all_zero(&bytes[from..])
+    if told { n } else { 0 }
 }
 
 // Whether the slot at `at` is in its one form. Time and value are asked for as numbers, two loads and no loop.
@@ -72,14 +51,7 @@ fn slots_in_form(bytes: &[u8], count: usize) -> bool
     requires { (count ≤ capacity) × (table_length ≤ length bytes.now) }
     ensures { result ≡ are_slots (rows_in widths count (drop 1 bytes.now)) }
 {
-    let mut i = 0;
-    while i < count {
-        if !slot_in_form(bytes, 1 + SLOT * i) {
-            return false;
-        }
-        i += 1;
-    }
-    true
+    (0..count).all(|i| slot_in_form(bytes, 1 + SLOT * i))
 }
 
 // Whether the bytes are a table.
@@ -93,10 +65,7 @@ pub fn is_table(bytes: &[u8]) -> bool
     if LIMIT < count {
         return false;
     }
-    if !zero_from(bytes, 1 + SLOT * count) {
-        return false;
-    }
-    slots_in_form(bytes, count)
+    all_zero(&bytes[1 + SLOT * count..]) && slots_in_form(bytes, count)
 }
 
 // The entry of the slot at `at`. Public for crate `saved` alone, no entry point: the slot must be there.
@@ -153,40 +122,28 @@ pub fn write_slot(bytes: &mut [u8], at: usize, e: Entry)
     put_u64_in(bytes, at + 22, told_if(e.marked, bits_u64(last_value)));
 }
 
-// What is handed back for bytes that are no table.
-fn unknown() -> ReadTable
-    ensures { reading result ≡ table_read false [] }
-{
-    ReadTable {
-        known: false,
-        table: ReportingTable::new(),
-    }
-}
-
 // The table of the first `count` slots.
-fn read_slots(bytes: &[u8], count: usize) -> ReadTable
+fn read_slots(bytes: &[u8], count: usize) -> ReportingTable
     requires { (count ≤ capacity) × (table_length ≤ length bytes.now) }
-    ensures { reading result ≡ table_read true (map entry_of (rows_in widths count (drop 1 bytes.now))) }
+    ensures { reading (Some result) ≡ table_read true (map entry_of (rows_in widths count (drop 1 bytes.now))) }
 {
     let mut table = ReportingTable::new();
-    let mut i = 0;
-    while i < count {
+    for i in 0..count {
         table.entries[i] = read_slot(bytes, 1 + SLOT * i);
-        i += 1;
     }
     table.count = count;
-    ReadTable { known: true, table }
+    table
 }
 
-// The table that the bytes are.
-pub fn read_table(bytes: &[u8]) -> ReadTable
+// The table that the bytes are, if they are one.
+pub fn read_table(bytes: &[u8]) -> Option<ReportingTable>
     ensures { reading result ≡ read_t capacity bytes.now }
 {
     if !is_table(bytes) {
-        return unknown();
+        return None;
     }
     let count = bytes[0] as usize;
-    read_slots(bytes, count)
+    Some(read_slots(bytes, count))
 }
 
 // Writes the table, if it is one and the bytes have its size, and says whether; otherwise the bytes are as they were. What was written reads as
@@ -204,11 +161,8 @@ pub fn write_table(bytes: &mut [u8], table: ReportingTable) -> bool
     }
     clear(bytes);
     bytes[0] = count as u8;
-    let mut i = 0;
-    while i < count {
-        let e = table.entries[i];
-        write_slot(bytes, 1 + SLOT * i, e);
-        i += 1;
+    for i in 0..count {
+        write_slot(bytes, 1 + SLOT * i, table.entries[i]);
     }
     true
 }

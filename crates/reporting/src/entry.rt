@@ -1,5 +1,5 @@
 // One attribute's entry: what was configured, and its last report.
-ghost use Rattle.std.specs.Prelude.{◌≡◌, ◌-◌};
+ghost use Rattle.std.specs.Prelude.{◌≡◌};
 ghost use Rattle.reporting.specs.Entries.{same, matches, fresh, mark_e};
 ghost use Rattle.reporting.specs.Due.{moved_by, ripe, due_e};
 ghost use Rattle.reporting.specs.Wish.{wish};
@@ -14,7 +14,7 @@ pub const MAX_INTERVAL_DISABLED: u16 = 0xffff;
 pub const MIN_INTERVAL_DEFAULT: u16 = 0xffff;
 
 // What an entry is found by. A cluster and an attribute cannot be exchanged.
-#[derive(Clone, Copy)]
+#[derive(Clone, Copy, PartialEq, Eq)]
 pub struct Key {
     pub cluster: ClusterId,
     pub attribute: AttributeId,
@@ -52,15 +52,8 @@ impl Key {
     pub fn is(self, other: Key) -> bool
         ensures { result ≡ same self other }
     {
-        self.cluster.0 == other.cluster.0 && self.attribute.0 == other.attribute.0
+        self == other
     }
-}
-
-// The time from then to now, 0 where the clock went back.
-fn elapsed(then: u32, now: u32) -> u32
-    ensures { result ≡ now - then }
-{
-    if then < now { now - then } else { 0 }
 }
 
 impl ReportingConfig {
@@ -96,19 +89,11 @@ impl ReportingConfig {
     pub fn ripe(self, since: u32, moved: u64) -> bool
         ensures { result ≡ ripe self since moved }
     {
-        let max = self.max_interval as u32;
         if since < self.min_interval as u32 {
             return false;
         }
-        if max != 0 {
-            if max <= since {
-                return true;
-            }
-        }
-        if moved == 0 {
-            return false;
-        }
-        self.reportable_change <= moved
+        let max = self.max_interval as u32;
+        (max != 0 && max <= since) || (moved != 0 && self.reportable_change <= moved)
     }
 }
 
@@ -129,8 +114,7 @@ impl Entry {
     pub fn is_of(self, key: Key) -> bool
         ensures { result ≡ matches key self }
     {
-        let own = self.key;
-        own.is(key)
+        self.key.is(key)
     }
 
     // The entry after a report.
@@ -143,7 +127,7 @@ impl Entry {
         self
     }
 
-    // Whether a report of `value` is due at `now`.
+    // Whether a report of `value` is due at `now`. No time has passed where the clock went back.
     pub fn due(self, now: u32, value: i64) -> bool
         ensures { result ≡ due_e self now value }
     {
@@ -151,12 +135,11 @@ impl Entry {
         if config.max_interval == MAX_INTERVAL_DISABLED {
             return false;
         }
-        if self.marked {
-            let since = elapsed(self.last_time, now);
-            let last = self.last_value;
-            let moved = config.moved_by(last, value);
-            return config.ripe(since, moved);
+        if !self.marked {
+            return true;
         }
-        true
+        let since = now.saturating_sub(self.last_time);
+        let moved = config.moved_by(self.last_value, value);
+        config.ripe(since, moved)
     }
 }

@@ -5,6 +5,7 @@
 pub mod carried;
 pub mod distance;
 pub mod entry;
+pub mod held;
 pub mod lent;
 pub mod numbers;
 pub mod table;

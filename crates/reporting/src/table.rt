@@ -16,43 +16,13 @@ pub struct ReportingTable {
     pub count: usize,
 }
 
-// What an operation that may change the table says: done; no room for one more entry; or that this is no table.
-#[derive(Clone, Copy)]
-pub enum Change {
-    Done,
-    Full,
-    Refused(Refusal),
-}
-
-// What such an operation hands back. A table that is none comes back as it was, all of it. It stands first, as wherever a table is handed on:
+// What an operation that may change the table hands back: the table, and whether there was room, or that it is no table. One that is none comes back
+// as it was, all of it. It stands first, as wherever a table is handed on:
 // nothing lies before it then, and its copies are aligned.
 #[derive(Clone, Copy)]
 pub struct Changed {
     pub table: ReportingTable,
-    pub answer: Change,
-}
-
-// The answer to an ask.
-#[derive(Clone, Copy)]
-pub enum Report {
-    Due,
-    NotDue,
-    Refused(Refusal),
-}
-
-// The key's configuration, if it has an entry.
-#[derive(Clone, Copy)]
-pub enum Setting {
-    Given(ReportingConfig),
-    Nothing,
-    Refused(Refusal),
-}
-
-// How many entries stand.
-#[derive(Clone, Copy)]
-pub enum Length {
-    Entries(usize),
-    Refused(Refusal),
+    pub answer: Result<bool, Refusal>,
 }
 
 impl ReportingTable {
@@ -85,6 +55,7 @@ impl ReportingTable {
     {
         let n = self.count;
         let mut i: usize = 0;
+        // A loop that gives the place by `break`: document 01 asks for this form here, by name.
         loop {
             if n <= i {
                 break n;
@@ -104,14 +75,14 @@ impl ReportingTable {
         let n = self.count;
         if LIMIT < n {
             return Changed {
-                answer: Change::Refused(Refusal::NotATable),
+                answer: Err(Refusal::NotATable),
                 table: self,
             };
         }
         let at = self.find(key);
         if LIMIT <= at {
             return Changed {
-                answer: Change::Full,
+                answer: Ok(false),
                 table: self,
             };
         }
@@ -121,7 +92,7 @@ impl ReportingTable {
             self.count = n + 1;
         }
         Changed {
-            answer: Change::Done,
+            answer: Ok(true),
             table: self,
         }
     }
@@ -133,14 +104,14 @@ impl ReportingTable {
         let n = self.count;
         if LIMIT < n {
             return Changed {
-                answer: Change::Refused(Refusal::NotATable),
+                answer: Err(Refusal::NotATable),
                 table: self,
             };
         }
         let at = self.find(key);
         if n <= at {
             return Changed {
-                answer: Change::Done,
+                answer: Ok(true),
                 table: self,
             };
         }
@@ -149,7 +120,7 @@ impl ReportingTable {
         self.entries[at] = e;
         self.count = last;
         Changed {
-            answer: Change::Done,
+            answer: Ok(true),
             table: self,
         }
     }
@@ -161,69 +132,60 @@ impl ReportingTable {
         let n = self.count;
         if LIMIT < n {
             return Changed {
-                answer: Change::Refused(Refusal::NotATable),
+                answer: Err(Refusal::NotATable),
                 table: self,
             };
         }
         let at = self.find(key);
         if n <= at {
             return Changed {
-                answer: Change::Done,
+                answer: Ok(true),
                 table: self,
             };
         }
         let e = self.entries[at];
         self.entries[at] = e.mark(now, value);
         Changed {
-            answer: Change::Done,
+            answer: Ok(true),
             table: self,
         }
     }
 
-    // The key's configuration.
-    pub fn configuration(self, key: Key) -> Setting
+    // The key's configuration, if it has an entry.
+    pub fn configuration(self, key: Key) -> Result<Option<ReportingConfig>, Refusal>
         ensures { setting_told result ≡ configuration_t key (table_of self) }
     {
-        let n = self.count;
-        if LIMIT < n {
-            return Setting::Refused(Refusal::NotATable);
-        }
+        let n = self.len()?;
         let at = self.find(key);
         if n <= at {
-            return Setting::Nothing;
+            return Ok(None);
         }
         let e = self.entries[at];
         let config = e.config;
-        Setting::Given(config)
+        Ok(Some(config))
     }
 
     // Whether a report of `value` is due at `now` (`should_report` in the Rust).
-    pub fn ask(self, key: Key, now: u32, value: i64) -> Report
+    pub fn ask(self, key: Key, now: u32, value: i64) -> Result<bool, Refusal>
         ensures { report_told result ≡ ask_t key now value (table_of self) }
     {
-        let n = self.count;
-        if LIMIT < n {
-            return Report::Refused(Refusal::NotATable);
-        }
+        let count = self.len()?;
         let at = self.find(key);
-        if n <= at {
-            return Report::NotDue;
+        if count <= at {
+            return Ok(false);
         }
         let e = self.entries[at];
-        if e.due(now, value) {
-            return Report::Due;
-        }
-        Report::NotDue
+        Ok(e.due(now, value))
     }
 
     // The number of entries.
-    pub fn len(self) -> Length
+    pub fn len(self) -> Result<usize, Refusal>
         ensures { length_told result ≡ length_t (table_of self) }
     {
         let n = self.count;
         if LIMIT < n {
-            return Length::Refused(Refusal::NotATable);
+            return Err(Refusal::NotATable);
         }
-        Length::Entries(n)
+        Ok(n)
     }
 }

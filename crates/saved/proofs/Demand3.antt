@@ -1,8 +1,9 @@
 -- Demand 3 from a table just read in (specs/Claims/Demand3.antt): a saved form has distinct keys, configurations that a record sets, and no last reports. Assumes nothing.
+use Rattle.std.specs.Prelude.{Some}
 use Prim.Native.Nat.{ℕ, ◌≤◌}
 use mathlib.Core.Path.{◌≡◌, refl, sym, ap, ◌∙◌}
 use mathlib.Core.Bool.{Bool, true, false, cond, ◌&&◌, false≢true}
-use mathlib.Core.Option.{some, some-injective, some-ne-none}
+use Rattle.std.proofs.lemmas.Option.{same_Some, none-some}
 use mathlib.Core.List.{List, [], ◌∷◌, map}
 use native.Mathlib.Omega.{arith}
 use lib.ListN.{length}
@@ -77,13 +78,13 @@ to_set ToRefuse h = absurd (false≢true h)
 to_set ToSet h = refl
 
 -- the configuration that a key has is one that a record sets
-set_at : (k : Key) (l : List Entry) (e : Entry) → all_set l ≡ true → lookup_l k l ≡ some e → wish e.config ≡ ToSet
+set_at : (k : Key) (l : List Entry) (e : Entry) → all_set l ≡ true → lookup_l k l ≡ Some e → wish e.config ≡ ToSet
 unfolding all_set
-set_at k [] e s h = absurd (some-ne-none e (sym h))
+set_at k [] e s h = absurd (none-some e h)
 set_at k (x ∷ l) e s h = go (matches k x) h (set_at k l e (both (is_set (wish x.config)) (all_set l) s).1)
   where
-    go : (b : Bool) → cond b (some x) (lookup_l k l) ≡ some e → (lookup_l k l ≡ some e → wish e.config ≡ ToSet) → wish e.config ≡ ToSet
-    go true h rec = ap (λ (y : Entry). wish y.config) (sym (some-injective x e h)) ∙ to_set (wish x.config) (both (is_set (wish x.config)) (all_set l) s).0
+    go : (b : Bool) → cond b (Some x) (lookup_l k l) ≡ Some e → (lookup_l k l ≡ Some e → wish e.config ≡ ToSet) → wish e.config ≡ ToSet
+    go true h rec = ap (λ (y : Entry). wish y.config) (sym (same_Some x e h)) ∙ to_set (wish x.config) (both (is_set (wish x.config)) (all_set l) s).0
     go false h rec = rec h
 
 pub demand_3_restored : Demand3Restored

@@ -4,7 +4,7 @@ use mathlib.Core.Path.{◌≡◌, refl, ap, sym, subst, ◌∙◌}
 use mathlib.Core.Bool.{Bool, true, false, ◌&&◌}
 use mathlib.Core.List.{List, [], ◌∷◌, ◌++◌}
 use native.Mathlib.Omega.{arith}
-use native.Mathlib.Nat.{sub-zero, zero-mul, suc-mul}
+use native.Mathlib.Nat.{zero-mul, suc-mul}
 use native.Mathlib.Numerals.{add-one}
 use lib.ListN.{length, get_or, take, drop, set}
 use lib.Seq.{sets, drop-drop, take_all, length-take-le}
@@ -28,20 +28,20 @@ use Rattle.saved.proofs.Entries.{here}
 abbrev rows_from : List ℕ → ℕ → ℕ → List (List ℕ)
 rows_from bs n i = rows_in (row_of marked) (n - i) (drop (1 + 6 * i) bs)
 
+abbrev pub follows : Bool → List ℕ → ℕ → Bool
+follows m bs n = follow_on (form_of m) n 0 (rows_in (row_of marked) n (drop 1 bs))
+
 -- the offsets of the first i rows follow on, so that the others decide
 abbrev pub FollowSoFar : Bool → List ℕ → ℕ → ℕ → Type 0
-FollowSoFar m bs n i = follow_on (form_of m) n i (rows_from bs n i) ≡ follow_on (form_of m) n 0 (rows_in (row_of marked) n (drop 1 bs))
-
-pub follow_start : (m : Bool) (bs : List ℕ) (n : ℕ) → FollowSoFar m bs n 0
-follow_start m bs n = ap (λ (k : ℕ). follow_on (form_of m) n 0 (rows_in (row_of marked) k (drop 1 bs))) (sub-zero n)
+FollowSoFar m bs n i = follow_on (form_of m) n i (rows_from bs n i) ≡ follows m bs n
 
 module _ (m : Bool) (bs : List ℕ) (n i : ℕ) (s : FollowSoFar m bs n i) where
-  pub follow_done : n ≤ i → true ≡ follow_on (form_of m) n 0 (rows_in (row_of marked) n (drop 1 bs))
+  pub follow_done : n ≤ i → true ≡ follows m bs n
   unfolding follow_on
   follow_done h = sym (ap (follow_on (form_of m) n i) (rows_end (row_of marked) bs n i (1 + 6 * i) h)) ∙ s
 
   module _ (h : i < n) (o : ℕ) (is : o ≡ get_or (numbers_in (row_of marked) (drop (1 + 6 * i) bs)) 2 0) where
-    next : (b : Bool) → eqb o (offset_at (form_of m) n i) ≡ b → (b && follow_on (form_of m) n (i + 1) (rows_from bs n (i + 1))) ≡ follow_on (form_of m) n 0 (rows_in (row_of marked) n (drop 1 bs))
+    next : (b : Bool) → eqb o (offset_at (form_of m) n i) ≡ b → (b && follow_on (form_of m) n (i + 1) (rows_from bs n (i + 1))) ≡ follows m bs n
     unfolding follow_on
     next b e =
         (λ j. sym (ap (λ (k : ℕ). eqb k (offset_at (form_of m) n i)) (sym is) ∙ e) j && follow_on (form_of m) n (add-one i j) (rows_from bs n (i + 1)))
@@ -51,7 +51,7 @@ module _ (m : Bool) (bs : List ℕ) (n i : ℕ) (s : FollowSoFar m bs n i) where
     pub follow_more : o ≡ offset_at (form_of m) n i → FollowSoFar m bs n (i + 1)
     follow_more e = next true (eq-eqb o (offset_at (form_of m) n i) e)
 
-    pub follow_not : (o ≡ offset_at (form_of m) n i → ⊥) → false ≡ follow_on (form_of m) n 0 (rows_in (row_of marked) n (drop 1 bs))
+    pub follow_not : (o ≡ offset_at (form_of m) n i → ⊥) → false ≡ follows m bs n
     follow_not e = next false (ne_eqb o (offset_at (form_of m) n i) e)
 
 -- ---- the marks
@@ -59,23 +59,20 @@ module _ (m : Bool) (bs : List ℕ) (n i : ℕ) (s : FollowSoFar m bs n i) where
 abbrev bodies_from : Bool → List ℕ → ℕ → ℕ → List (List ℕ)
 bodies_from m bs n i = rows_in (form_of m).bodies (n - i) (drop (offset_at (form_of m) n i) bs)
 
-abbrev all_bodies : Bool → List ℕ → ℕ → List (List ℕ)
-all_bodies m bs n = rows_in (form_of m).bodies n (drop (offset_at (form_of m) n 0) bs)
+abbrev pub all_marks_ok : Bool → List ℕ → ℕ → Bool
+all_marks_ok m bs n = marks_ok (rows_in (form_of m).bodies n (drop (offset_at (form_of m) n 0) bs))
 
 -- the marks of the first i bodies are 0 or 1, so that the others decide
 abbrev pub MarksSoFar : Bool → List ℕ → ℕ → ℕ → Type 0
-MarksSoFar m bs n i = marks_ok (bodies_from m bs n i) ≡ marks_ok (all_bodies m bs n)
-
-pub marks_start : (m : Bool) (bs : List ℕ) (n : ℕ) → MarksSoFar m bs n 0
-marks_start m bs n = ap (λ (k : ℕ). marks_ok (rows_in (form_of m).bodies k (drop (offset_at (form_of m) n 0) bs))) (sub-zero n)
+MarksSoFar m bs n i = marks_ok (bodies_from m bs n i) ≡ all_marks_ok m bs n
 
 module _ (m : Bool) (bs : List ℕ) (n i : ℕ) (s : MarksSoFar m bs n i) where
-  pub marks_done : n ≤ i → true ≡ marks_ok (all_bodies m bs n)
+  pub marks_done : n ≤ i → true ≡ all_marks_ok m bs n
   unfolding marks_ok
   marks_done h = sym (ap marks_ok (rows_end (form_of m).bodies bs n i (offset_at (form_of m) n i) h)) ∙ s
 
   module _ (h : i < n) (u : ℕ) (is : u ≡ get_or (numbers_in (form_of m).bodies (drop (offset_at (form_of m) n i) bs)) 3 0) where
-    seen : (b : Bool) → leb u 1 ≡ b → (b && marks_ok (bodies_from m bs n (i + 1))) ≡ marks_ok (all_bodies m bs n)
+    seen : (b : Bool) → leb u 1 ≡ b → (b && marks_ok (bodies_from m bs n (i + 1))) ≡ all_marks_ok m bs n
     unfolding marks_ok
     seen b e =
         ap (λ (c : Bool). c && marks_ok (bodies_from m bs n (i + 1))) (sym (ap (λ (k : ℕ). leb k 1) (sym is) ∙ e))
@@ -85,7 +82,7 @@ module _ (m : Bool) (bs : List ℕ) (n i : ℕ) (s : MarksSoFar m bs n i) where
     pub marks_more : u ≤ 1 → MarksSoFar m bs n (i + 1)
     marks_more e = seen true (le-leb u 1 e)
 
-    pub marks_not : 1 < u → false ≡ marks_ok (all_bodies m bs n)
+    pub marks_not : 1 < u → false ≡ all_marks_ok m bs n
     marks_not e = seen false (lt-leb u 1 e)
 
 -- ---- the form
@@ -107,16 +104,9 @@ module _ (m : Bool) (bs : List ℕ) where
     unfolding is_laid
     laid_sized h = sym (rw (le-leb (count_in bs) capacity k, ne_eqb (length bs) (saved_size (form_of m) (count_in bs)) h))
 
-    module _ (size : length bs ≡ saved_size (form_of m) (count_in bs)) where
-      so_far : is_laid (form_of m) capacity bs ≡ (follow_on (form_of m) (count_in bs) 0 (rows_of (form_of m) bs) && marks_ok (bodies_of (form_of m) bs))
-      unfolding is_laid
-      so_far = rw (le-leb (count_in bs) capacity k, eq-eqb (length bs) (saved_size (form_of m) (count_in bs)) size)
-
-      pub laid_off : follow_on (form_of m) (count_in bs) 0 (rows_of (form_of m) bs) ≡ false → false ≡ is_laid (form_of m) capacity bs
-      laid_off e = sym (so_far ∙ ap (λ (b : Bool). b && marks_ok (bodies_of (form_of m) bs)) e)
-
-      pub laid_by_marks : follow_on (form_of m) (count_in bs) 0 (rows_of (form_of m) bs) ≡ true → marks_ok (bodies_of (form_of m) bs) ≡ is_laid (form_of m) capacity bs
-      laid_by_marks e = sym (so_far ∙ ap (λ (b : Bool). b && marks_ok (bodies_of (form_of m) bs)) e)
+    pub laid_by_bodies : length bs ≡ saved_size (form_of m) (count_in bs) → (follow_on (form_of m) (count_in bs) 0 (rows_of (form_of m) bs) && marks_ok (bodies_of (form_of m) bs)) ≡ is_laid (form_of m) capacity bs
+    unfolding is_laid
+    laid_by_bodies size = sym (rw (le-leb (count_in bs) capacity k, eq-eqb (length bs) (saved_size (form_of m) (count_in bs)) size))
 
   module _ (limit : ℕ) (is : is_laid (form_of m) limit bs ≡ true) where
     -- what it says, one after the other

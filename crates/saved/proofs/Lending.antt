@@ -1,4 +1,5 @@
 -- What writing and reading say, by the tests that the code makes. Assumes nothing.
+use Rattle.std.specs.Prelude.{Err, Ok}
 use Prim.Native.Nat.{ℕ, ◌*◌, ◌≤◌, ◌<◌}
 use mathlib.Core.Path.{◌≡◌, refl, ap, sym, ◌∙◌}
 use mathlib.Core.Bool.{Bool, true, false, cond}
@@ -9,13 +10,11 @@ use lib.Seq.{sets}
 use lib.Dec.{leb, eqb}
 use borrow.Author.Tests.{le-leb, lt-leb, eq-eqb, ne_eqb}
 use Rattle.types.specs.Number.{zeros}
-use Rattle.frame.specs.declared.answer.Answer.TheVariants.{Reply}
 use Rattle.frame.specs.declared.answer.Refusal.TheVariants.{ReplyTooLong, NotATable, NotASavedForm}
 use Rattle.frame.specs.Reply.{padded}
 use Rattle.frame.specs.Answer.{Outcome, no_state, seen, replied, refused}
 use Rattle.frame.proofs.Buffer.{sets_padded}
 use Rattle.reporting.specs.declared.entry.Entry.{Entry}
-use Rattle.reporting.specs.declared.table.Change.TheVariants.{Done, Refused}
 use Rattle.reporting.specs.Table.{capacity}
 use Rattle.reporting.specs.Carried.{rows_laid, count_in, table_in, table_bytes, is_table, table_length}
 use Rattle.reporting.specs.Lent.{on_lent, left_as}
@@ -93,7 +92,7 @@ module _ (bs : List ℕ) (room : ℕ) where
       pub save_done : (d₀ d₁ d₂ : List ℕ) → saved_size marked (count_in bs) ≤ room → d₀ ≡ zeros room
           → d₁ ≡ sets (set d₀ 0 (count_in bs)) 1 (rows_laid (row_of marked) (contents_from marked (count_in bs) 0 (map key_of (table_in bs))))
           → d₂ ≡ sets d₁ (offset_at marked (count_in bs) 0) (rows_laid marked.bodies (map body_of (table_in bs)))
-          → seen (Reply (saved_size marked (count_in bs))) d₂ no_state ≡ save_lent bs room
+          → seen (Ok (saved_size marked (count_in bs))) d₂ no_state ≡ save_lent bs room
       unfolding by
       save_done d₀ d₁ d₂ h z q r =
           let n = sym (table_count bs) in
@@ -107,12 +106,12 @@ module _ (bs : List ℕ) (room : ℕ) where
 -- ---- reading
 
 module _ (form bs : List ℕ) where
-  pub restore_no_table : (length bs ≡ table_length → ⊥) → left_as (Refused NotATable) bs ≡ restore_lent form bs
+  pub restore_no_table : (length bs ≡ table_length → ⊥) → left_as (Err NotATable) bs ≡ restore_lent form bs
   unfolding restore_lent
   restore_no_table h = sym (rw (ne_eqb (length bs) table_length h))
 
   module _ (n : length bs ≡ table_length) where
-    by_form : (b : Bool) → is_saved (form_in form) capacity form ≡ b → cond b (left_as Done (table_bytes capacity (saved_in (form_in form) form))) (left_as (Refused NotASavedForm) (table_bytes capacity [])) ≡ restore_lent form bs
+    by_form : (b : Bool) → is_saved (form_in form) capacity form ≡ b → cond b (left_as (Ok true) (table_bytes capacity (saved_in (form_in form) form))) (left_as (Err NotASavedForm) (table_bytes capacity [])) ≡ restore_lent form bs
     unfolding restore_lent
     by_form b e = sym (rw (eq-eqb (length bs) table_length n, e))
 
@@ -120,10 +119,10 @@ module _ (form bs : List ℕ) where
     emptied : (t : List ℕ) → t ≡ zeros (length bs) → t ≡ table_bytes capacity []
     emptied t z = z ∙ ap zeros n ∙ sym empty_bytes
 
-    refused_so : (t : List ℕ) → t ≡ zeros (length bs) → is_saved (form_in form) capacity form ≡ false → left_as (Refused NotASavedForm) t ≡ restore_lent form bs
-    refused_so t z e = ap (left_as (Refused NotASavedForm)) (emptied t z) ∙ by_form false e
+    refused_so : (t : List ℕ) → t ≡ zeros (length bs) → is_saved (form_in form) capacity form ≡ false → left_as (Err NotASavedForm) t ≡ restore_lent form bs
+    refused_so t z e = ap (left_as (Err NotASavedForm)) (emptied t z) ∙ by_form false e
 
-    pub restore_not_laid : (t : List ℕ) → t ≡ zeros (length bs) → is_laid (form_in form) capacity form ≡ false → left_as (Refused NotASavedForm) t ≡ restore_lent form bs
+    pub restore_not_laid : (t : List ℕ) → t ≡ zeros (length bs) → is_laid (form_in form) capacity form ≡ false → left_as (Err NotASavedForm) t ≡ restore_lent form bs
     unfolding is_saved
     restore_not_laid t z h = refused_so t z (rw h refl)
 
@@ -145,8 +144,8 @@ module _ (form bs : List ℕ) where
         unfolding is_saved
         judged t e = rw h (sym (ap (λ (x : List ℕ). is_savable (table_in x)) e ∙ ap is_savable (table_back capacity (saved_in (form_in form) form) few clean)))
 
-        pub restore_done : (t : List ℕ) → t ≡ table_bytes capacity (saved_in (form_in form) form) → is_savable (table_in t) ≡ true → left_as Done t ≡ restore_lent form bs
-        restore_done t e s = ap (left_as Done) e ∙ by_form true (judged t e ∙ s)
+        pub restore_done : (t : List ℕ) → t ≡ table_bytes capacity (saved_in (form_in form) form) → is_savable (table_in t) ≡ true → left_as (Ok true) t ≡ restore_lent form bs
+        restore_done t e s = ap (left_as (Ok true)) e ∙ by_form true (judged t e ∙ s)
 
-        pub restore_not_written : (t z : List ℕ) → t ≡ table_bytes capacity (saved_in (form_in form) form) → is_savable (table_in t) ≡ false → z ≡ zeros (length bs) → left_as (Refused NotASavedForm) z ≡ restore_lent form bs
+        pub restore_not_written : (t z : List ℕ) → t ≡ table_bytes capacity (saved_in (form_in form) form) → is_savable (table_in t) ≡ false → z ≡ zeros (length bs) → left_as (Err NotASavedForm) z ≡ restore_lent form bs
         restore_not_written t z e s c = refused_so z c (judged t e ∙ s)

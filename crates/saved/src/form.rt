@@ -40,16 +40,6 @@ pub(crate) fn write_row(saved: &mut [u8], at: usize, key: Key, offset: u16)
     put_u16_in(saved, at + 4, offset);
 }
 
-// The byte of a configuration's mark.
-fn mark_of(config: ReportingConfig) -> u8
-    ensures { result ≡ if_marked config.unsigned 1 }
-{
-    if config.unsigned {
-        return 1;
-    }
-    0
-}
-
 // Writes a body at `at`.
 pub(crate) fn write_body(saved: &mut [u8], at: usize, config: ReportingConfig)
     requires { at + body_bytes marked ≤ length saved.old }
@@ -58,7 +48,7 @@ pub(crate) fn write_body(saved: &mut [u8], at: usize, config: ReportingConfig)
     put_u16_in(saved, at, config.min_interval);
     put_u16_in(saved, at + 2, config.max_interval);
     put_u64_in(saved, at + 4, config.reportable_change);
-    saved[at + 12] = mark_of(config);
+    saved[at + 12] = config.unsigned as u8;
 }
 
 // The offset that the row at `at` gives.

@@ -1,49 +1,34 @@
 // A table's bytes, made from a saved form. What they were before does not matter: memory after a power cut is no table.
-ghost use Rattle.std.specs.Prelude.{◌≡◌, true, [], ◌≤◌, eqb, length, drop};
+ghost use Rattle.std.specs.Prelude.{◌≡◌, true, ◌&&◌, [], ◌≤◌, eqb, length, drop};
 ghost use Rattle.reporting.specs.Table.{capacity};
 ghost use Rattle.reporting.specs.Carried.{table_bytes, rows_in};
-ghost use Rattle.reporting.specs.Lent.{left_as};
 ghost use Rattle.reporting.specs.Claims.RoundTrip.{AllClean};
 ghost use Rattle.saved.specs.Saved.{form_of, form_in, marked, row_of, saved_size, offset_at, saved_in, follow_on, marks_ok, is_laid};
-ghost use Rattle.saved.specs.Lent.{restore_lent};
+ghost use Rattle.saved.specs.Lent.{restored, restore_lent};
 
 use super::form::{ROW, body_at, entry_in, mark_in, offset_in};
 use super::savable::is_savable;
 use frame::answer::Refusal;
 use frame::reply::clear;
 use reporting::carried::{SLOT, TABLE_BYTES, write_slot};
-use reporting::table::{Change, LIMIT};
+use reporting::held::TableRef;
+use reporting::table::LIMIT;
 
-// Whether each of n offsets is where its body stands: the first behind the contents, each next one behind the body before it.
-fn offsets_follow(saved: &[u8], with_marks: bool, n: usize) -> bool
+// Whether each of n bodies is where its offset says, the first behind the contents and each next one behind the body before it, and has a mark of 0 or 1.
+fn bodies_fit(saved: &[u8], with_marks: bool, n: usize) -> bool
     requires { (n ≤ capacity) × (saved_size (form_of with_marks) n ≤ length saved.now) }
-    ensures { result ≡ follow_on (form_of with_marks) n 0 (rows_in (row_of marked) n (drop 1 saved.now)) }
+    ensures { result ≡ follow_on (form_of with_marks) n 0 (rows_in (row_of marked) n (drop 1 saved.now)) && marks_ok (rows_in (form_of with_marks).bodies n (drop (offset_at (form_of with_marks) n 0) saved.now)) }
 {
-    let mut i = 0;
-    while i < n {
+    for i in 0..n {
         let offset = offset_in(saved, 1 + ROW * i);
         let at = body_at(with_marks, n, i);
         if offset as usize != at {
             return false;
         }
-        i += 1;
-    }
-    true
-}
-
-// Whether each of n marks is 0 or 1.
-fn marks_fit(saved: &[u8], with_marks: bool, n: usize) -> bool
-    requires { (n ≤ capacity) × (saved_size (form_of with_marks) n ≤ length saved.now) }
-    ensures { result ≡ marks_ok (rows_in (form_of with_marks).bodies n (drop (offset_at (form_of with_marks) n 0) saved.now)) }
-{
-    let mut i = 0;
-    while i < n {
-        let at = body_at(with_marks, n, i);
         let mark = mark_in(saved, with_marks, at);
         if 1 < mark {
             return false;
         }
-        i += 1;
     }
     true
 }
@@ -73,10 +58,7 @@ fn is_laid(saved: &[u8]) -> bool
     if saved.len() != size {
         return false;
     }
-    if !offsets_follow(saved, with_marks, n) {
-        return false;
-    }
-    marks_fit(saved, with_marks, n)
+    bodies_fit(saved, with_marks, n)
 }
 
 // Puts the form's entries into an empty table. Not public: the bytes must be an empty table's, and those of a form laid out.
@@ -87,31 +69,29 @@ fn fill(table: &mut [u8], saved: &[u8])
 {
     let n = saved[0] as usize;
     let with_marks = has_marks(saved, n);
-    let mut i = 0;
-    while i < n {
+    for i in 0..n {
         let at = body_at(with_marks, n, i);
         let e = entry_in(saved, with_marks, 1 + ROW * i, at);
         write_slot(table, 1 + SLOT * i, e);
-        i += 1;
-        table[0] = i as u8;
+        table[0] = (i + 1) as u8;
     }
 }
 
 // The table of a saved form; of other bytes the empty one.
-pub fn restore(table: &mut [u8], saved: &[u8]) -> Change
-    ensures { left_as result table.new ≡ restore_lent saved.now table.old }
+pub fn restore(table: &mut [u8], saved: &[u8]) -> Result<(), Refusal>
+    ensures { restored result table.new ≡ restore_lent saved.now table.old }
 {
     if table.len() != TABLE_BYTES {
-        return Change::Refused(Refusal::NotATable);
+        return Err(Refusal::NotATable);
     }
     clear(table);
     if !is_laid(saved) {
-        return Change::Refused(Refusal::NotASavedForm);
+        return Err(Refusal::NotASavedForm);
     }
     fill(table, saved);
-    if is_savable(table) {
-        return Change::Done;
+    if is_savable(TableRef { bytes: table }) {
+        return Ok(());
     }
     clear(table);
-    Change::Refused(Refusal::NotASavedForm)
+    Err(Refusal::NotASavedForm)
 }

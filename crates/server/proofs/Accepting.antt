@@ -1,4 +1,5 @@
 -- A record of a Configure Reporting frame that the reply does not fail is an event of the request. Assumes nothing.
+use Rattle.std.specs.Prelude.{Option, Some}
 use mathlib.Core.Path.{◌≡◌, refl, sym, ap, ◌∙◌, subst}
 use mathlib.Core.Logic.{◌⊎◌, inl, inr}
 use mathlib.Core.Bool.{Bool, true, false, cond, ◌&&◌}
@@ -10,8 +11,6 @@ use lib.Dec.{eqb, leb, ltb}
 use borrow.Author.Tests.{ne_eqb}
 use Rattle.types.specs.Number.{bytes_of}
 use Rattle.frame.specs.declared.header.ZclHeader.{ZclHeader}
-use Rattle.frame.specs.declared.header.HeaderRead.{HeaderRead}
-use Rattle.frame.specs.declared.header.HeaderRead.TheVariants.{Header}
 use Rattle.frame.specs.declared.header.FrameType.{FrameType}
 use Rattle.frame.specs.declared.command_identifier.CommandIdentifier.TheVariants.{ConfigureReporting, ConfigureReportingResponse}
 use Rattle.frame.specs.declared.status.Status.{Status}
@@ -48,23 +47,23 @@ use Rattle.server.specs.Claims.Accepted.{records_of, answer_to, Says, Fails, Amo
 
 -- ---- one of a list
 
-abbrev Some : {A : Type 0} → (A → Type 0) → List A → Type 0
-Some P [] = ⊥
-Some P (x ∷ xs) = P x ⊎ Some P xs
+abbrev SomeOf : {A : Type 0} → (A → Type 0) → List A → Type 0
+SomeOf P [] = ⊥
+SomeOf P (x ∷ xs) = P x ⊎ SomeOf P xs
 
-some_before : {A : Type 0} (P : A → Type 0) (a b : List A) → Some P a → Some P (a ++ b)
+some_before : {A : Type 0} (P : A → Type 0) (a b : List A) → SomeOf P a → SomeOf P (a ++ b)
 some_before {A = A} P [] b x' = elim x' [ ]
 some_before P (x ∷ a) b (inl h) = inl h
 some_before P (x ∷ a) b (inr h) = inr (some_before P a b h)
 
-some_behind : {A : Type 0} (P : A → Type 0) (a b : List A) → Some P b → Some P (a ++ b)
+some_behind : {A : Type 0} (P : A → Type 0) (a b : List A) → SomeOf P b → SomeOf P (a ++ b)
 some_behind P [] b h = h
 some_behind P (x ∷ a) b h = inr (some_behind P a b h)
 
-some_among : {A : Type 0} (x : A) (all : List A) → Among x all → Some (λ y. x ≡ y) all
-some_among x all m = subst (Some (λ y. x ≡ y)) (sym m.order) (some_behind (λ y. x ≡ y) m.earlier (x ∷ m.rest) (inl refl))
+some_among : {A : Type 0} (x : A) (all : List A) → Among x all → SomeOf (λ y. x ≡ y) all
+some_among x all m = subst (SomeOf (λ y. x ≡ y)) (sym m.order) (some_behind (λ y. x ≡ y) m.earlier (x ∷ m.rest) (inl refl))
 
-among_some : {A : Type 0} (x : A) (all : List A) → Some (λ y. x ≡ y) all → Among x all
+among_some : {A : Type 0} (x : A) (all : List A) → SomeOf (λ y. x ≡ y) all → Among x all
 among_some {A = A} x [] x'' = elim x'' [ ]
 among_some x (y ∷ all) (inl e) = record { earlier = []; rest = all; order = ap (λ z. z ∷ all) (sym e) }
 among_some x (y ∷ all) (inr h) =
@@ -95,10 +94,10 @@ module _ (limit : ℕ) (s : List ℕ) (h : ZclHeader) where
   -- that a failure of some kind is listed
   module _ (N : Failure → Type 0) where
     abbrev Listed : Sofar (List Entry) Failure → Type 0
-    Listed x = Some N x.failures
+    Listed x = SomeOf N x.failures
 
     -- the failures only grow
-    also_grows : (fs : List Failure) (b : Bool) (f : Failure) → Some N fs → Some N (cond b fs (fs ++ (f ∷ [])))
+    also_grows : (fs : List Failure) (b : Bool) (f : Failure) → SomeOf N fs → SomeOf N (cond b fs (fs ++ (f ∷ [])))
     also_grows fs true f m = m
     also_grows fs false f m = some_before N fs (f ∷ []) m
 
@@ -176,17 +175,17 @@ module _ (limit : ℕ) (s : List ℕ) (h : ZclHeader) where
       -- by what was done with it: it is configured, or it is listed and stays so
       abbrev Either : Did (List Entry) → Type 0
       Either w =
-          (Some Named (also fs w.status (failing w.status (reported id t g))) → Some Named y.failures)
-          → Some Told (if_success w.status (done_events s h (reported id t g)) ++ es) ⊎ Some Named y.failures
+          (SomeOf Named (also fs w.status (failing w.status (reported id t g))) → SomeOf Named y.failures)
+          → SomeOf Told (if_success w.status (done_events s h (reported id t g)) ++ es) ⊎ SomeOf Named y.failures
 
-      named : (f : Failure) → Named f → Some Named (fs ++ (f ∷ []))
+      named : (f : Failure) → Named f → SomeOf Named (fs ++ (f ∷ []))
       named f n = some_behind Named fs (f ∷ []) (inl n)
 
       failed_either : (l : List Entry) (why : Status) → eqb (status_code why) 0 ≡ false → Either (did why l)
       failed_either l why e =
           subst
-          (λ (b : Bool). (Some Named (cond b fs (fs ++ (failing why (reported id t g) ∷ []))) → Some Named y.failures)
-          → Some Told (cond b (done_events s h (reported id t g)) [] ++ es) ⊎ Some Named y.failures)
+          (λ (b : Bool). (SomeOf Named (cond b fs (fs ++ (failing why (reported id t g) ∷ []))) → SomeOf Named y.failures)
+          → SomeOf Told (cond b (done_events s h (reported id t g)) [] ++ es) ⊎ SomeOf Named y.failures)
           (sym e) (λ stays. inr (stays (named _ (refl, refl))))
 
       setting_either : (l : List Entry) → Either (setting limit k g l)
@@ -194,8 +193,8 @@ module _ (limit : ℕ) (s : List ℕ) (h : ZclHeader) where
       setting_either l = go (wish g) not_clears (accepts_l limit k l)
         where
           go : (w : Wish) → (w ≡ ToClear → ⊥) → (a : Bool)
-              → (Some Named (also fs (status_w w a) (failing (status_w w a) (reported id t g))) → Some Named y.failures)
-              → Some Told (if_success (status_w w a) (events_w w k g) ++ es) ⊎ Some Named y.failures
+              → (SomeOf Named (also fs (status_w w a) (failing (status_w w a) (reported id t g))) → SomeOf Named y.failures)
+              → SomeOf Told (if_success (status_w w a) (events_w w k g) ++ es) ⊎ SomeOf Named y.failures
           go ToClear n a stays = absurd (n refl)
           go ToRefuse n a stays = inr (stays (named _ (refl, refl)))
           go ToSet n true stays = inl (inl refl)
@@ -207,19 +206,19 @@ module _ (limit : ℕ) (s : List ℕ) (h : ZclHeader) where
 
     -- so among the events of records that contain it is its own, or a failure names it
     abbrev Brings : List ConfigureRecord → List Event → Sofar (List Entry) Failure → Type 0
-    Brings rs es y = Some (λ r. reported id t g ≡ r) rs → Some Told es ⊎ Some Named y.failures
+    Brings rs es y = SomeOf (λ r. reported id t g ≡ r) rs → SomeOf Told es ⊎ SomeOf Named y.failures
 
     brings_more : (x : Sofar (List Entry) Failure) (r : ConfigureRecord) (rs : List ConfigureRecord) (es : List Event) (y : Sofar (List Entry) Failure)
-        → (Some Named (done_with doing x r).failures → Some Named y.failures) → Brings rs es y → Brings (r ∷ rs) (record_events 8 limit s h x.state r ++ es) y
+        → (SomeOf Named (done_with doing x r).failures → SomeOf Named y.failures) → Brings rs es y → Brings (r ∷ rs) (record_events 8 limit s h x.state r ++ es) y
     unfolding done_with record_events
     brings_more x r rs es y stays p (inl q) =
         subst
-        (λ (z : ConfigureRecord). (Some Named (done_with doing x z).failures → Some Named y.failures)
-        → Some Told (record_events 8 limit s h x.state z ++ es) ⊎ Some Named y.failures)
+        (λ (z : ConfigureRecord). (SomeOf Named (done_with doing x z).failures → SomeOf Named y.failures)
+        → SomeOf Told (record_events 8 limit s h x.state z ++ es) ⊎ SomeOf Named y.failures)
         q (tried_either x.failures es y x.state) stays
     brings_more x r rs es y stays p (inr m) = go (p m)
       where
-        go : Some Told es ⊎ Some Named y.failures → Some Told (record_events 8 limit s h x.state r ++ es) ⊎ Some Named y.failures
+        go : SomeOf Told es ⊎ SomeOf Named y.failures → SomeOf Told (record_events 8 limit s h x.state r ++ es) ⊎ SomeOf Named y.failures
         go (inl e) = inl (some_behind Told (record_events 8 limit s h x.state r) es e)
         go (inr f) = inr f
 
@@ -227,13 +226,13 @@ module _ (limit : ℕ) (s : List ℕ) (h : ZclHeader) where
     brings_none y m = absurd m
 
     -- a failure is listed in the reply
-    listed : (fs : List Failure) → Some Named fs → Fails id (encode_all encode fs)
+    listed : (fs : List Failure) → SomeOf Named fs → Fails id (encode_all encode fs)
     unfolding encode_all bytes_of
     listed [] x' = elim x' [ ]
     listed (f ∷ fs) (inl n) = inl (n.0, ap (bytes_of 2) n.1)
     listed (f ∷ fs) (inr m) = inr (listed fs m)
 
-    listed_failures : (fs : List Failure) → Some Named fs → Fails id (encode_failures encode fs)
+    listed_failures : (fs : List Failure) → SomeOf Named fs → Fails id (encode_failures encode fs)
     unfolding encode_failures
     listed_failures [] m = elim m [ ]
     listed_failures (f ∷ fs) m = listed (f ∷ fs) m
@@ -245,21 +244,21 @@ module _ (limit : ℕ) (s : List ℕ) (h : ZclHeader) where
 
   -- without a failure the events are the records'
   abbrev Whole : List ConfigureRecord → List Event → Sofar (List Entry) Failure → Type 0
-  Whole rs es y = Some AnyFailure y.failures ⊎ (es ≡ succeeding s h rs)
+  Whole rs es y = SomeOf AnyFailure y.failures ⊎ (es ≡ succeeding s h rs)
 
   whole_more : (x : Sofar (List Entry) Failure) (r : ConfigureRecord) (rs : List ConfigureRecord) (es : List Event) (y : Sofar (List Entry) Failure)
-      → (Some AnyFailure (done_with doing x r).failures → Some AnyFailure y.failures) → Whole rs es y → Whole (r ∷ rs) (record_events 8 limit s h x.state r ++ es) y
+      → (SomeOf AnyFailure (done_with doing x r).failures → SomeOf AnyFailure y.failures) → Whole rs es y → Whole (r ∷ rs) (record_events 8 limit s h x.state r ++ es) y
   unfolding done_with record_events
   whole_more x r rs es y = go (eqb (status_code (tried 8 limit s h x.state r).status) 0) (failing (tried 8 limit s h x.state r).status r)
     where
-      go : (b : Bool) (f : Failure) → (Some AnyFailure (cond b x.failures (x.failures ++ (f ∷ []))) → Some AnyFailure y.failures) → Whole rs es y
+      go : (b : Bool) (f : Failure) → (SomeOf AnyFailure (cond b x.failures (x.failures ++ (f ∷ []))) → SomeOf AnyFailure y.failures) → Whole rs es y
           → Whole (r ∷ rs) (cond b (done_events s h r) [] ++ es) y
       go true f stays (inl m) = inl m
       go true f stays (inr q) = inr (ap (λ (own : List Event). done_events s h r ++ own) q)
       go false f stays w = inl (stays (some_behind AnyFailure x.failures (f ∷ []) (inl tt)))
 
 -- a reply of one 00 lists no failure
-one_lists_none : (fs : List Failure) → Some (λ (f : Failure). Unit {0}) fs → encode_failures encode fs ≡ 0x00 ∷ [] → ⊥
+one_lists_none : (fs : List Failure) → SomeOf (λ (f : Failure). Unit {0}) fs → encode_failures encode fs ≡ 0x00 ∷ [] → ⊥
 unfolding encode_failures encode_all bytes_of
 one_lists_none [] m e = elim m [ ]
 one_lists_none (f ∷ fs) m e = let z = ap (λ (x : List ℕ). length x) e in omega (arith, z)
@@ -328,10 +327,10 @@ module _ (limit : ℕ) (r : Request) (l : List Entry) (h : ZclHeader) (c : Asks 
     answer : o ≡ tabling r.store (within holding came)
     told : es ≡ events
 
-  abbrev body_served : HeaderRead → Outcome State
+  abbrev body_served : Option ZclHeader → Outcome State
   body_served x = by_header 8 limit r.store (holding l) r.unicast r.frame r.room x
 
-  by-header : Was (body_served (Header h)) (headed_events limit r l (Header h))
+  by-header : Was (body_served (Some h)) (headed_events limit r l (Some h))
   unfolding by_header typed commanded configure_of command_of
   by-header =
       subst
@@ -351,7 +350,7 @@ module _ (limit : ℕ) (r : Request) (l : List Entry) (h : ZclHeader) (c : Asks 
           → (cond a (cond b (body_served (header_of r.frame)) (refused r.room OtherCluster (state r.store (holding l)))) (refused r.room NotAStore (state r.store (holding l)))).number ≡ 0
           → Was (cond a (cond b (body_served (header_of r.frame)) (refused r.room OtherCluster (state r.store (holding l)))) (refused r.room NotAStore (state r.store (holding l))))
           (cond (a && b) (headed_events limit r l (header_of r.frame)) [])
-      go true true n = subst (λ (x : HeaderRead). Was (body_served x) (headed_events limit r l x)) (sym c.header) by-header
+      go true true n = subst (λ (x : Option ZclHeader). Was (body_served x) (headed_events limit r l x)) (sym c.header) by-header
       go true false n = absurd (omega (arith, n))
       go false b n = absurd (omega (arith, n))
 
@@ -382,14 +381,14 @@ success_is_events limit r l h c says =
 pub accepted_is_configured : AcceptedIsConfigured
 accepted_is_configured limit r l h body id t g c says among not low high =
     among_some (configured (key_for r.store h id) g) (request_events limit r l)
-    (request_seen limit r l h c body says (Brings limit r.store h id t g low high (records_of r.frame h)) (Some (λ e. configured (key_for r.store h id) g ≡ e)) so
+    (request_seen limit r l h c body says (Brings limit r.store h id t g low high (records_of r.frame h)) (SomeOf (λ e. configured (key_for r.store h id) g ≡ e)) so
     (λ fine. walk_tells limit r.store h (Named limit r.store h id t g low high) (Brings limit r.store h id t g low high) (brings_none limit r.store h id t g low high)
     (brings_more limit r.store h id t g low high) fine _ (records_of r.frame h) (sofar l [])))
   where
     so : (es : List Event) (x : Sofar (List Entry) Failure) → Brings limit r.store h id t g low high (records_of r.frame h) es x → encode_failures encode x.failures ≡ body
-        → Some (λ e. configured (key_for r.store h id) g ≡ e) es
+        → SomeOf (λ e. configured (key_for r.store h id) g ≡ e) es
     so es x m e = go (m (some_among (reported id t g) (records_of r.frame h) among))
       where
-        go : Some (λ e. configured (key_for r.store h id) g ≡ e) es ⊎ Some (Named limit r.store h id t g low high) x.failures → Some (λ e. configured (key_for r.store h id) g ≡ e) es
+        go : SomeOf (λ e. configured (key_for r.store h id) g ≡ e) es ⊎ SomeOf (Named limit r.store h id t g low high) x.failures → SomeOf (λ e. configured (key_for r.store h id) g ≡ e) es
         go (inl w) = w
         go (inr f) = absurd (not (subst (Fails id) e (listed_failures limit r.store h id t g low high x.failures f)))

@@ -1,13 +1,12 @@
 -- One case split for each of the server's definitions: what holds of every refusal before a command, and of every command, holds of every
 -- request. Assumes nothing.
+use Rattle.std.specs.Prelude.{None, Option, Some}
 use mathlib.Core.Path.{◌≡◌, refl, sym, ◌∙◌, subst}
 use mathlib.Core.Bool.{Bool, true, false, cond}
 use mathlib.Core.List.{List}
 use Prim.Native.Nat.{ℕ}
 use lib.Dec.{eqb}
 use Rattle.frame.specs.declared.header.ZclHeader.{ZclHeader}
-use Rattle.frame.specs.declared.header.HeaderRead.{HeaderRead}
-use Rattle.frame.specs.declared.header.HeaderRead.TheVariants.{Header, Short}
 use Rattle.frame.specs.declared.header.FrameType.{FrameType}
 use Rattle.frame.specs.declared.header.FrameType.TheVariants.{GlobalCommand, ClusterCommand, Reserved}
 use Rattle.frame.specs.declared.command_identifier.CommandIdentifier.{CommandIdentifier}
@@ -100,10 +99,10 @@ module _ (form limit : ℕ) (s : List ℕ) (unicast : Bool) (room : ℕ) (Q : Ta
     typed_case l h body ClusterCommand = own l h body ReadAttributesResponse
     typed_case l h body Reserved = early (holding l) ReservedFrameType refl
 
-    header_case : (l : List Entry) (frame : List ℕ) (r : HeaderRead) → Q (holding l) (by_header form limit s (holding l) unicast frame room r)
+    header_case : (l : List Entry) (frame : List ℕ) (r : Option ZclHeader) → Q (holding l) (by_header form limit s (holding l) unicast frame room r)
     unfolding by_header
-    header_case l frame (Header h) = typed_case l h _ _
-    header_case l frame Short = early (holding l) HeaderShort refl
+    header_case l frame (Some h) = typed_case l h _ _
+    header_case l frame None = early (holding l) HeaderShort refl
 
     pub serve_case : (cluster : ℕ) (frame : List ℕ) (t : Table) → Q t (serve form limit s t cluster unicast frame room)
     serve_case cluster frame = passed_case cluster frame (λ l. header_case l frame (header_of frame))

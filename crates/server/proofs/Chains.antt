@@ -1,16 +1,14 @@
 -- A chain of replies ends: every reply is a global command that gets a Default Response at most, and a Default Response gets nothing. Assumes nothing.
+use Rattle.std.specs.Prelude.{None, Option, Some}
 use mathlib.Core.Path.{◌≡◌, refl, sym, ap, ◌∙◌, subst}
 use mathlib.Core.Bool.{Bool, true, false, cond, ◌&&◌, true≢false}
 use mathlib.Core.List.{List, [], ◌∷◌, ◌++◌}
-use mathlib.Core.Option.{Option, none, some}
 use Prim.Native.Nat.{ℕ, ◌≤◌}
 use native.Mathlib.Omega.{arith}
 use lib.ListN.{length, take, drop}
 use lib.Dec.{eqb}
 use borrow.Author.Tests.{eqb-true, eq-eqb, ne_eqb}
 use Rattle.frame.specs.declared.header.ZclHeader.{ZclHeader}
-use Rattle.frame.specs.declared.header.HeaderRead.{HeaderRead}
-use Rattle.frame.specs.declared.header.HeaderRead.TheVariants.{Header, Short}
 use Rattle.frame.specs.declared.header.FrameType.{FrameType}
 use Rattle.frame.specs.declared.header.FrameType.TheVariants.{GlobalCommand, ClusterCommand, Reserved}
 use Rattle.frame.specs.declared.command_identifier.CommandIdentifier.{CommandIdentifier}
@@ -44,7 +42,7 @@ use Rattle.server.proofs.Starting.{request-says}
 -- a frame is a global command
 pub record Is (command : CommandIdentifier) (frame : List ℕ) : Type 0 where
   pub h : ZclHeader
-  pub header : header_of frame ≡ Header h
+  pub header : header_of frame ≡ Some h
   pub global : frame_type_of h.frame_control.0 ≡ GlobalCommand
   pub command_is : command_of h.command_identifier.0 ≡ command
 
@@ -96,23 +94,23 @@ headed_is request c rest r =
 
 -- nothing, or a frame of which P holds
 abbrev Sent : (List ℕ → Type 0) → Option (List ℕ) → Type 0
-Sent P none = Unit {0}
-Sent P (some frame) = P frame
+Sent P None = Unit {0}
+Sent P (Some frame) = P frame
 
 sent_each : (P Q : List ℕ → Type 0) → ((frame : List ℕ) → P frame → Q frame) → (x : Option (List ℕ)) → Sent P x → Sent Q x
-sent_each P Q f none p = tt
-sent_each P Q f (some frame) p = f frame p
+sent_each P Q f None p = tt
+sent_each P Q f (Some frame) p = f frame p
 
-refused_silent : {S : Type 0} (room : ℕ) (why : Refusal) (x : S) → sent (refused room why x) ≡ none
+refused_silent : {S : Type 0} (room : ℕ) (why : Refusal) (x : S) → sent (refused room why x) ≡ None
 refused_silent room why x =
-    ap (λ (b : Bool). cond b (some (take 0 (refused room why x).reply)) none) (ne_eqb (refusal_number why) 0 (λ q. omega (arith, refusal_nonzero why, q)))
+    ap (λ (b : Bool). cond b (Some (take 0 (refused room why x).reply)) None) (ne_eqb (refusal_number why) 0 (λ q. omega (arith, refusal_nonzero why, q)))
 
 module _ {S : Type 0} (room : ℕ) (o : Outcome S) where
-  sent_refused : (why : Refusal) → o ≡ refused room why o.state → sent o ≡ none
+  sent_refused : (why : Refusal) → o ≡ refused room why o.state → sent o ≡ None
   sent_refused why e = ap sent e ∙ refused_silent room why o.state
 
-  sent_replied : (out : List ℕ) → o ≡ replied room out o.state → sent o ≡ some out
-  sent_replied out e = ap sent e ∙ ap some (take_padded room out)
+  sent_replied : (out : List ℕ) → o ≡ replied room out o.state → sent o ≡ Some out
+  sent_replied out e = ap sent e ∙ ap Some (take_padded room out)
 
   says_sent : (P : List ℕ → Type 0) (head : List ℕ) → ((rest : List ℕ) → P (head ++ rest)) → Says head room o → Sent P (sent o)
   says_sent P head p (sends rest k e) = subst (Sent P) (sym (sent_replied (head ++ rest) e)) (p rest)
@@ -122,44 +120,44 @@ module _ {S : Type 0} (room : ℕ) (o : Outcome S) where
 
 module _ (form limit : ℕ) (s : List ℕ) (t : Table) (cluster : ℕ) (unicast : Bool) (frame : List ℕ) (room : ℕ) where
   -- a frame with a header is answered by a frame of the command that answers its own
-  request_sends : (h : ZclHeader) → header_of frame ≡ Header h → (c : CommandIdentifier) → answering (frame_type_of h.frame_control.0) h.command_identifier.0 ≡ c → Response c
+  request_sends : (h : ZclHeader) → header_of frame ≡ Some h → (c : CommandIdentifier) → answering (frame_type_of h.frame_control.0) h.command_identifier.0 ≡ c → Response c
       → Sent (Is c) (sent (serve form limit s t cluster unicast frame room))
   request_sends h e c a r =
       says_sent room _ (Is c) (reply_head h c) (λ rest. headed_is h c rest r)
       (subst (λ (x : CommandIdentifier). Says (reply_head h x) room (serve form limit s t cluster unicast frame room)) a (request-says form limit s cluster unicast frame room h e t))
 
   -- where what passes 7, 8 and 1 gets nothing, nothing is sent
-  silent_passed : ((l : List Entry) → sent (by_header form limit s (holding l) unicast frame room (header_of frame)) ≡ none) → sent (serve form limit s t cluster unicast frame room) ≡ none
-  silent_passed k = passed_case form limit s unicast room (λ u o. sent o ≡ none) (λ u why e. refused_silent room why (state s u)) cluster frame k t
+  silent_passed : ((l : List Entry) → sent (by_header form limit s (holding l) unicast frame room (header_of frame)) ≡ None) → sent (serve form limit s t cluster unicast frame room) ≡ None
+  silent_passed k = passed_case form limit s unicast room (λ u o. sent o ≡ None) (λ u why e. refused_silent room why (state s u)) cluster frame k t
 
-  short_silent : header_of frame ≡ Short → sent (serve form limit s t cluster unicast frame room) ≡ none
+  short_silent : header_of frame ≡ None → sent (serve form limit s t cluster unicast frame room) ≡ None
   unfolding by_header
-  short_silent e = silent_passed (λ l. ap (λ (r : HeaderRead). sent (by_header form limit s (holding l) unicast frame room r)) e)
+  short_silent e = silent_passed (λ l. ap (λ (r : Option ZclHeader). sent (by_header form limit s (holding l) unicast frame room r)) e)
 
-  request_replies : (r : HeaderRead) → header_of frame ≡ r → Sent Reply (sent (serve form limit s t cluster unicast frame room))
-  request_replies (Header h) e =
+  request_replies : (r : Option ZclHeader) → header_of frame ≡ r → Sent Reply (sent (serve form limit s t cluster unicast frame room))
+  request_replies (Some h) e =
       let c : CommandIdentifier = answering (frame_type_of h.frame_control.0) h.command_identifier.0 in
       let r : Response c = answering_response (frame_type_of h.frame_control.0) h.command_identifier.0 in
       sent_each (Is c) Reply (λ f i. (c, r, i)) (sent (serve form limit s t cluster unicast frame room)) (request_sends h e c refl r)
-  request_replies Short e = subst (Sent Reply) (sym (short_silent e)) tt
+  request_replies None e = subst (Sent Reply) (sym (short_silent e)) tt
 
 module _ (served : List ℕ) (cluster : ℕ) (unicast : Bool) (frame : List ℕ) (room : ℕ) where
   -- where what is not served gets nothing, nothing is sent
-  silent_response : sent (respond unicast room (header_of frame)) ≡ none → sent (unsupported_cluster served cluster unicast frame room) ≡ none
+  silent_response : sent (respond unicast room (header_of frame)) ≡ None → sent (unsupported_cluster served cluster unicast frame room) ≡ None
   unfolding unsupported_cluster
   silent_response k = go (is_served cluster served)
     where
-      go : (b : Bool) → sent (cond b (refused room NothingToSend no_state) (respond unicast room (header_of frame))) ≡ none
+      go : (b : Bool) → sent (cond b (refused room NothingToSend no_state) (respond unicast room (header_of frame))) ≡ None
       go true = refused_silent room NothingToSend no_state
       go false = k
 
-  response_sends : (r : HeaderRead) → header_of frame ≡ r → Sent (Is DefaultResponse) (sent (unsupported_cluster served cluster unicast frame room))
+  response_sends : (r : Option ZclHeader) → header_of frame ≡ r → Sent (Is DefaultResponse) (sent (unsupported_cluster served cluster unicast frame room))
   unfolding respond
-  response_sends (Header h) e =
+  response_sends (Some h) e =
       says_sent room _ (Is DefaultResponse) (reply_head h DefaultResponse) (λ rest. headed_is h DefaultResponse rest (response DefaultResponse))
-      (subst (λ (r : HeaderRead). Says (head_of r) room (unsupported_cluster served cluster unicast frame room)) e (responder_says served cluster unicast frame room))
-  response_sends Short e =
-      subst (Sent (Is DefaultResponse)) (sym (silent_response (ap (λ (r : HeaderRead). sent (respond unicast room r)) e))) tt
+      (subst (λ (r : Option ZclHeader). Says (head_of r) room (unsupported_cluster served cluster unicast frame room)) e (responder_says served cluster unicast frame room))
+  response_sends None e =
+      subst (Sent (Is DefaultResponse)) (sym (silent_response (ap (λ (r : Option ZclHeader). sent (respond unicast room r)) e))) tt
 
 default-reply : (frame : List ℕ) → Is DefaultResponse frame → Reply frame
 default-reply frame i = (DefaultResponse, response DefaultResponse, i)
@@ -194,7 +192,7 @@ named : (n : ℕ) → n ≡ command_code DefaultResponse → command_of n ≡ De
 unfolding command_of
 named n e = ap command_of e
 
-module _ (frame : List ℕ) (h : ZclHeader) (e : header_of frame ≡ Header h) (d : is_default_response h ≡ true) where
+module _ (frame : List ℕ) (h : ZclHeader) (e : header_of frame ≡ Some h) (d : is_default_response h ≡ true) where
   module _ (form limit : ℕ) (s : List ℕ) (l : List Entry) (unicast : Bool) (room : ℕ) where
     default_passed : by_header form limit s (holding l) unicast frame room (header_of frame) ≡ refused room NothingToSend (state s (holding l))
     unfolding by_header typed commanded
@@ -209,14 +207,14 @@ module _ (frame : List ℕ) (h : ZclHeader) (e : header_of frame ≡ Header h) (
     unfolding serve tabled
     default_served is = rw (is, eq-eqb (cluster_of s) (cluster_of s) refl) default_passed
 
-  unanswered : (b : Box) → answer_of b frame ≡ none
+  unanswered : (b : Box) → answer_of b frame ≡ None
   unfolding respond
   unanswered (serving form limit s t cluster unicast room) =
       silent_passed form limit s t cluster unicast frame room
       (λ l. ap sent (default_passed form limit s l unicast room) ∙ refused_silent room NothingToSend (state s (holding l)))
   unanswered (responding served cluster unicast room) =
       silent_response served cluster unicast frame room
-      (ap (λ (r : HeaderRead). sent (respond unicast room r)) e
+      (ap (λ (r : Option ZclHeader). sent (respond unicast room r)) e
       ∙ ap (λ (b : Bool). sent (cond b (refused room NothingToSend no_state) (default_response h unicast UnsupportedCluster room))) d
       ∙ refused_silent room NothingToSend no_state)
 
@@ -228,7 +226,7 @@ default_response_unanswered b frame h e d = unanswered frame h e d b
 
 -- ---- chains
 
-sent_is : (P : List ℕ → Type 0) (x : Option (List ℕ)) (frame : List ℕ) → x ≡ some frame → Sent P x → P frame
+sent_is : (P : List ℕ → Type 0) (x : Option (List ℕ)) (frame : List ℕ) → x ≡ Some frame → Sent P x → P frame
 sent_is P x frame e p = subst (Sent P) e p
 
 -- no reply to a Default Response, one at most to a reply, two at most to any frame
@@ -245,8 +243,8 @@ one_sent [] frame r = omega arith
 one_sent (b ∷ more) frame r = go (answer_of b frame) (answer_sends b frame r)
   where
     go : (x : Option (List ℕ)) → Sent (Is DefaultResponse) x → length (onward x (chain more)) ≤ 1
-    go none i = omega arith
-    go (some q) i = let n : length (chain more q) ≡ 0 = ap length (none_sent more q i) in omega arith
+    go None i = omega arith
+    go (Some q) i = let n : length (chain more q) ≡ 0 = ap length (none_sent more q i) in omega arith
 
 pub chain_ends : ChainEnds
 unfolding chain
@@ -254,8 +252,8 @@ chain_ends [] frame = omega arith
 chain_ends (b ∷ more) frame = go (answer_of b frame) (box_replies b frame)
   where
     go : (x : Option (List ℕ)) → Sent Reply x → length (onward x (chain more)) ≤ 2
-    go none r = omega arith
-    go (some q) r = let n : length (chain more q) ≤ 1 = one_sent more q r in omega arith
+    go None r = omega arith
+    go (Some q) r = let n : length (chain more q) ≤ 1 = one_sent more q r in omega arith
 
 pub answer_to_answer : AnswerToAnswer
 answer_to_answer a b frame reply next e g =

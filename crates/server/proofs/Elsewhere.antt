@@ -1,4 +1,5 @@
 -- What the responder and a report leave: each replies or refuses. Assumes nothing.
+use Rattle.std.specs.Prelude.{None, Option, Some}
 use mathlib.Core.Path.{◌≡◌, refl}
 use mathlib.Core.Bool.{Bool, true, false, cond}
 use mathlib.Core.List.{List, [], ◌∷◌, ◌++◌}
@@ -7,8 +8,7 @@ use native.Mathlib.Omega.{arith}
 use lib.ListN.{length, length-append}
 use lib.Dec.{leb, ltb}
 use borrow.Author.Tests.{leb-true}
-use Rattle.frame.specs.declared.header.HeaderRead.{HeaderRead}
-use Rattle.frame.specs.declared.header.HeaderRead.TheVariants.{Header, Short}
+use Rattle.frame.specs.declared.header.ZclHeader.{ZclHeader}
 use Rattle.frame.specs.declared.command_identifier.CommandIdentifier.TheVariants.{ReportAttributes, DefaultResponse}
 use Rattle.frame.specs.declared.status.Status.TheVariants.{UnsupportedCluster}
 use Rattle.frame.specs.declared.answer.Refusal.TheVariants.{HeaderShort, ReplyTooLong, NothingToSend, NotAStore, EmptyReport, NotReportable}
@@ -17,8 +17,7 @@ use Rattle.frame.specs.Answer.{no_state, refused}
 use Rattle.frame.specs.Walk.{done}
 use Rattle.frame.specs.Encoded.{encode_all, fits}
 use Rattle.frame.proofs.Walks.{any, walk_keeps}
-use Rattle.store.specs.declared.lookup.Found.{Found}
-use Rattle.store.specs.declared.lookup.Found.TheVariants.{At, Nothing}
+use Rattle.store.specs.declared.lookup.Attribute.{Attribute}
 use Rattle.store.specs.Contents.{name_of, find_of, reportable}
 use Rattle.store.specs.Layout.{is_store}
 use Rattle.server.specs.Claims.Left.{ResponderClears, ResponderThenZeros, ResponderLength, ReportClears, ReportThenZeros, ReportLength}
@@ -30,15 +29,15 @@ use Rattle.server.proofs.Says.{Says, sends, declines, says_either, says_clears, 
 -- ---- the responder
 
 -- the head of its reply, if the frame has a header
-abbrev pub head_of : HeaderRead → List ℕ
-head_of (Header h) = reply_head h DefaultResponse
-head_of Short = []
+abbrev pub head_of : Option ZclHeader → List ℕ
+head_of (Some h) = reply_head h DefaultResponse
+head_of None = []
 
-respond_says : (unicast : Bool) (room : ℕ) (r : HeaderRead) → Says (head_of r) room (respond unicast room r)
+respond_says : (unicast : Bool) (room : ℕ) (r : Option ZclHeader) → Says (head_of r) room (respond unicast room r)
 unfolding respond
-respond_says unicast room (Header h) =
+respond_says unicast room (Some h) =
     says_either (reply_head h DefaultResponse) room (is_default_response h) _ _ (declines NothingToSend refl) (shape_says _ room _ (default_shape h unicast UnsupportedCluster room))
-respond_says unicast room Short = declines HeaderShort refl
+respond_says unicast room None = declines HeaderShort refl
 
 pub responder_says : (served : List ℕ) (cluster : ℕ) (unicast : Bool) (frame : List ℕ) (room : ℕ) → Says (head_of (header_of frame)) room (unsupported_cluster served cluster unicast frame room)
 unfolding unsupported_cluster
@@ -65,9 +64,9 @@ module _ (form : ℕ) (s : List ℕ) (room : ℕ) where
   unfolding encode_all
   none_fit head h = omega arith
 
-  by_fits : (head : ℕ) (rs : List ReportRecord) (id : ℕ) (f : Found) → Fit head (report_by s room head rs id f)
+  by_fits : (head : ℕ) (rs : List ReportRecord) (id : ℕ) (f : Option Attribute) → Fit head (report_by s room head rs id f)
   unfolding fits
-  by_fits head rs id (At a) = go (reportable a) (leb (head + length (encode_all encode longer)) room) refl
+  by_fits head rs id (Some a) = go (reportable a) (leb (head + length (encode_all encode longer)) room) refl
     where
       longer : List ReportRecord
       longer = rs ++ (record_of s id a ∷ [])
@@ -76,7 +75,7 @@ module _ (form : ℕ) (s : List ℕ) (room : ℕ) where
       go true true e = leb-true _ _ e
       go true false e = tt
       go false b e = tt
-  by_fits head rs id Nothing = tt
+  by_fits head rs id None = tt
 
   turn_fits : (head : ℕ) (y : Reported) (id : ℕ) → Fit head y → Unit {0} → Fit head (report_one form s room head y id)
   turn_fits head (all rs) id h u = by_fits head rs id (find_of form s (name_of 0 id))

@@ -1,4 +1,5 @@
 -- What a request made of bytes configures, and what a turn over bytes marks, is within the widths of a table's bytes. Assumes nothing.
+use Rattle.std.specs.Prelude.{None, Option, Some}
 use mathlib.Core.Path.{◌≡◌, refl, subst}
 use mathlib.Core.Bool.{Bool, true, false, cond, ◌&&◌}
 use mathlib.Core.List.{List, [], ◌∷◌, ◌++◌}
@@ -10,17 +11,12 @@ use lib.Pow.{pow_mono}
 use lib.IntN.{pos}
 use lib.Signed.{mag}
 use borrow.Author.Tests.{leb-true}
-use Rattle.types.specs.declared.ids.Size.{Size}
-use Rattle.types.specs.declared.ids.Size.TheVariants as SizeV
-use Rattle.types.specs.declared.value.Number.TheVariants.{Value, None}
 use Rattle.types.specs.Number.{AllBytes, unsigned_at, signed_at}
 use Rattle.types.specs.Ids.{size_of, is_analog, is_signed, is_float}
 use Rattle.types.specs.Value.{plain_at, number_by, number_at, change_by, change_at}
 use Rattle.types.proofs.Numbers.{bytes_drop, unsigned_below}
 use Rattle.types.proofs.Readings.{signed_in, magnitude_within}
 use Rattle.frame.specs.declared.header.ZclHeader.{ZclHeader}
-use Rattle.frame.specs.declared.header.HeaderRead.{HeaderRead}
-use Rattle.frame.specs.declared.header.HeaderRead.TheVariants.{Header, Short}
 use Rattle.frame.specs.declared.command_identifier.CommandIdentifier.TheVariants.{ConfigureReporting}
 use Rattle.frame.specs.Header.{frame_type_of, header_of, is_global}
 use Rattle.frame.specs.CommandIdentifier.{command_code}
@@ -68,17 +64,17 @@ fit_either false es h = tt
 
 -- ---- a record's numbers
 
-change-by : (x : Size) (signed float : Bool) (s : List ℕ) (p : ℕ) → AllBytes s → change_by x signed float s p < 2 ^ 64
-change-by (SizeV.Bytes w) true float s p h =
+change-by : (x : Option ℕ) (signed float : Bool) (s : List ℕ) (p : ℕ) → AllBytes s → change_by x signed float s p < 2 ^ 64
+change-by (Some w) true float s p h =
     let m = magnitude_within s p (min w 8) h in
     let q : 2 ^ (8 * min w 8 - 1) ≤ 2 ^ 63 = pow_mono {i = 8 * min w 8 - 1} {j = 63} (omega arith) in
     omega arith
-change-by (SizeV.Bytes w) false true s p h = omega arith
-change-by (SizeV.Bytes w) false false s p h =
+change-by (Some w) false true s p h = omega arith
+change-by (Some w) false false s p h =
     let m = unsigned_below s p (min w 8) h in
     let q : 2 ^ (8 * min w 8) ≤ 2 ^ 64 = pow_mono {i = 8 * min w 8} {j = 64} (omega arith) in
     omega arith
-change-by SizeV.Varies signed float s p h = omega arith
+change-by None signed float s p h = omega arith
 
 change_below : (s : List ℕ) (p t : ℕ) → AllBytes s → cond (is_analog t) (change_at s p t) 0 < 2 ^ 64
 unfolding change_at
@@ -144,9 +140,9 @@ module _ (s : List ℕ) (store : AllBytes s) (h : ZclHeader) where
   configure_fits limit l body room b = configure_keeps 8 limit s h AllFit Fitting tt fit_append record_fits l body room (records_fit body b)
 
 module _ (limit : ℕ) (r : Request) (l : List Entry) (store : AllBytes r.store) (frame : AllBytes r.frame) where
-  headed_fits : (x : HeaderRead) → AllFit (headed_events limit r l x)
-  headed_fits Short = tt
-  headed_fits (Header h) =
+  headed_fits : (x : Option ZclHeader) → AllFit (headed_events limit r l x)
+  headed_fits None = tt
+  headed_fits (Some h) =
       fit_either (is_global (frame_type_of h.frame_control.0) && eqb h.command_identifier.0 (command_code ConfigureReporting)) _
       (configure_fits r.store store h limit l (drop h.body r.frame) r.room (bytes_drop r.frame h.body frame))
 
@@ -174,11 +170,11 @@ plain_fits s p w h k = go (leb w 7) refl
         omega arith
     go false e = signed_fits s p 8 h (omega arith)
 
-number_fits : (x : Size) (signed : Bool) (s : List ℕ) (p : ℕ) → AllBytes s → mag (or_zero (numbered_by (number_by x signed s p))) < 2 ^ 63
-number_fits SizeV.Varies signed s p h = omega arith
-number_fits (SizeV.Bytes w) signed s p h = go (leb w 8) refl signed
+number_fits : (x : Option ℕ) (signed : Bool) (s : List ℕ) (p : ℕ) → AllBytes s → mag (or_zero (numbered_by (number_by x signed s p))) < 2 ^ 63
+number_fits None signed s p h = omega arith
+number_fits (Some w) signed s p h = go (leb w 8) refl signed
   where
-    go : (b : Bool) → leb w 8 ≡ b → (signed : Bool) → mag (or_zero (numbered_by (cond b (Value (cond signed (signed_at s p w) (plain_at s p w))) None))) < 2 ^ 63
+    go : (b : Bool) → leb w 8 ≡ b → (signed : Bool) → mag (or_zero (numbered_by (cond b (Some (cond signed (signed_at s p w) (plain_at s p w))) None))) < 2 ^ 63
     go true e true = signed_fits s p w h (leb-true w 8 e)
     go true e false = plain_fits s p w h (leb-true w 8 e)
     go false e signed = omega arith

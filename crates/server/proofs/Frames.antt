@@ -1,4 +1,5 @@
 -- Demand 3 with frames: what a request configures, the record's rule accepts. Assumes nothing.
+use Rattle.std.specs.Prelude.{None, Option, Some}
 use mathlib.Core.Path.{◌≡◌, refl, sym, ap, ◌∙◌, subst}
 use mathlib.Core.Bool.{Bool, true, false, cond, ◌&&◌}
 use mathlib.Core.List.{List, [], ◌∷◌, ◌++◌, append_assoc}
@@ -6,8 +7,6 @@ use Prim.Native.Nat.{ℕ}
 use lib.ListN.{drop}
 use lib.Dec.{eqb}
 use Rattle.frame.specs.declared.header.ZclHeader.{ZclHeader}
-use Rattle.frame.specs.declared.header.HeaderRead.{HeaderRead}
-use Rattle.frame.specs.declared.header.HeaderRead.TheVariants.{Header, Short}
 use Rattle.frame.specs.declared.command_identifier.CommandIdentifier.TheVariants.{ConfigureReporting}
 use Rattle.frame.specs.Header.{frame_type_of, header_of, is_global}
 use Rattle.frame.specs.CommandIdentifier.{command_code}
@@ -72,9 +71,9 @@ ruled_either true es d = d
 ruled_either false es d = tt
 
 module _ (limit : ℕ) (r : Request) (l : List Entry) where
-  headed_ruled : (x : HeaderRead) → Ruled (headed_events limit r l x)
-  headed_ruled Short = tt
-  headed_ruled (Header h) =
+  headed_ruled : (x : Option ZclHeader) → Ruled (headed_events limit r l x)
+  headed_ruled None = tt
+  headed_ruled (Some h) =
       ruled_either (is_global (frame_type_of h.frame_control.0) && eqb h.command_identifier.0 (command_code ConfigureReporting)) _
       (configure_keeps 8 limit r.store h Ruled (λ x. Unit {0}) tt ruled_append (λ x u. record_ruled r.store h x) l (drop h.body r.frame) r.room
       (any (configures (drop h.body r.frame)).list))

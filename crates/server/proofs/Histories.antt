@@ -1,5 +1,6 @@
 -- A served request is its events, and leaves a table of entries again; so requests, direct calls and turns, one after the other, are their events.
 -- Assumes nothing.
+use Rattle.std.specs.Prelude.{None, Option, Some}
 use mathlib.Core.Path.{◌≡◌, refl, sym, ap, ◌∙◌, subst}
 use mathlib.Core.Bool.{Bool, true, false, cond, ◌&&◌}
 use mathlib.Core.List.{List, [], ◌∷◌}
@@ -10,8 +11,6 @@ use lib.Dec.{eqb}
 use borrow.Author.Tests.{ne_eqb}
 use denote.Enum.Declared.{tag_of}
 use Rattle.frame.specs.declared.header.ZclHeader.{ZclHeader}
-use Rattle.frame.specs.declared.header.HeaderRead.{HeaderRead}
-use Rattle.frame.specs.declared.header.HeaderRead.TheVariants.{Header, Short}
 use Rattle.frame.specs.declared.header.FrameType.{FrameType}
 use Rattle.frame.specs.declared.header.FrameType.TheVariants.{GlobalCommand, ClusterCommand, Reserved}
 use Rattle.frame.specs.declared.command_identifier.CommandIdentifier.{CommandIdentifier}
@@ -85,10 +84,10 @@ module _ (limit : ℕ) (r : Request) (l : List Entry) where
     by_type ClusterCommand = nothing limit l
     by_type Reserved = nothing limit l
 
-  by-header : (x : HeaderRead) → Leads limit (headed_events limit r l x) l (entries_of (by_header 8 limit r.store (holding l) r.unicast r.frame r.room x).state.table)
+  by-header : (x : Option ZclHeader) → Leads limit (headed_events limit r l x) l (entries_of (by_header 8 limit r.store (holding l) r.unicast r.frame r.room x).state.table)
   unfolding by_header
-  by-header (Header h) = by_type h (frame_type_of h.frame_control.0)
-  by-header Short = nothing limit l
+  by-header (Some h) = by_type h (frame_type_of h.frame_control.0)
+  by-header None = nothing limit l
 
   -- A REQUEST IS ITS EVENTS
   pub request_is : Leads limit (request_events limit r l) l (requested limit r l)

@@ -1,4 +1,5 @@
 -- Two laws of every request and of the responder: neither control bits 3 to 7 nor the manufacturer code affect the answer. Assumes nothing.
+use Rattle.std.specs.Prelude.{None, Option, Some}
 use mathlib.Core.Path.{◌≡◌, refl, sym, ap, ◌∙◌}
 use mathlib.Core.Bool.{Bool, true, false, cond, ◌&&◌}
 use mathlib.Core.List.{List, ◌∷◌}
@@ -8,8 +9,6 @@ use lib.ListN.{length, get_or, drop}
 use lib.Dec.{leb, eqb}
 use borrow.Author.Tests.{leb-true, leb-false, le-leb, lt-leb, eq-eqb, ne_eqb}
 use Rattle.frame.specs.declared.header.ZclHeader.{ZclHeader}
-use Rattle.frame.specs.declared.header.HeaderRead.{HeaderRead}
-use Rattle.frame.specs.declared.header.HeaderRead.TheVariants.{Header, Short}
 use Rattle.frame.specs.declared.header.FrameType.{FrameType}
 use Rattle.frame.specs.declared.header.FrameType.TheVariants.{GlobalCommand, ClusterCommand, Reserved}
 use Rattle.frame.specs.declared.command_identifier.CommandIdentifier.TheVariants.{DefaultResponse}
@@ -59,9 +58,9 @@ two_more n = go (leb 2 n) refl
 
 -- ---- whatever is made of a frame, if it goes by the frame's type, the bare header and the body
 
-module _ {X : Type 0} (made : List ℕ → HeaderRead → X) (by : FrameType → ZclHeader → List ℕ → X) (short : X)
-    (sees : (frame : List ℕ) (h : ZclHeader) → made frame (Header h) ≡ by (frame_type_of h.frame_control.0) (bare h) (drop h.body frame))
-    (cut : (frame : List ℕ) → made frame Short ≡ short) where
+module _ {X : Type 0} (made : List ℕ → Option ZclHeader → X) (by : FrameType → ZclHeader → List ℕ → X) (short : X)
+    (sees : (frame : List ℕ) (h : ZclHeader) → made frame (Some h) ≡ by (frame_type_of h.frame_control.0) (bare h) (drop h.body frame))
+    (cut : (frame : List ℕ) → made frame None ≡ short) where
   -- a frame by what lies behind its control byte: past a code of so many bytes, sequence, command, body
   abbrev behind : FrameType → ℕ → List ℕ → X
   behind k n rest = cond (leb (n + 2) (length rest)) (by k (numbered (get_or rest n 0) (get_or rest (n + 1) 0)) (drop (n + 2) rest)) short
@@ -117,11 +116,11 @@ module _ (form limit : ℕ) (s : List ℕ) where
     served_by k h body = typed form limit s t unicast h body room k
 
     request_sees : (frame : List ℕ) (h : ZclHeader)
-        → by_header form limit s t unicast frame room (Header h) ≡ served_by (frame_type_of h.frame_control.0) (bare h) (drop h.body frame)
+        → by_header form limit s t unicast frame room (Some h) ≡ served_by (frame_type_of h.frame_control.0) (bare h) (drop h.body frame)
     unfolding by_header
     request_sees frame h = typed_sees form limit s t unicast h (drop h.body frame) room (frame_type_of h.frame_control.0)
 
-    request_cut : (frame : List ℕ) → by_header form limit s t unicast frame room Short ≡ refused room HeaderShort (state s t)
+    request_cut : (frame : List ℕ) → by_header form limit s t unicast frame room None ≡ refused room HeaderShort (state s t)
     unfolding by_header
     request_cut frame = refl
 
@@ -155,11 +154,11 @@ module _ (unicast : Bool) (room : ℕ) where
   responded_by k h body =
       cond (is_global k && eqb h.command_identifier.0 (command_code DefaultResponse)) (refused room NothingToSend no_state) (default_response h unicast UnsupportedCluster room)
 
-  response_sees : (frame : List ℕ) (h : ZclHeader) → respond unicast room (Header h) ≡ responded_by (frame_type_of h.frame_control.0) (bare h) (drop h.body frame)
+  response_sees : (frame : List ℕ) (h : ZclHeader) → respond unicast room (Some h) ≡ responded_by (frame_type_of h.frame_control.0) (bare h) (drop h.body frame)
   unfolding respond
   response_sees frame h = ap (cond (is_default_response h) (refused room NothingToSend no_state)) (default_sees UnsupportedCluster refl h unicast room)
 
-  response_cut : (frame : List ℕ) → respond unicast room Short ≡ refused room HeaderShort no_state
+  response_cut : (frame : List ℕ) → respond unicast room None ≡ refused room HeaderShort no_state
   unfolding respond
   response_cut frame = refl
 

@@ -1,4 +1,5 @@
 -- Requests and direct calls under two limits (specs/Claims/Limits.antt): only Configure Reporting looks at the limit. Assumes nothing.
+use Rattle.std.specs.Prelude.{None, Option, Some}
 use mathlib.Core.Path.{◌≡◌, refl, ap, ◌∙◌}
 use mathlib.Core.Bool.{cond}
 use mathlib.Core.List.{List, [], ◌∷◌}
@@ -7,8 +8,6 @@ use native.Mathlib.Omega.{arith}
 use lib.ListN.{length, drop}
 use lib.Dec.{eqb}
 use Rattle.frame.specs.declared.header.ZclHeader.{ZclHeader}
-use Rattle.frame.specs.declared.header.HeaderRead.{HeaderRead}
-use Rattle.frame.specs.declared.header.HeaderRead.TheVariants.{Header, Short}
 use Rattle.frame.specs.declared.header.FrameType.{FrameType}
 use Rattle.frame.specs.declared.header.FrameType.TheVariants.{GlobalCommand, ClusterCommand, Reserved}
 use Rattle.frame.specs.declared.command_identifier.CommandIdentifier.{CommandIdentifier}
@@ -54,17 +53,17 @@ module _ (small large : ℕ) (order : small ≤ large) (r : Request) (l : List E
   by_command x DiscoverAttributesResponse w = refl
   by_command x (Other b) w = refl
 
-  by_type : (x : ZclHeader) (k : FrameType) → header_of r.frame ≡ Header x → frame_type_of x.frame_control.0 ≡ k
+  by_type : (x : ZclHeader) (k : FrameType) → header_of r.frame ≡ Some x → frame_type_of x.frame_control.0 ≡ k
       → typed 8 small r.store (holding l) r.unicast x (drop x.body r.frame) r.room k ≡ typed 8 large r.store (holding l) r.unicast x (drop x.body r.frame) r.room k
   unfolding typed
   by_type x GlobalCommand p q = by_command x (command_of x.command_identifier.0) (λ c. h x (record { header = p; global = q; command = c }))
   by_type x ClusterCommand p q = refl
   by_type x Reserved p q = refl
 
-  by-header : (x : HeaderRead) → header_of r.frame ≡ x → by_header 8 small r.store (holding l) r.unicast r.frame r.room x ≡ by_header 8 large r.store (holding l) r.unicast r.frame r.room x
+  by-header : (x : Option ZclHeader) → header_of r.frame ≡ x → by_header 8 small r.store (holding l) r.unicast r.frame r.room x ≡ by_header 8 large r.store (holding l) r.unicast r.frame r.room x
   unfolding by_header
-  by-header (Header x) p = by_type x (frame_type_of x.frame_control.0) p refl
-  by-header Short p = refl
+  by-header (Some x) p = by_type x (frame_type_of x.frame_control.0) p refl
+  by-header None p = refl
 
   served_same : served small r l ≡ served large r l
   unfolding serve tabled

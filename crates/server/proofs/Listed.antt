@@ -1,19 +1,18 @@
 -- A cluster among those that are served, and the ways of the responder. Assumes nothing.
+use Rattle.std.specs.Prelude.{None, Some}
 use mathlib.Core.Path.{◌≡◌, refl, sym, ap, ◌∙◌}
-use mathlib.Core.Bool.{Bool, true, false, ◌&&◌}
+use mathlib.Core.Bool.{Bool, true, false, cond, ◌&&◌, ◌||◌}
 use mathlib.Core.List.{List, [], ◌∷◌}
-use Prim.Native.Nat.{ℕ, ◌+◌, ◌≤◌, ◌<◌}
-use native.Mathlib.Numerals.{add-one}
-use lib.ListN.{length, get_or, drop, drop_of_length-le}
-use lib.Seq.{drop-cons}
-use borrow.Author.Tests.{eq-eqb, ne_eqb}
+use Prim.Native.Nat.{ℕ}
+use lib.Dec.{eqb}
+use Rattle.std.specs.List.{list_any}
+use Rattle.std.proofs.lemmas.List.Recursion.{same_from_clauses}
 use types.Run.{OneOf, miss}
 use denote.Enum.Declared.{tag_of}
 use Rattle.frame.specs.contracts.header.FrameType as frame-type
 use Rattle.frame.specs.Answer.{no_state, refused}
 use Rattle.frame.specs.Header.{is_global, header_of}
 use Rattle.frame.specs.declared.header.ZclHeader.{ZclHeader}
-use Rattle.frame.specs.declared.header.HeaderRead.TheVariants.{Header, Short}
 use Rattle.frame.specs.declared.header.FrameType.{FrameType}
 use Rattle.frame.specs.declared.header.FrameType.TheVariants.{GlobalCommand, ClusterCommand, Reserved}
 use Rattle.frame.specs.declared.status.Status.TheVariants.{UnsupportedCluster}
@@ -21,20 +20,15 @@ use Rattle.frame.specs.declared.answer.Refusal.TheVariants.{HeaderShort, Nothing
 use Rattle.server.specs.DefaultResponse.{default_response}
 use Rattle.server.specs.UnsupportedCluster.{is_served, is_default_response, respond, unsupported_cluster}
 
--- ---- the scan: what is left of the list decides as the whole does
+-- ---- the list: the definition is std's test
 
-module _ (wanted : ℕ) (l : List ℕ) (i : ℕ) (so_far : is_served wanted (drop i l) ≡ is_served wanted l) where
-  pub served_here : i < length l → get_or l i 0 ≡ wanted → true ≡ is_served wanted l
-  unfolding is_served
-  served_here h e = sym (rw (drop-cons l i 0 h, eq-eqb (get_or l i 0) wanted e) refl) ∙ so_far
+by_test : (here rest : Bool) → cond here true rest ≡ (here || rest)
+by_test true rest = refl
+by_test false rest = refl
 
-  pub served_further : i < length l → (get_or l i 0 ≡ wanted → ⊥) → is_served wanted (drop (i + 1) l) ≡ is_served wanted l
-  unfolding is_served
-  served_further h e = sym (rw (drop-cons l i 0 h, ne_eqb (get_or l i 0) wanted e, add-one i) refl) ∙ so_far
-
-  pub served_nowhere : length l ≤ i → false ≡ is_served wanted l
-  unfolding is_served
-  served_nowhere h = sym (rw (drop_of_length-le l h) refl) ∙ so_far
+pub served_any : (wanted : ℕ) (l : List ℕ) → list_any (λ c. eqb c wanted) l ≡ is_served wanted l
+unfolding is_served
+served_any wanted = same_from_clauses _ (is_served wanted) (λ c rest. eqb c wanted || rest) refl (λ _ _. refl) (λ c rest. by_test (eqb c wanted) (is_served wanted rest))
 
 -- ---- the responder
 
@@ -54,11 +48,11 @@ module _ (served : List ℕ) (cluster : ℕ) (unicast : Bool) (frame : List ℕ)
     unfolding unsupported_cluster
     responds = rw other
 
-    pub respond_short : header_of frame ≡ Short → refused room HeaderShort no_state ≡ unsupported_cluster served cluster unicast frame room
+    pub respond_short : header_of frame ≡ None → refused room HeaderShort no_state ≡ unsupported_cluster served cluster unicast frame room
     unfolding respond
     respond_short e = sym (ap (respond unicast room) e) ∙ responds
 
-    module _ (h : ZclHeader) (e : header_of frame ≡ Header h) where
+    module _ (h : ZclHeader) (e : header_of frame ≡ Some h) where
       pub respond_never : is_default_response h ≡ true → refused room NothingToSend no_state ≡ unsupported_cluster served cluster unicast frame room
       unfolding respond
       respond_never q = sym (ap (respond unicast room) e ∙ rw q refl) ∙ responds

@@ -1,4 +1,5 @@
 -- A log of the server and of the table's methods (specs/Claims/LogExample.antt), computed: it meets all that demand 3 of the server supposes. Assumes nothing.
+use Rattle.std.specs.Prelude.{Ok}
 use mathlib.Core.Path.{refl, sym, subst}
 use mathlib.Core.Logic.{inr}
 use mathlib.Core.List.{List, []}
@@ -7,7 +8,6 @@ use Rattle.types.specs.Number.{all_zero, le, bytes_of, unsigned_at, signed_of, s
 use Rattle.types.specs.Ids.{size_of, shape_of, is_analog, is_signed, is_float}
 use Rattle.types.specs.Value.{change_at}
 use Rattle.types.specs.Extent.{upto, count}
-use Rattle.frame.specs.declared.answer.Answer.TheVariants.{Reply}
 use Rattle.frame.specs.Header.{frame_type_of, header_of, reply_head}
 use Rattle.frame.specs.CommandIdentifier.{command_of}
 use Rattle.frame.specs.Reply.{padded}
@@ -56,5 +56,5 @@ log_supposed = (
 pub log_promised : Promised g 59 (asks_of key told)
 log_promised =
     subst (λ (es : List Event). Promised g 59 (asks_of key es)) log_events.1
-    (demand_3_of_server (table_with []) before configuring (record { table = configured_table; answer = Reply 4 }) (padded 64 accepted) (T 0x07) after [] key g [] 59 log_stands.0 log_stands.1 log_events.0 log_supposed.0 log_supposed.1
+    (demand_3_of_server (table_with []) before configuring (record { table = configured_table; answer = Ok 4 }) (padded 64 accepted) (T 0x07) after [] key g [] 59 log_stands.0 log_stands.1 log_events.0 log_supposed.0 log_supposed.1
     (subst (Supposed key 59) (sym log_events.1) log_supposed.2))

@@ -1,4 +1,6 @@
 -- A request's checks, one by one; and the same request over bytes that carry its table, and over a table by value. Assumes nothing.
+use Rattle.std.proofs.Common.{rules}
+use Rattle.std.specs.Prelude.{None, Option, Result, Some, IsSome}
 use mathlib.Core.Path.{◌≡◌, refl, sym, ap, ◌∙◌}
 use mathlib.Core.Bool.{Bool, true, false, cond, false≢true}
 use mathlib.Core.List.{List, map}
@@ -7,8 +9,8 @@ use lib.ListN.{length, take}
 use lib.Dec.{leb}
 use borrow.Author.Tests.{eq-eqb, ne_eqb, lt-ltb, leb-true, leb-false}
 use Rattle.types.specs.Number.{AllBytes}
-use Rattle.frame.specs.declared.header.HeaderRead.{HeaderRead}
-use Rattle.frame.specs.declared.answer.Answer.{Answer}
+use Rattle.frame.specs.declared.header.ZclHeader.{ZclHeader}
+use Rattle.frame.specs.declared.answer.Refusal.{Refusal}
 use Rattle.frame.specs.declared.answer.Refusal.TheVariants.{OtherCluster, NotAStore, NotATable}
 use Rattle.frame.specs.Header.{header_of}
 use Rattle.frame.specs.Answer.{within, no_state, seen, refused}
@@ -17,7 +19,7 @@ use Rattle.store.specs.Contents.{cluster_of}
 use Rattle.store.specs.Layout.{is_store}
 use Rattle.reporting.specs.declared.entry.Entry.{Entry}
 use Rattle.reporting.specs.declared.table.ReportingTable.{ReportingTable}
-use Rattle.reporting.specs.declared.carried.ReadTable.{ReadTable}
+use Rattle.reporting.specs.declared.table.ReportingTable.{ReportingTable}
 use Rattle.reporting.specs.Table.{capacity, Table, bad, live, table_of, holding}
 use Rattle.reporting.specs.Carried.{quieted, is_table, table_in, table_bytes, Reading, reading, read_t, Written, written, write_t, table_length}
 use Rattle.reporting.specs.Carried as Carried
@@ -40,13 +42,13 @@ module _ (s : List ℕ) (l : List Entry) (cluster : ℕ) (unicast : Bool) (frame
     unfolding serve tabled
     serve_other q = rw (store, ne_eqb cluster (cluster_of s) (λ p. q (is ∙ sym p)))
 
-    pub serve_read : own ≡ cluster → (r : HeaderRead) → r ≡ header_of frame → by_header 8 capacity s (holding l) unicast frame n r ≡ serve 8 capacity s (holding l) cluster unicast frame n
+    pub serve_read : own ≡ cluster → (r : Option ZclHeader) → r ≡ header_of frame → by_header 8 capacity s (holding l) unicast frame n r ≡ serve 8 capacity s (holding l) cluster unicast frame n
     unfolding serve tabled
     serve_read q r e = ap (by_header 8 capacity s (holding l) unicast frame n) e ∙ rw (store, eq-eqb cluster (cluster_of s) (sym q ∙ is))
 
 -- ---- over bytes of which it is known whether they are a table
 
-module _ (s bs : List ℕ) (cluster : ℕ) (unicast : Bool) (frame : List ℕ) (n : ℕ) (known : Bool) (a : Answer) (d : List ℕ) where
+module _ (s bs : List ℕ) (cluster : ℕ) (unicast : Bool) (frame : List ℕ) (n : ℕ) (known : Bool) (a : Result ℕ Refusal) (d : List ℕ) where
   pub over_no_store : is_store 8 s ≡ false → (known ≡ true → is_table capacity bs ≡ true) → seen a d no_state ≡ refused n NotAStore no_state
       → OverBytes known s bs cluster unicast frame n a d s bs
   over_no_store h is e =
@@ -70,7 +72,7 @@ module _ (s bs : List ℕ) (cluster : ℕ) (unicast : Bool) (frame : List ℕ) (
 
 -- ---- over bytes
 
-module _ (s bs : List ℕ) (cluster : ℕ) (unicast : Bool) (frame : List ℕ) (n : ℕ) (a : Answer) (d : List ℕ) where
+module _ (s bs : List ℕ) (cluster : ℕ) (unicast : Bool) (frame : List ℕ) (n : ℕ) (a : Result ℕ Refusal) (d : List ℕ) where
   -- that are no table
   lent_refused : is_table capacity bs ≡ false → refused n (cond (is_store 8 s) NotATable NotAStore) (lent s bs) ≡ serve_lent s bs cluster unicast frame n
   unfolding serve_lent
@@ -89,6 +91,11 @@ module _ (s bs : List ℕ) (cluster : ℕ) (unicast : Bool) (frame : List ℕ) (
   lent_over false is s' bs' b o = o.fails refl ∙ lent_refused (sym is)
 
 -- ---- over a value
+
+-- bytes that are a table are read as one
+pub read_is_some : (bs : List ℕ) (r : Option ReportingTable) → is_table capacity bs ≡ true → reading r ≡ read_t capacity bs → IsSome r
+read_is_some bs (Some t) h e = search rules
+read_is_some bs None h e = absurd (false≢true (ap (λ (x : Reading). x.known) (e ∙ read_own capacity bs h)))
 
 -- what `write_table` says to bytes of its size
 module _ (t : ReportingTable) (bs : List ℕ) (size : length bs ≡ table_length) (w : Bool) (bs' : List ℕ) (e : written w bs' ≡ write_t capacity t bs) where
@@ -110,7 +117,7 @@ module _ (t : ReportingTable) (bs : List ℕ) (size : length bs ≡ table_length
   pub was_written : w ≡ true → t.count ≤ capacity
   was_written q = leb-true t.count capacity (sym is_written ∙ q)
 
-module _ (s : List ℕ) (t : ReportingTable) (cluster : ℕ) (unicast : Bool) (frame : List ℕ) (n : ℕ) (a : Answer) (d : List ℕ) where
+module _ (s : List ℕ) (t : ReportingTable) (cluster : ℕ) (unicast : Bool) (frame : List ℕ) (n : ℕ) (a : Result ℕ Refusal) (d : List ℕ) where
   refused_bad : (u : ReportingTable) → refused n (cond (is_store 8 s) NotATable NotAStore) (state s (bad u)) ≡ serve 8 capacity s (bad u) cluster unicast frame n
   unfolding serve tabled
   refused_bad u = go (is_store 8 s)
@@ -131,8 +138,8 @@ module _ (s : List ℕ) (t : ReportingTable) (cluster : ℕ) (unicast : Bool) (f
   -- that is one: as its bytes, and the table read from them afterwards
   pub value_served : t.count ≤ capacity → (bs : List ℕ) → read_t capacity bs ≡ Carried.table_read true (map quieted (live t))
       → (s' bs' : List ℕ) → is_table capacity bs' ≡ true → seen a d (state s' (holding (table_in bs'))) ≡ serve 8 capacity s (holding (table_in bs)) cluster unicast frame n
-      → (r : ReadTable) → reading r ≡ read_t capacity bs' → seen a d (state s' (table_of r.table)) ≡ serve 8 capacity s (quieted_t (table_of t)) cluster unicast frame n
-  value_served small bs c s' bs' is' e r g =
+      → (u : ReportingTable) → reading (Some u) ≡ read_t capacity bs' → seen a d (state s' (table_of u)) ≡ serve 8 capacity s (quieted_t (table_of t)) cluster unicast frame n
+  value_served small bs c s' bs' is' e u g =
       ap (λ (x : Reading). seen a d (state s' x.table)) (g ∙ read_own capacity bs' is')
       ∙ e
       ∙ ap (λ (l : List Entry). serve 8 capacity s (holding l) cluster unicast frame n) (read_is capacity bs (map quieted (live t)) c).1

@@ -1,4 +1,5 @@
 -- How every reply starts: by the head that it is written behind. Assumes nothing.
+use Rattle.std.specs.Prelude.{Option, Some}
 use mathlib.Core.Path.{◌≡◌, refl, sym, subst}
 use mathlib.Core.Bool.{Bool}
 use mathlib.Core.List.{List}
@@ -7,8 +8,6 @@ use lib.ListN.{drop}
 use Rattle.frame.specs.declared.header.ZclHeader.{ZclHeader}
 use Rattle.frame.specs.declared.header.FrameType.{FrameType}
 use Rattle.frame.specs.declared.header.FrameType.TheVariants.{GlobalCommand, ClusterCommand, Reserved}
-use Rattle.frame.specs.declared.header.HeaderRead.{HeaderRead}
-use Rattle.frame.specs.declared.header.HeaderRead.TheVariants.{Header}
 use Rattle.frame.specs.declared.command_identifier.CommandIdentifier.TheVariants.{ReportAttributes, DefaultResponse}
 use Rattle.frame.specs.declared.answer.Refusal.TheVariants.{ReservedFrameType}
 use Rattle.frame.specs.CommandIdentifier.{command_of}
@@ -36,14 +35,14 @@ module _ (form limit : ℕ) (s : List ℕ) (cluster : ℕ) (unicast : Bool) (fra
   typed_says l body ClusterCommand = shape_says _ room _ (unsupported_shape form limit s l unicast h body room)
   typed_says l body Reserved = declines ReservedFrameType refl
 
-  module _ (e : header_of frame ≡ Header h) where
+  module _ (e : header_of frame ≡ Some h) where
     abbrev head : List ℕ
     head = head_by (frame_type_of h.frame_control.0)
 
     header-says : (l : List Entry) → Says head room (by_header form limit s (holding l) unicast frame room (header_of frame))
     unfolding by_header
     header-says l =
-        subst (λ (r : HeaderRead). Says head room (by_header form limit s (holding l) unicast frame room r)) (sym e) (typed_says l (drop h.body frame) (frame_type_of h.frame_control.0))
+        subst (λ (r : Option ZclHeader). Says head room (by_header form limit s (holding l) unicast frame room r)) (sym e) (typed_says l (drop h.body frame) (frame_type_of h.frame_control.0))
 
     pub request-says : (t : Table) → Says head room (serve form limit s t cluster unicast frame room)
     request-says = passed_case form limit s unicast room (λ t o. Says head room o) (λ t why e. declines why refl) cluster frame header-says
@@ -56,7 +55,7 @@ replies_start form limit s t cluster unicast frame room h e = says_starts h _ ro
 pub responses_start : ResponsesStart
 responses_start served cluster unicast frame room h e =
     says_starts h DefaultResponse room _
-    (subst (λ (r : HeaderRead). Says (head_of r) room (unsupported_cluster served cluster unicast frame room)) e (responder_says served cluster unicast frame room))
+    (subst (λ (r : Option ZclHeader). Says (head_of r) room (unsupported_cluster served cluster unicast frame room)) e (responder_says served cluster unicast frame room))
 
 pub reports_start : ReportsStart
 reports_start form s sequence ids room = says_starts (unasked sequence) ReportAttributes room _ (report-says form s room sequence ids)

@@ -1,8 +1,6 @@
 -- Definitions. A request served (document 01, "What a call says back" and "Commands, step by step"; ZCL 2.5).
-use Rattle.std.specs.Prelude.{ℕ, Bool, cond, List, drop, eqb}
+use Rattle.std.specs.Prelude.{ℕ, Bool, cond, List, drop, eqb, None, Option, Some}
 use Rattle.frame.specs.declared.header.ZclHeader.{ZclHeader}
-use Rattle.frame.specs.declared.header.HeaderRead.{HeaderRead}
-use Rattle.frame.specs.declared.header.HeaderRead.TheVariants.{Header, Short}
 use Rattle.frame.specs.declared.header.FrameType.{FrameType}
 use Rattle.frame.specs.declared.header.FrameType.TheVariants.{GlobalCommand, ClusterCommand, Reserved}
 use Rattle.frame.specs.declared.command_identifier.CommandIdentifier.{CommandIdentifier}
@@ -69,9 +67,9 @@ typed form limit s t unicast h body room ClusterCommand = unsupported s t unicas
 typed form limit s t unicast h body room Reserved = refused room ReservedFrameType (state s t)
 
 -- by its header: a short one is 2
-unfoldable pub by_header : ℕ → ℕ → List ℕ → Table → Bool → List ℕ → ℕ → HeaderRead → Outcome State
-by_header form limit s t unicast frame room (Header h) = typed form limit s t unicast h (drop h.body frame) room (frame_type_of h.frame_control.0)
-by_header form limit s t unicast frame room Short = refused room HeaderShort (state s t)
+unfoldable pub by_header : ℕ → ℕ → List ℕ → Table → Bool → List ℕ → ℕ → Option ZclHeader → Outcome State
+by_header form limit s t unicast frame room (Some h) = typed form limit s t unicast h (drop h.body frame) room (frame_type_of h.frame_control.0)
+by_header form limit s t unicast frame room None = refused room HeaderShort (state s t)
 
 -- for a table; a count above the limit is 8, another cluster 1
 unfoldable pub tabled : ℕ → ℕ → List ℕ → ℕ → Bool → List ℕ → ℕ → Table → Outcome State

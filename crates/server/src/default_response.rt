@@ -6,14 +6,14 @@ ghost use Rattle.server.specs.DefaultResponse.{silences, default_response};
 use frame::answer::{Answer, Refusal, refuse};
 use frame::command_identifier::CommandIdentifier;
 use frame::header::{FrameControl, ZclHeader, begin_reply};
-use frame::reply::{Put, put_run};
+use frame::reply::put_run;
 use frame::status::Status;
 
 // Whether a control byte silences a Default Response: by bit 4, and only a SUCCESS.
 fn is_silenced(control: FrameControl, status: Status) -> bool
     ensures { result ≡ silences control.0 status }
 {
-    control.0 / 16 % 2 == 1 && status.to_u8() == 0
+    control.0 / 16 % 2 == 1 && status == Status::Success
 }
 
 // A Default Response to a request: nothing to send where it was not unicast, or where bit 4 silences a SUCCESS.
@@ -31,14 +31,13 @@ pub fn default_response(
     if is_silenced(request.frame_control, status) {
         return refuse(reply, Refusal::NothingToSend);
     }
-    let begun = begin_reply(reply, request, CommandIdentifier::DefaultResponse);
-    let Put::At(from) = begun else {
+    let Some(from) = begin_reply(reply, request, CommandIdentifier::DefaultResponse) else {
         return refuse(reply, Refusal::ReplyTooLong);
     };
     let of = request.command_identifier;
-    let two = [of.0, status.to_u8()];
-    let Put::At(n) = put_run(reply, from, &two) else {
+    let two = [of.0, u8::from(status)];
+    let Some(n) = put_run(reply, from, &two) else {
         return refuse(reply, Refusal::ReplyTooLong);
     };
-    Answer::Reply(n)
+    Ok(n)
 }

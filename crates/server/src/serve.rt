@@ -17,10 +17,11 @@ use configure::configure::configure_reporting;
 use discover::attributes::discover_attributes;
 use frame::answer::{Answer, Refusal, refuse};
 use frame::command_identifier::CommandIdentifier;
-use frame::header::{FrameType, HeaderRead, ZclHeader, read_header};
+use frame::header::{FrameType, ZclHeader, read_header};
 use frame::status::Status;
 use read::attributes::read_attributes;
 use reporting::carried::{TABLE_BYTES, is_table, read_table, write_table};
+use reporting::held::TableMut;
 use reporting::table::ReportingTable;
 use store::layout::is_store;
 use store::lookup::cluster_of;
@@ -39,19 +40,16 @@ pub struct Served {
 // A global command: one of the seven, or UNSUP_COMMAND; and nothing to a Default Response, which is never answered by another.
 fn global_command(
     store: &mut [u8],
-    table: &mut [u8],
+    table: &mut TableMut<'_>,
     request: ZclHeader,
     body: &[u8],
     unicast: bool,
     reply: &mut [u8],
 ) -> Answer
-    requires { is_table capacity table.old ≡ true }
-    ensures stays_table { is_table capacity table.new ≡ true }
-    ensures answered { seen result reply.new (state store.new (holding (table_in table.new))) ≡ commanded 8 capacity store.old (holding (table_in table.old)) unicast request body.now (length reply.old) (command_of request.command_identifier.0) }
+    ensures same_reference { table.new.bytes.ghost_name ≡ table.old.bytes.ghost_name }
+    ensures answered { seen result reply.new (state store.new (holding (table_in table.new.bytes.now))) ≡ commanded 8 capacity store.old (holding (table_in table.old.bytes.now)) unicast request body.now (length reply.old) (command_of request.command_identifier.0) }
 {
-    let number = request.command_identifier;
-    let command = CommandIdentifier::from_bits(number.0);
-    match command {
+    match CommandIdentifier::from(request.command_identifier.0) {
         CommandIdentifier::ReadAttributes => read_attributes(store, request, body, reply),
         CommandIdentifier::WriteAttributes => write_attributes(store, request, body, reply),
         CommandIdentifier::WriteAttributesUndivided => {
@@ -64,7 +62,7 @@ fn global_command(
             configure_reporting(store, table, request, body, reply)
         }
         CommandIdentifier::ReadReportingConfiguration => {
-            read_reporting_configuration(store, table, request, body, reply)
+            read_reporting_configuration(store, table.read(), request, body, reply)
         }
         CommandIdentifier::DiscoverAttributes => discover_attributes(store, request, body, reply),
         CommandIdentifier::DefaultResponse => refuse(reply, Refusal::NothingToSend),
@@ -75,15 +73,14 @@ fn global_command(
 // By the frame's type: no cluster command is known. The global one is told first: of a match with three arms the compiler makes a slower test.
 fn serve_frame(
     store: &mut [u8],
-    table: &mut [u8],
+    table: &mut TableMut<'_>,
     request: ZclHeader,
     body: &[u8],
     unicast: bool,
     reply: &mut [u8],
 ) -> Answer
-    requires { is_table capacity table.old ≡ true }
-    ensures stays_table { is_table capacity table.new ≡ true }
-    ensures answered { seen result reply.new (state store.new (holding (table_in table.new))) ≡ typed 8 capacity store.old (holding (table_in table.old)) unicast request body.now (length reply.old) (frame_type_of request.frame_control.0) }
+    ensures same_reference { table.new.bytes.ghost_name ≡ table.old.bytes.ghost_name }
+    ensures answered { seen result reply.new (state store.new (holding (table_in table.new.bytes.now))) ≡ typed 8 capacity store.old (holding (table_in table.old.bytes.now)) unicast request body.now (length reply.old) (frame_type_of request.frame_control.0) }
 {
     let kind = request.frame_control.frame_type();
     let FrameType::GlobalCommand = kind else {
@@ -115,15 +112,16 @@ fn serve_known(
     if !known {
         return refuse(reply, Refusal::NotATable);
     }
+    let mut held = TableMut { bytes: table };
     let own = cluster_of(store);
     if own.0 != cluster.0 {
         return refuse(reply, Refusal::OtherCluster);
     }
-    let HeaderRead::Header(h) = read_header(request) else {
+    let Some(h) = read_header(request) else {
         return refuse(reply, Refusal::HeaderShort);
     };
     let start = h.body;
-    serve_frame(store, table, h, &request[start..], unicast, reply)
+    serve_frame(store, &mut held, h, &request[start..], unicast, reply)
 }
 
 // Serves a request over a table that is lent as bytes. They are checked once; then Configure Reporting and Read Reporting Configuration work on
@@ -160,8 +158,7 @@ pub fn handle_request(
     if !known {
         return Served { answer, table };
     }
-    let back = read_table(&bytes);
-    let after = back.table;
+    let after = read_table(&bytes).unwrap();
     Served {
         answer,
         table: after,

@@ -1,4 +1,5 @@
 -- Two writes to attributes of different names leave the same bytes in either order (document 02, request 4). Assumes nothing.
+use Rattle.std.specs.Prelude.{Option, Result}
 use Prim.Native.Nat.{ℕ, suc, ◌+◌, ◌≤◌, ◌<◌}
 use mathlib.Core.Path.{◌≡◌, refl, sym, ap, ◌∙◌}
 use mathlib.Core.Bool.{Bool, true, false}
@@ -9,8 +10,7 @@ use lib.Seq.{set_comm, sets}
 use lib.Dec.{ltb}
 use borrow.Author.Tests.{ltb-true, ltb-false}
 use Rattle.store.specs.declared.lookup.Attribute.{Attribute}
-use Rattle.store.specs.declared.lookup.Found.{Found}
-use Rattle.store.specs.declared.write.Checked.{Checked}
+use Rattle.frame.specs.declared.status.Status.{Status}
 use Rattle.store.specs.Contents.{find_of}
 use Rattle.store.specs.Layout.{is_store}
 use Rattle.store.specs.Value.{fitted, stored}
@@ -55,17 +55,17 @@ module _ (form : ℕ) (s : List ℕ) (h : is_store form s ≡ true) where
           sym (stored_stored s b a w v (bodies_apart form s b a h q p (omega arith)))
 
   module _ (name other : ℕ) (differ : name ≡ other → ⊥) (t u : ℕ) (v w : List ℕ) (val : IsValue t v) (second : IsValue u w) (wide : 8 ≤ form) where
-    abbrev first : Checked
+    abbrev first : Result Attribute Status
     first = check_of (find_of form s name) t v
 
-    abbrev then : Checked
+    abbrev then : Result Attribute Status
     then = check_of (find_of form s other) u w
 
     -- the second write finds what it would have found before the first
     in_turn : (name other t u : ℕ) (v w : List ℕ) → IsValue t v
         → (write_of form (write_of form s name t v).store other u w).store ≡ (write_by (write_by s (check_of (find_of form s name) t v) v).store (check_of (find_of form s other) u w) w).store
     unfolding write_of
-    in_turn name other t u v w val = ap (λ (f : Found). (write_by (write_of form s name t v).store (check_of f u w) w).store) (write_find form s name t v h val wide other)
+    in_turn name other t u v w val = ap (λ (f : Option Attribute). (write_by (write_of form s name t v).store (check_of f u w) w).store) (write_find form s name t v h val wide other)
 
     both : (a b : Attribute) → Passes (find_of form s name) t v a → Passes (find_of form s other) u w b → stored (stored s a v) b w ≡ stored (stored s b w) a v
     both a b p q =

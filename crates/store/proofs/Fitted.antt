@@ -1,52 +1,68 @@
--- Laws of a value laid into its room, byte after byte. Assumes nothing.
-use Prim.Native.Nat.{ℕ, zero, suc, ◌+◌, ◌-◌, ◌≤◌, ◌<◌}
+-- Laws of a value laid into its room, as far as the store goes. Assumes nothing.
+use Prim.Native.Nat.{ℕ, zero, suc, ◌+◌, ◌-◌, ◌≤◌, ◌<◌, min}
 use mathlib.Core.Path.{◌≡◌, refl, ap, sym, ◌∙◌}
 use mathlib.Core.List.{List, [], ◌∷◌, ◌++◌}
+use mathlib.Core.Logic.{◌⊎◌, inl, inr}
 use native.Mathlib.Omega.{arith}
-use native.Mathlib.Numerals.{add-one}
-use lib.ListN.{get_or, take, drop, set}
-use lib.Seq.{sets, get_or-drop, drop-drop}
-use native.Mathlib.Nat.{add-zero, sub-zero}
+use lib.ListN.{length, get_or, take, drop, set, length-set, length-take}
+use lib.Seq.{sets, get_or-take}
+use Rattle.std.proofs.Common.{length-append}
+use Rattle.std.proofs.lemmas.List.{length-replicate, ext_get_or}
+use Rattle.std.proofs.lemmas.Bool.{cases_lt}
 use Rattle.types.specs.Number.{zeros}
+use Rattle.types.proofs.Numbers.{sets_out}
+use Rattle.frame.proofs.Buffer.{mid_sets}
 use Rattle.store.specs.declared.lookup.Attribute.{Attribute}
 use Rattle.store.specs.Value.{fitted, stored}
 
--- zeros behind that are not taken do not matter
-take_enough : (n m : ℕ) (v : List ℕ) → n ≤ m → take n (v ++ zeros m) ≡ take n (v ++ zeros n)
-take_enough zero m v h = refl
-take_enough (suc n) zero v h = absurd (omega arith)
-take_enough (suc n) (suc m) [] h = ap (λ r. 0 ∷ r) (take_enough n m [] (omega arith))
-take_enough (suc n) (suc m) (x ∷ v) h = ap (λ r. x ∷ r) (take_enough n (suc m) v (omega arith) ∙ sym (take_enough n (suc n) v (omega arith)))
+-- zeros behind a value read as what is past its end
+zeros_at : (m k : ℕ) → get_or (zeros m) k 0 ≡ 0
+zeros_at zero k = refl
+zeros_at (suc m) zero = refl
+zeros_at (suc m) (suc k) = zeros_at m k
 
--- the first byte of a value, 0 where there is none, and then the rest
-fitted_next : (n : ℕ) (v : List ℕ) → fitted (suc n) v ≡ get_or v 0 0 ∷ fitted n (drop 1 v)
+padded_at : (v : List ℕ) (m k : ℕ) → get_or (v ++ zeros m) k 0 ≡ get_or v k 0
+padded_at [] m k = zeros_at m k
+padded_at (x ∷ v) m zero = refl
+padded_at (x ∷ v) m (suc k) = padded_at v m k
+
+length_fitted : (n : ℕ) (v : List ℕ) → length (fitted n v) ≡ n
 unfolding fitted
-fitted_next n [] = refl
-fitted_next n (x ∷ v) = ap (λ r. x ∷ r) (take_enough n (suc n) v (omega arith))
+length_fitted n v = simp (length-take, length-append, length-replicate) (omega arith)
 
--- what is left of a value from byte i on
-abbrev pub left : ℕ → List ℕ → ℕ → List ℕ
-left room v i = fitted (room - i) (drop i v)
-
-pub left_next : (room : ℕ) (v : List ℕ) (i : ℕ) → i < room → left room v i ≡ get_or v i 0 ∷ left room v (i + 1)
-left_next room v i h =
-    let e : room - i ≡ suc (room - (i + 1)) = omega arith in
-    let d : drop 1 (drop i v) ≡ drop (i + 1) v = drop-drop 1 i v in
-    let g : get_or (drop i v) 0 0 ≡ get_or v i 0 = get_or-drop i v 0 0 ∙ ap (λ k. get_or v k 0) (add-zero i) in
-    ap (λ n. fitted n (drop i v)) e ∙ fitted_next (room - (i + 1)) (drop i v) ∙ ap (λ b. b ∷ fitted (room - (i + 1)) (drop 1 (drop i v))) g
-    ∙ ap (λ l. get_or v i 0 ∷ fitted (room - (i + 1)) l) d
-
--- one byte laid, or none left to lay
-pub lay_next : (s : List ℕ) (p room : ℕ) (v : List ℕ) (i : ℕ) → i < room → sets s p (left room v i) ≡ sets (set s p (get_or v i 0)) (p + 1) (left room v (i + 1))
-lay_next s p room v i h = ap (sets s p) (left_next room v i h) ∙ ap (λ k. sets (set s p (get_or v i 0)) k (left room v (i + 1))) (sym (add-one p))
-
-pub lay_done : (s : List ℕ) (p room : ℕ) (v : List ℕ) (i : ℕ) → room ≤ i → sets s p (left room v i) ≡ s
+-- n bytes, each that of a value at its place, or 0 where there is none
+fitted_from : (n : ℕ) (v l : List ℕ) → length l ≡ n → ((k : ℕ) → k < n → get_or l k 0 ≡ get_or v k 0) → l ≡ fitted n v
 unfolding fitted
-lay_done s p room v i h =
-    let e : room - i ≡ 0 = omega arith in
-    ap (λ n. sets s p (fitted n (drop i v))) e
+fitted_from n v l e h =
+    ext_get_or 0 l (fitted n v) (e ∙ sym (length_fitted n v))
+    (λ k b. h k (omega arith) ∙ sym (get_or-take n (v ++ zeros n) k 0 (omega arith) ∙ padded_at v n k))
 
--- laid from the first byte on, it is stored
-pub stored_all : (s : List ℕ) (a : Attribute) (v : List ℕ) → sets s a.offset (left a.room v 0) ≡ stored s a v
+-- a part of the room has the start of what the whole has
+fitted_part : (n room : ℕ) (v : List ℕ) → n ≤ room → take n (fitted room v) ≡ fitted n v
+unfolding fitted
+fitted_part n room v h =
+    fitted_from n v (take n (fitted room v))
+    (simp (length-take, length-append, length-replicate) (omega arith))
+    (λ k b. get_or-take n (fitted room v) k 0 b ∙ get_or-take room (v ++ zeros room) k 0 (omega arith) ∙ padded_at v room k)
+
+-- what would lie past the end is not laid
+sets_cut : (n : ℕ) (xs s : List ℕ) (p : ℕ) → min (length xs) (length s - p) ≤ n → sets s p (take n xs) ≡ sets s p xs
+sets_cut zero [] s p h = refl
+sets_cut zero (x ∷ xs) s p h = sym (sets_out (x ∷ xs) s p (omega arith))
+sets_cut (suc n) [] s p h = refl
+sets_cut (suc n) (x ∷ xs) s p h = sets_cut n xs (set s p x) (suc p) (omega (arith, length-set {A = ℕ}))
+
+-- THE LAW: a value laid into as much of its room as there is, is stored
+pub stored_part : (s : List ℕ) (a : Attribute) (v l : List ℕ) (from end : ℕ) → from ≡ min a.offset (length s) → end ≡ min (from + a.room) (length s)
+    → length l ≡ end - from → ((k : ℕ) → k < end - from → get_or l k 0 ≡ get_or v k 0) → take from s ++ (l ++ drop (end - from) (drop from s)) ≡ stored s a v
 unfolding stored
-stored_all s a v = ap (λ n. sets s a.offset (fitted n v)) (sub-zero a.room)
+stored_part s a v l from end f e n h =
+    mid_sets s l from (end - from) n (omega arith)
+    ∙ ap (sets s from) (fitted_from (end - from) v l n h ∙ sym (fitted_part (end - from) a.room v (omega arith)))
+    ∙ go (cases_lt a.offset (length s))
+  where
+    go : (a.offset < length s) ⊎ (length s ≤ a.offset) → sets s from (take (end - from) (fitted a.room v)) ≡ sets s a.offset (fitted a.room v)
+    go (inl h) =
+        let here : from ≡ a.offset = omega arith in
+        ap (λ p. sets s p (take (end - from) (fitted a.room v))) here ∙ sets_cut (end - from) (fitted a.room v) s a.offset (omega (arith, length_fitted a.room v))
+    go (inr h) = sets_out (take (end - from) (fitted a.room v)) s from (omega arith) ∙ sym (sets_out (fitted a.room v) s a.offset h)

@@ -3,7 +3,7 @@ pub mod Contents  -- the attributes as a list, and the one of a name
 pub mod Scan  -- the scan for a name, one attribute after the other
 pub mod Layouts  -- when bytes are a store, condition by condition
 pub mod Placed  -- where the attributes of a store lie
-pub mod Fitted  -- a value laid into its room, byte after byte
+pub mod Fitted  -- a value laid into its room, as far as the store goes
 pub mod Stored  -- what a written value leaves
 pub mod Writes  -- the four checks, and what a write leaves
 pub mod Commute  -- two writes in either order

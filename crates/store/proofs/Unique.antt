@@ -1,29 +1,29 @@
 -- No second answer fits a contract: one theorem for each public function, of two results and exit buffers that meet it at the same
 -- entry values. Assumes nothing.
+use Rattle.std.specs.Prelude.{ℤ, Err, Ok, Result}
 use Prim.Native.Nat.{ℕ}
 use mathlib.Core.Path.{◌≡◌, sym, ap, ◌∙◌}
 use mathlib.Core.List.{List}
 use Rattle.store.specs.Value.{Telling, telling}
 use Rattle.store.specs.Write.{Wrote, wrote}
-use Rattle.store.specs.declared.value.Numbered.{Numbered}
+use Rattle.frame.specs.declared.answer.Refusal.{Refusal}
 use Rattle.frame.specs.declared.status.Status.{Status}
 use native.Mathlib.Omega.{arith}
 use Rattle.frame.proofs.Codes.{refusal_same, refusal_nonzero}
-use Rattle.store.specs.declared.value.Numbered.TheVariants.{Is, Refused}
 use Rattle.store.specs.Claims.Unique.{PartOnce, IsTextOnce, TextLengthOnce, IsStoreOnce, NameOfOnce, ClusterOfOnce, CountOfOnce, AttributeAtOnce}
 use Rattle.store.specs.Claims.Unique.{IsReportableOnce, FindOnce, ValueOfOnce, WriteValueOnce, NumberOfOnce, CheckWriteOnce, WriteOnce}
 
 -- the laws of what a contract sees
 
 -- what is said of a number tells which it is
-pub telling_same : (a b : Numbered) → telling a ≡ telling b → a ≡ b
+pub telling_same : (a b : Result ℤ Refusal) → telling a ≡ telling b → a ≡ b
 telling_same a b p = go a b (ap (λ (x : Telling). x.answer) p) (ap (λ (x : Telling). x.value) p)
   where
-    go : (a b : Numbered) → (telling a).answer ≡ (telling b).answer → (telling a).value ≡ (telling b).value → a ≡ b
-    go (Is y) (Is z) n v = ap Is v
-    go (Is y) (Refused w) n v = absurd (omega (arith, refusal_nonzero w))
-    go (Refused u) (Is z) n v = absurd (omega (arith, refusal_nonzero u))
-    go (Refused u) (Refused w) n v = ap Refused (refusal_same u w n)
+    go : (a b : Result ℤ Refusal) → (telling a).answer ≡ (telling b).answer → (telling a).value ≡ (telling b).value → a ≡ b
+    go (Ok y) (Ok z) n v = ap Ok v
+    go (Ok y) (Err w) n v = absurd (omega (arith, refusal_nonzero w))
+    go (Err u) (Ok z) n v = absurd (omega (arith, refusal_nonzero u))
+    go (Err u) (Err w) n v = ap Err (refusal_same u w n)
 
 -- what a write leaves tells its status and the store
 pub wrote_same : (a b : Status) (s t : List ℕ) → wrote a s ≡ wrote b t → (a ≡ b) × (s ≡ t)

@@ -12,35 +12,27 @@ pub fn part(s: &[u8], from: usize, n: usize) -> &[u8]
     ensures { result.now ≡ take n (drop from s.now) }
 {
     if s.len() <= from {
-        return &s[..0];
+        return &[];
     }
-    if s.len() - from < n {
-        return &s[from..];
-    }
-    let end = from + n;
-    &s[from..end]
+    let rest = &s[from..];
+    &rest[..n.min(rest.len())]
 }
 
 // Whether an attribute's values are strings with a length byte: octet or character strings.
 pub fn is_text(a: Attribute) -> bool
     ensures { result ≡ is_text a }
 {
-    let code = a.type_id.0;
-    match code {
-        TypeId::OCTET_STRING | TypeId::CHARACTER_STRING => true,
-        _ => false,
-    }
+    matches!(a.type_id.0, TypeId::OCTET_STRING | TypeId::CHARACTER_STRING)
 }
 
 // How many bytes the first byte of a body counts; ff counts none.
 pub fn text_length(s: &[u8], a: Attribute) -> usize
     ensures { result ≡ text_length s.now a }
 {
-    let n = byte_at(s, a.offset as usize) as usize;
-    if n == 0xff {
-        return 0;
+    match byte_at(s, a.offset as usize) {
+        0xff => 0,
+        n => n as usize,
     }
-    n
 }
 
 // Whether a type may stand in a store and has the room that it must have; of a string, too, whether its length fits the room, in
@@ -54,10 +46,7 @@ fn body_ok(s: &[u8], a: Attribute) -> bool
         Shape::Fixed(w) => 1 <= w && w <= 16 && room == w,
         Shape::Text => {
             let used = 1 + text_length(s, a);
-            if room < used || 255 < room {
-                return false;
-            }
-            all_zero(part(s, a.offset as usize + used, room - used))
+            room <= 255 && used <= room && all_zero(part(s, a.offset as usize + used, room - used))
         }
         _ => false,
     }
@@ -67,17 +56,7 @@ fn body_ok(s: &[u8], a: Attribute) -> bool
 fn entry_ok(s: &[u8], a: Attribute, least: usize, from: usize) -> bool
     ensures { result ≡ entry_ok s.now least from a }
 {
-    let name = a.name;
-    if (name.0 as usize) < least {
-        return false;
-    }
-    if 4 <= a.access {
-        return false;
-    }
-    if a.offset as usize != from {
-        return false;
-    }
-    body_ok(s, a)
+    least <= a.name.0 as usize && a.access < 4 && a.offset as usize == from && body_ok(s, a)
 }
 
 // Whether the bytes are a store. Bytes that end within the contents are none, so the loop has whole entries before it.
@@ -88,21 +67,18 @@ pub fn is_store(s: &[u8]) -> bool
     if 64 < n {
         return false;
     }
-    let mut i: u16 = 0;
     let mut least: usize = 0;
     let mut from = 4 + (n as usize) * 8;
     if s.len() < from {
         return false;
     }
-    while i < n {
+    for i in 0..n {
         let a = attribute_in(s, i);
         if !entry_ok(s, a, least, from) {
             return false;
         }
-        let name = a.name;
-        least = name.0 as usize + 1;
-        from = from + a.room as usize;
-        i += 1;
+        least = a.name.0 as usize + 1;
+        from += a.room as usize;
     }
     from == s.len() && from <= 4096
 }

@@ -1,8 +1,7 @@
 // The attributes that a store's contents list, and the one of a name. Each public function answers for any bytes; past their end they
 // read as 0.
-ghost use Rattle.std.specs.Prelude.{◌≡◌, ◌+◌, ◌*◌, ◌≤◌, length};
+ghost use Rattle.std.specs.Prelude.{◌≡◌, ◌+◌, ◌*◌, ◌≤◌, ◌<◌, ℕ, length};
 ghost use Rattle.store.specs.Contents.{cluster_of, count_of, attribute_at, reportable, name_of, find_of};
-ghost use Rattle.store.specs.Inside.{found_at};
 
 use super::layout::part;
 use frame::header::ManufacturerCode;
@@ -23,11 +22,8 @@ pub struct Attribute {
     pub room: u16,
 }
 
-#[derive(Clone, Copy)]
-pub enum Found {
-    At(Attribute),
-    Nothing,
-}
+// What a lookup gives: the attribute, if the contents list one of the name. An `Option` under the name that document 01 has for it.
+pub type Found = Option<Attribute>;
 
 // The name that a request's manufacturer code and an id make.
 pub fn name_of(code: ManufacturerCode, id: AttributeId) -> Name
@@ -36,14 +32,14 @@ pub fn name_of(code: ManufacturerCode, id: AttributeId) -> Name
     Name(id.0 as u32)
 }
 
-// The cluster that a store belongs to. Where its two bytes are there, they are lent as such: neither is asked again whether it is.
+// The cluster that a store belongs to. Where its two bytes are there, they are read as such: neither is asked again whether it is.
 pub fn cluster_of(s: &[u8]) -> ClusterId
     ensures { result.0 ≡ cluster_of s.now }
 {
-    if s.len() < 2 {
-        return ClusterId(u16_at(s, 0));
-    }
-    ClusterId(u16_at(&s[0..2], 0))
+    ClusterId(match s.first_chunk() {
+        Some(two) => u16::from_le_bytes(*two),
+        None => u16_at(s, 0),
+    })
 }
 
 // How many attributes the contents list.
@@ -112,36 +108,17 @@ fn name_in(s: &[u8], i: usize) -> u32
     s[p] as u32 + 256 * (s[p + 1] as u32)
 }
 
-// The number of the first of n attributes of a name, or n where none has it. Not public: all n entries must be there, so that no
-// byte is asked whether it is.
-fn place_in(s: &[u8], n: u16, wanted: u32) -> u16
-    requires n_in_bounds { 4 + n * 8 ≤ length s.now }
-    requires n_value { n ≡ count_of s.now }
-    ensures { find_of 8 s.now wanted ≡ found_at 8 s.now result }
+// The number of the first of n attributes of a name, or n where none has it. `name` reads the name of one, by its number.
+fn place<F: Fn(u16) -> u32>(n: u16, wanted: u32, name: F) -> u16
+    requires { (i : ℕ) → i < n → F.pre name i }
+    ensures within { result ≤ n }
+    ensures hit { result < n → F.post name result wanted }
+    ensures passed { (k : ℕ) → k < result → (r : ℕ) × F.post name k r × (r ≡ wanted → ⊥) }
 {
-    let end = n as usize;
-    let mut i: usize = 0;
-    while i < end {
-        if name_in(s, i) == wanted {
-            return i as u16;
-        }
-        i += 1;
-    }
-    n
-}
-
-// The same of contents that are cut.
-fn place_cut(s: &[u8], n: u16, wanted: u32) -> u16
-    requires { n ≡ count_of s.now }
-    ensures { find_of 8 s.now wanted ≡ found_at 8 s.now result }
-{
-    let mut i: u16 = 0;
-    while i < n {
-        let here = name_at(s, i);
-        if here.0 == wanted {
+    for i in 0..n {
+        if name(i) == wanted {
             return i;
         }
-        i += 1;
     }
     n
 }
@@ -151,11 +128,11 @@ fn find_cut(s: &[u8], n: u16, wanted: u32) -> Found
     requires { n ≡ count_of s.now }
     ensures { result ≡ find_of 8 s.now wanted }
 {
-    let i = place_cut(s, n, wanted);
+    let i = place(n, wanted, |i| name_at(s, i).0);
     if n <= i {
-        return Found::Nothing;
+        return None;
     }
-    Found::At(attribute_at(s, i))
+    Some(attribute_at(s, i))
 }
 
 // The attribute of a name. It is read here, where it is wanted: the scan hands back a number, and no attribute goes through memory.
@@ -166,9 +143,9 @@ pub fn find(s: &[u8], name: Name) -> Found
     if s.len() < 4 + (n as usize) * 8 {
         return find_cut(s, n, name.0);
     }
-    let i = place_in(s, n, name.0);
+    let i = place(n, name.0, |i| name_in(s, i as usize));
     if n <= i {
-        return Found::Nothing;
+        return None;
     }
-    Found::At(attribute_in(s, i))
+    Some(attribute_in(s, i))
 }

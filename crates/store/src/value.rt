@@ -3,19 +3,20 @@ ghost use Rattle.std.specs.Prelude.{◌≡◌};
 ghost use Rattle.store.specs.Value.{used_of, value_of, stored, telling, number_of};
 
 use super::layout::{is_store, is_text, part, text_length};
-use super::lookup::{Attribute, Found, Name, find};
+use super::lookup::{Attribute, Name, find};
 use frame::answer::Refusal;
 use types::number::byte_at;
-use types::value::{Number, number_at};
+use types::value::number_at;
 
 // How many bytes of a body are sent.
 fn used_of(s: &[u8], a: Attribute) -> usize
     ensures { result ≡ used_of s.now a }
 {
     if is_text(a) {
-        return 1 + text_length(s, a);
+        1 + text_length(s, a)
+    } else {
+        a.room as usize
     }
-    a.room as usize
 }
 
 // The bytes of a value that are sent; a string's unused bytes never are.
@@ -26,42 +27,24 @@ pub fn value_of(s: &[u8], a: Attribute) -> &[u8]
     part(s, a.offset as usize, n)
 }
 
-// Writes a value into its body, and zeros behind it up to the room.
+// Writes a value into its body, and zeros behind it up to the room: past its end, a byte is 0.
 pub fn write_value(s: &mut [u8], a: Attribute, value: &[u8])
     ensures { s.new ≡ stored s.old a value.now }
 {
-    let mut p = a.offset as usize;
-    let mut i = 0;
-    let room = a.room as usize;
-    while i < room {
-        if s.len() <= p {
-            return;
-        }
-        s[p] = byte_at(value, i);
-        p += 1;
-        i += 1;
+    let from = (a.offset as usize).min(s.len());
+    let end = (from + a.room as usize).min(s.len());
+    for (i, b) in s[from..end].iter_mut().enumerate() {
+        *b = byte_at(value, i);
     }
-}
-
-// The number of a value, or why there is none.
-#[derive(Clone, Copy)]
-pub enum Numbered {
-    Is(i64),
-    Refused(Refusal),
 }
 
 // The number of the value of the attribute of a name: 7, then 9.
-pub fn number_of(s: &[u8], name: Name) -> Numbered
+pub fn number_of(s: &[u8], name: Name) -> Result<i64, Refusal>
     ensures { telling result ≡ telling (number_of 8 s.now name.0) }
 {
     if !is_store(s) {
-        return Numbered::Refused(Refusal::NotAStore);
+        return Err(Refusal::NotAStore);
     }
-    let Found::At(a) = find(s, name) else {
-        return Numbered::Refused(Refusal::NoNumber);
-    };
-    let Number::Value(z) = number_at(s, a.offset as usize, a.type_id) else {
-        return Numbered::Refused(Refusal::NoNumber);
-    };
-    Numbered::Is(z)
+    let a = find(s, name).ok_or(Refusal::NoNumber)?;
+    number_at(s, a.offset as usize, a.type_id).ok_or(Refusal::NoNumber)
 }

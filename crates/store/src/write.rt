@@ -4,18 +4,11 @@ ghost use Rattle.store.specs.Contents.{find_of};
 ghost use Rattle.store.specs.Write.{too_long, check_of, wrote, write_of};
 
 use super::layout::is_text;
-use super::lookup::{Attribute, Found, Name, find};
+use super::lookup::{Attribute, Name, find};
 use super::value::write_value;
 use frame::status::Status;
 use types::ids::TypeId;
 use types::number::byte_at;
-
-// The attribute that a value may be written to, or the status that says why not.
-#[derive(Clone, Copy)]
-pub enum Checked {
-    Fine(Attribute),
-    Failed(Status),
-}
 
 // Whether a string does not fit its room with its length byte; ff does.
 fn too_long(a: Attribute, value: &[u8]) -> bool
@@ -31,24 +24,23 @@ fn too_long(a: Attribute, value: &[u8]) -> bool
     (a.room as usize) < 1 + n as usize
 }
 
-// The four checks of a write, in order: not found, not writable, other type, too long.
-pub fn check_write(s: &[u8], name: Name, type_id: TypeId, value: &[u8]) -> Checked
+// The attribute that a value may be written to, by the four checks, in order: not found, not writable, other type, too long.
+pub fn check_write(s: &[u8], name: Name, type_id: TypeId, value: &[u8]) -> Result<Attribute, Status>
     ensures { result ≡ check_of (find_of 8 s.now name.0) type_id.0 value.now }
 {
-    let Found::At(a) = find(s, name) else {
-        return Checked::Failed(Status::UnsupportedAttribute);
+    let Some(a) = find(s, name) else {
+        return Err(Status::UnsupportedAttribute);
     };
     if a.access % 2 != 1 {
-        return Checked::Failed(Status::ReadOnly);
+        return Err(Status::ReadOnly);
     }
-    let own = a.type_id;
-    if own.0 != type_id.0 {
-        return Checked::Failed(Status::InvalidDataType);
+    if a.type_id != type_id {
+        return Err(Status::InvalidDataType);
     }
     if too_long(a, value) {
-        return Checked::Failed(Status::InvalidValue);
+        return Err(Status::InvalidValue);
     }
-    Checked::Fine(a)
+    Ok(a)
 }
 
 // Writes a value if the checks pass, and says how they went.
@@ -57,10 +49,10 @@ pub fn write(s: &mut [u8], name: Name, type_id: TypeId, value: &[u8]) -> Status
 {
     let checked = check_write(s, name, type_id, value);
     match checked {
-        Checked::Fine(a) => {
+        Ok(a) => {
             write_value(s, a, value);
             Status::Success
         }
-        Checked::Failed(why) => why,
+        Err(why) => why,
     }
 }

@@ -1,19 +1,22 @@
 -- Signed numbers as the machine holds them, against the definitions over the width. Assumes nothing.
 use Prim.Native.Nat.{ℕ, suc, ◌+◌, ◌-◌, ◌*◌, ◌%◌, ◌^◌, ◌≤◌, ◌<◌, min}
 use mathlib.Core.Path.{◌≡◌, refl, ap, sym, ◌∙◌}
+use mathlib.Core.Logic.{inl, inr}
 use mathlib.Core.Bool.{Bool, true, false, true≢false, false≢true}
 use native.Mathlib.Omega.{arith}
-use native.Mathlib.Nat.{one-mul, mod-eq_of_lt}
-use lib.Pow.{pow_pos, pow_mono, pow-lt}
+use native.Mathlib.Nat.{add-mul, suc-mul, mul-le-mul_right, mul-lt-mul_of_pos_right}
+use lib.Pow.{pow_pos, pow-add}
 use lib.Dec.{T, ltb, leb-zero}
 use lib.IntN.{ℤ, pos, negsuc, nat_abs}
-use lib.Signed.{mag, le_z, non_neg}
+use lib.Signed.{mag, mag_shr, le_z, non_neg, shr_z}
 use borrow.Author.Tests.{ltb-true, ltb-false}
 use mir.Syntax.{w64}
 use mir.Val.{Fits, SFits, to_z, of_z}
 use mir.Facts.{to_z-of_z, to_z_pos, to_z-neg}
+use Rattle.std.proofs.lemmas.Bool.{cases_lt}
+use Rattle.std.proofs.lemmas.Nat.{shl-shr, shl_whole, shr_high}
 use Rattle.types.specs.Number.{signed_of}
-use Rattle.types.proofs.Numbers.{pow_half, signed_low, signed_high}
+use Rattle.types.proofs.Numbers.{signed_low, signed_high}
 
 -- a signed answer of a call, handed on: `came_back _ c.F.type_inv`
 pub came_back : (z : ℤ) → mag z < 2 ^ 63 → to_z w64 (of_z w64 z) ≡ z
@@ -30,52 +33,36 @@ bits_are n b = go (ltb n (2 ^ 63)) refl
         let q : n ≡ 2 ^ 64 - suc (2 ^ 64 - suc n) = omega arith in
         ap (to_z w64) q ∙ to_z-neg w64 (2 ^ 64 - suc n) (omega arith) ∙ sym (signed_high 8 n h b)
 
--- all bits turned twice
-pub bits_turned : (n : ℕ) → n < 2 ^ 64 → to_z w64 (18446744073709551615 - (18446744073709551615 - n)) ≡ signed_of 8 n
-bits_turned n b =
-    let q : 18446744073709551615 - (18446744073709551615 - n) ≡ n = omega arith in
-    ap (to_z w64) q ∙ bits_are n b
+-- a number of v bytes, shifted up to the top of 64 bits and down again with its sign
+module _ (v u n : ℕ) (p : 0 < v) (e : 8 * v + u ≡ 64) (f : n < 2 ^ (8 * v)) where
+  half_up : 2 ^ (8 * v - 1) * 2 ^ u ≡ 2 ^ 63
+  half_up =
+      let j : 8 * v - 1 + u ≡ 63 = omega arith in
+      sym (pow-add 2 (8 * v - 1) u) ∙ ap (λ k. 2 ^ k) j
 
--- half the numbers of w bytes, as the shift makes it
-abbrev pub half : ℕ → ℕ
-half w = (1 * 2 ^ (8 * w - 1)) % 18446744073709551616
+  down_low : n < 2 ^ (8 * v - 1) → shr_z (to_z w64 (n * 2 ^ u)) (2 ^ u) ≡ pos n
+  down_low h =
+      let b : n * 2 ^ u < 2 ^ 63 = rw half_up at (mul-lt-mul_of_pos_right {k = 2 ^ u} h (pow_pos u)) in
+      rw (to_z_pos w64 b) (ap pos (shl-shr n u))
 
-module _ (w n : ℕ) (p : w ≡ 0 → ⊥) (b : w < 8) (f : n < 2 ^ (8 * min w 8)) where
-  some_width : 0 < w
-  some_width = omega (arith, p)
+  -- from half on, the bits are as far below the top as the number is below the whole
+  down_high : 2 ^ (8 * v - 1) ≤ n → shr_z (to_z w64 (n * 2 ^ u)) (2 ^ u) ≡ negsuc (2 ^ (8 * v) - suc n)
+  down_high h =
+      let k : ℕ = 2 ^ (8 * v) - suc n in
+      let o : 0 < 2 ^ u = pow_pos u in
+      let all : n + suc k ≡ 2 ^ (8 * v) = omega arith in
+      let up : n * 2 ^ u + suc k * 2 ^ u ≡ 2 ^ 64 = sym (add-mul n (suc k) (2 ^ u)) ∙ ap (λ x. x * 2 ^ u) all ∙ sym (pow-add 2 (8 * v) u) ∙ ap (λ x. 2 ^ x) e in
+      let one : suc k * 2 ^ u ≡ k * 2 ^ u + 2 ^ u = suc-mul k (2 ^ u) in
+      let b : 2 ^ 63 ≤ n * 2 ^ u = rw half_up at (mul-le-mul_right (2 ^ u) h) in
+      let q : n * 2 ^ u ≡ 2 ^ 64 - suc (k * 2 ^ u + (2 ^ u - 1)) = omega arith in
+      ap (λ x. shr_z (to_z w64 x) (2 ^ u)) q
+      ∙ ap (λ z. shr_z z (2 ^ u)) (to_z-neg w64 (k * 2 ^ u + (2 ^ u - 1)) (omega arith))
+      ∙ ap negsuc (shr_high k u (2 ^ u - 1) (omega arith))
 
-  the_width : min w 8 ≡ w
-  the_width = omega arith
-
-  half_is : half w ≡ 2 ^ (8 * w - 1)
-  half_is =
-      let l : 2 ^ (8 * w - 1) < 2 ^ 64 = pow-lt {i = 8 * w - 1} {j = 64} (omega arith) in
-      ap (λ x. x % 18446744073709551616) (one-mul (2 ^ (8 * w - 1))) ∙ mod-eq_of_lt l
-
-  whole : 2 ^ (8 * w) ≡ 2 * 2 ^ (8 * w - 1)
-  whole = pow_half w some_width
-
-  -- what the machine needs of it
-  pub half_fits : (0 < half w) × ((half w ≤ 2 ^ 55) × (n < 2 * half w))
-  half_fits =
-      let f' : n < 2 ^ (8 * w) = rw (the_width) at f in
-      let u : 2 ^ (8 * w - 1) ≤ 2 ^ 55 = pow_mono {i = 8 * w - 1} {j = 55} (omega arith) in
-      let o = pow_pos (8 * w - 1) in
-      rw half_is (omega (arith, whole))
-
-  pub extend_low : n < half w → to_z w64 n ≡ signed_of (min w 8) n
-  extend_low h =
-      let h' : n < 2 ^ (8 * w - 1) = rw half_is at h in
-      to_z_pos w64 {n = n} (omega (arith, half_fits, h)) ∙ rw (the_width) (sym (signed_low w n h'))
-
-  pub extend_high : half w ≤ n → to_z w64 (18446744073709551615 - (half w - 1 + half w - n)) ≡ signed_of (min w 8) n
-  extend_high h =
-      let h' : 2 ^ (8 * w - 1) ≤ n = rw half_is at h in
-      let f' : n < 2 ^ (8 * w) = rw (the_width) at f in
-      let k : half w - 1 + half w - n ≡ 2 ^ (8 * w) - suc n = rw half_is (omega (arith, whole)) in
-      let u = half_fits in
-      let q : 18446744073709551615 - (half w - 1 + half w - n) ≡ 2 ^ 64 - suc (half w - 1 + half w - n) = omega arith in
-      ap (to_z w64) q ∙ to_z-neg w64 (half w - 1 + half w - n) (omega arith) ∙ ap negsuc k ∙ rw (the_width) (sym (signed_high w n h' f'))
+  down : shr_z (to_z w64 ((n * 2 ^ u) % 2 ^ 64)) (2 ^ u) ≡ signed_of v n
+  down =
+      ap (λ x. shr_z (to_z w64 x) (2 ^ u)) (shl_whole n (8 * v) u 64 f (omega arith))
+      ∙ elim (cases_lt n (2 ^ (8 * v - 1))) [ inl h ↦ down_low h ∙ sym (signed_low v n h) | inr h ↦ down_high h ∙ sym (signed_high v n h f) ]
 
 pub extend_none : (w n : ℕ) → w ≡ 0 → n < 2 ^ (8 * min w 8) → pos 0 ≡ signed_of (min w 8) n
 extend_none w n e f =
@@ -84,10 +71,14 @@ extend_none w n e f =
     let z : n ≡ 0 = omega arith in
     rw (m, z) (sym (signed_low 0 0 (omega arith)))
 
-pub extend_all : (w n : ℕ) → 8 ≤ w → signed_of 8 n ≡ signed_of (min w 8) n
-extend_all w n h =
-    let m : min w 8 ≡ 8 = omega arith in
-    rw m refl
+pub extended : (w m n : ℕ) (z : ℤ) → (w ≡ 0 → ⊥) → n < 2 ^ (8 * min w 8) → m ≡ min w 8 → mag z < 2 ^ 63 → z ≡ to_z w64 ((n * 2 ^ (64 - 8 * m)) % 2 ^ 64)
+    → to_z w64 (of_z w64 (shr_z (to_z w64 (of_z w64 z)) (2 ^ (64 - 8 * m)))) ≡ signed_of (min w 8) n
+extended w m n z p f e b q =
+    let i : mag (shr_z z (2 ^ (64 - 8 * m))) ≤ mag z = mag_shr z (2 ^ (64 - 8 * m)) in
+    ap (λ y. to_z w64 (of_z w64 (shr_z y (2 ^ (64 - 8 * m))))) (came_back z b)
+    ∙ came_back (shr_z z (2 ^ (64 - 8 * m))) (omega arith)
+    ∙ ap (λ y. shr_z y (2 ^ (64 - 8 * m))) q
+    ∙ rw e (down (min w 8) (64 - 8 * min w 8) n (omega arith) (omega arith) f)
 
 -- the test `x >= 0` as the machine makes it, on the number read back from its bits
 abbrev at_least0 : ℤ → Bool
@@ -124,9 +115,6 @@ module _ (z : ℤ) (f : SFits w64 z) where
 
   pub flipped_casts : at_least0 z ≡ false → T (non_neg (to_z w64 (18446744073709551615 - of_z w64 z))) × Fits w64 (nat_abs (to_z w64 (18446744073709551615 - of_z w64 z)))
   flipped_casts e = castable (to_z w64 (18446744073709551615 - of_z w64 z)) (mag z) (flipped e) f.sfits
-
-  pub flipped_fits : at_least0 z ≡ false → Fits w64 (nat_abs (to_z w64 (18446744073709551615 - of_z w64 z)) + 1)
-  flipped_fits e = rw (flipped e) (record { fits = omega (arith, f.sfits) })
 
   pub flipped_is : at_least0 z ≡ false → nat_abs (to_z w64 (18446744073709551615 - of_z w64 z)) + 1 ≡ nat_abs z
   flipped_is e = ap (λ y. nat_abs y + 1) (flipped e) ∙ omega arith ∙ sym (ap nat_abs (negative e))

@@ -1,12 +1,11 @@
 -- Rules of the type table, each over all 256 codes at once by computing. Assumes nothing.
+use Rattle.std.specs.Prelude.{None, Option, Some}
 use Prim.Native.Nat.{ℕ, ◌<◌}
 use mathlib.Core.Path.{◌≡◌, sym, subst}
 use mathlib.Core.Bool.{Bool, true, false, not, ◌&&◌}
 use native.Mathlib.Omega.{arith}
 use lib.Dec.{T, leb}
 use Rattle.types.specs.Ids.{size_of, is_analog, is_reportable, is_signed, is_float}
-use Rattle.types.specs.declared.ids.Size.{Size}
-use Rattle.types.specs.declared.ids.Size.TheVariants.{Bytes, Varies}
 use Rattle.types.proofs.Finite.{by_run}
 use Rattle.types.proofs.Sizes.{same_truth}
 
@@ -15,9 +14,9 @@ abbrev pub only : Bool → Bool → Bool
 only true b = b
 only false b = true
 
-abbrev pub within : ℕ → ℕ → Size → Bool
-within a b (Bytes w) = leb a w && leb w b
-within a b Varies = false
+abbrev pub within : ℕ → ℕ → Option ℕ → Bool
+within a b (Some w) = leb a w && leb w b
+within a b None = false
 
 -- every analog type has a change of 1 to 8 bytes
 pub analog_sizes : (t : ℕ) → t < 256 → T (only (is_analog t) (within 1 8 (size_of t)))

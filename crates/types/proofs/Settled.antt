@@ -1,4 +1,5 @@
 -- A cut value is cut only because the slice ends: some bytes behind it settle where it ends, or that it has no extent. Assumes nothing.
+use Rattle.std.specs.Prelude.{Err, Ok, Result}
 use Prim.Native.Nat.{ℕ, zero, suc, ◌+◌, ◌≤◌, ◌<◌}
 use mathlib.Core.Path.{◌≡◌, refl, ap, sym, ◌∙◌, subst}
 use mathlib.Core.List.{List, [], ◌++◌, append_assoc}
@@ -9,8 +10,8 @@ use Rattle.types.specs.Ids.{shape_of}
 use Rattle.types.specs.declared.ids.Shape.{Shape}
 use Rattle.types.specs.declared.ids.Shape.TheVariants.{Fixed, Text, LongText, Series, Structure, Unknown}
 use Rattle.types.specs.Extent.{upto, times, and_then, by_shape, value_at, series, structure, member, count, text, extent_of}
-use Rattle.types.specs.declared.extent.Extent.{Extent}
-use Rattle.types.specs.declared.extent.Extent.TheVariants.{End, Cut, Without}
+use Rattle.types.specs.declared.extent.NoExtent.{NoExtent}
+use Rattle.types.specs.declared.extent.NoExtent.TheVariants.{Cut, Without}
 use Rattle.types.specs.Claims.Settled.{NotCut, ExtentSettled}
 use Rattle.types.proofs.Extents.{upto_in, upto_end}
 use Rattle.types.proofs.Ends.{no_cut}
@@ -18,11 +19,11 @@ use Rattle.types.proofs.Follows.{before_more, count_within, member_follows}
 use Rattle.types.proofs.Stable.{Keeps, keeps_end, keeps_bytes, keeping, behind_keeps, extent_stable, without_stable}
 
 -- some bytes behind s settle what r says of it at p
-abbrev pub Settled : (List ℕ → ℕ → Extent) → List ℕ → ℕ → Type 0
+abbrev pub Settled : (List ℕ → ℕ → Result ℕ NoExtent) → List ℕ → ℕ → Type 0
 Settled r s p = (b : List ℕ) × NotCut (r (s ++ b) p)
 
 -- what r says of a list, it says of a longer one, unless it was cut
-abbrev pub Stays : (List ℕ → ℕ → Extent) → Type 0
+abbrev pub Stays : (List ℕ → ℕ → Result ℕ NoExtent) → Type 0
 Stays r = (s b : List ℕ) (p : ℕ) → Keeps 0 (r s p) (r (s ++ b) p)
 
 upto_settled : (n : ℕ) (s : List ℕ) (p : ℕ) → Settled (λ s p. upto s p n) s p
@@ -32,20 +33,20 @@ upto_settled n s p = (
 )
 
 -- first r, then g, which may look at what r has read
-then_settled : (r : List ℕ → ℕ → Extent) (g : List ℕ → ℕ → Extent) (s : List ℕ) (p : ℕ) → Stays r → Settled r s p
-    → ((b : List ℕ) (q : ℕ) → r (s ++ b) p ≡ End q → Settled g (s ++ b) q) → Settled (λ s p. and_then (r s p) (g s)) s p
+then_settled : (r : List ℕ → ℕ → Result ℕ NoExtent) (g : List ℕ → ℕ → Result ℕ NoExtent) (s : List ℕ) (p : ℕ) → Stays r → Settled r s p
+    → ((b : List ℕ) (q : ℕ) → r (s ++ b) p ≡ Ok q → Settled g (s ++ b) q) → Settled (λ s p. and_then (r s p) (g s)) s p
 then_settled r g s p k h i = go (r (s ++ h.0) p) refl h.1
   where
-    go : (x : Extent) → r (s ++ h.0) p ≡ x → NotCut x → Settled (λ s p. and_then (r s p) (g s)) s p
-    go (End q) e n =
+    go : (x : Result ℕ NoExtent) → r (s ++ h.0) p ≡ x → NotCut x → Settled (λ s p. and_then (r s p) (g s)) s p
+    go (Ok q) e n =
         let j = i h.0 q e in
-        let f : r (s ++ h.0 ++ j.0) p ≡ End q = keeps_end 0 (r (s ++ h.0) p) (r (s ++ h.0 ++ j.0) p) q (k (s ++ h.0) j.0 p) e ∙ ap End (zero-add q) in
+        let f : r (s ++ h.0 ++ j.0) p ≡ Ok q = keeps_end 0 (r (s ++ h.0) p) (r (s ++ h.0 ++ j.0) p) q (k (s ++ h.0) j.0 p) e ∙ ap Ok (zero-add q) in
         let o : NotCut (and_then (r (s ++ h.0 ++ j.0) p) (g (s ++ h.0 ++ j.0))) = subst (λ z. NotCut (and_then z (g (s ++ h.0 ++ j.0)))) (sym f) j.1 in
         (h.0 ++ j.0, subst (λ l. NotCut (and_then (r l p) (g l))) (append_assoc s h.0 j.0) o)
-    go Cut e n = absurd n
-    go Without e n = (h.0, subst (λ z. NotCut (and_then z (g (s ++ h.0)))) (sym e) tt)
+    go (Err Cut) e n = absurd n
+    go (Err Without) e n = (h.0, subst (λ z. NotCut (and_then z (g (s ++ h.0)))) (sym e) tt)
 
-times_settled : (r : List ℕ → ℕ → Extent) → Stays r → ((s : List ℕ) (p : ℕ) → Settled r s p) → (n : ℕ) (s : List ℕ) (p : ℕ) → Settled (λ s p. times (r s) n p) s p
+times_settled : (r : List ℕ → ℕ → Result ℕ NoExtent) → Stays r → ((s : List ℕ) (p : ℕ) → Settled r s p) → (n : ℕ) (s : List ℕ) (p : ℕ) → Settled (λ s p. times (r s) n p) s p
 unfolding times
 times_settled r k h zero s p = ([], tt)
 times_settled r k h (suc n) s p = then_settled r (λ s. times (r s) n) s p k (h s p) (λ b q e. times_settled r k h n (s ++ b) q)
@@ -69,7 +70,7 @@ text_settled n s p =
     let i = upto_settled (count n (s ++ b) p) (s ++ b) q in
     (i.0, subst (λ m. NotCut (upto (s ++ b ++ i.0) q m)) (sym (count_same (s ++ b) i.0 p n (upto_end (s ++ b) p n q e).0)) i.1))
 
-module _ (v : List ℕ → ℕ → ℕ → Extent) (k : (t : ℕ) → Stays (λ s. v s t)) (h : (t : ℕ) (s : List ℕ) (p : ℕ) → Settled (λ s. v s t) s p) where
+module _ (v : List ℕ → ℕ → ℕ → Result ℕ NoExtent) (k : (t : ℕ) → Stays (λ s. v s t)) (h : (t : ℕ) (s : List ℕ) (p : ℕ) → Settled (λ s. v s t) s p) where
   series_settled : (s : List ℕ) (p : ℕ) → Settled (λ s. series s (v s)) s p
   unfolding series
   series_settled s p =
@@ -100,7 +101,7 @@ module _ (v : List ℕ → ℕ → ℕ → Extent) (k : (t : ℕ) → Stays (λ 
       let i = times_settled (λ s. member s (v s)) member_stays member_settled (count 2 (s ++ b) p) (s ++ b) q in
       (i.0, rw (count_same (s ++ b) i.0 p 2 u.0) i.1))
 
-shape_settled : (f : Shape) (a b : List ℕ → ℕ → Extent) (s : List ℕ) (p : ℕ) → Settled a s p → Settled b s p → Settled (λ s p. by_shape s p f (a s p) (b s p)) s p
+shape_settled : (f : Shape) (a b : List ℕ → ℕ → Result ℕ NoExtent) (s : List ℕ) (p : ℕ) → Settled a s p → Settled b s p → Settled (λ s p. by_shape s p f (a s p) (b s p)) s p
 unfolding by_shape
 shape_settled (Fixed n) a b s p ha hb = upto_settled n s p
 shape_settled Text a b s p ha hb = text_settled 1 s p
@@ -111,13 +112,13 @@ shape_settled Unknown a b s p ha hb = ([], tt)
 
 value_settled : (d t : ℕ) (s : List ℕ) (p : ℕ) → Settled (λ s. value_at d s t) s p
 unfolding value_at
-value_settled zero t s p = shape_settled (shape_of t) (λ _ _. Without) (λ _ _. Without) s p ([], tt) ([], tt)
+value_settled zero t s p = shape_settled (shape_of t) (λ _ _. (Err Without)) (λ _ _. (Err Without)) s p ([], tt) ([], tt)
 value_settled (suc d) t s p =
     shape_settled (shape_of t) (λ s. series s (value_at d s)) (λ s. structure s (value_at d s)) s p
     (series_settled (λ s. value_at d s) (λ t s b p. behind_keeps d s b t p) (λ t s p. value_settled d t s p) s p)
     (structure_settled (λ s. value_at d s) (λ t s b p. behind_keeps d s b t p) (λ t s p. value_settled d t s p) s p)
 
-no_without : {A : Type 0} → Cut ≡ Without → A
+no_without : {A : Type 0} → ◌≡◌ {A = Result ℕ NoExtent} (Err Cut) (Err Without) → A
 no_without h = let z : ◌≡◌ {A = ℕ} 0 1 = cc in absurd (omega arith)
 
 -- THE LAW: some bytes behind any slice settle any value
@@ -125,10 +126,10 @@ pub extent_settled : ExtentSettled
 extent_settled s p t = value_settled 15 t s p
 
 -- and a value that is cut with more bytes was cut without them
-pub cut_before : (a b : List ℕ) (p t : ℕ) → extent_of (a ++ b) p t ≡ Cut → extent_of a p t ≡ Cut
+pub cut_before : (a b : List ℕ) (p t : ℕ) → extent_of (a ++ b) p t ≡ Err Cut → extent_of a p t ≡ Err Cut
 cut_before a b p t c = go (extent_of a p t) refl
   where
-    go : (x : Extent) → extent_of a p t ≡ x → x ≡ Cut
-    go (End e) h = no_cut e (sym c ∙ extent_stable a b p t e h)
-    go Cut h = refl
-    go Without h = no_without (sym c ∙ without_stable a b p t h)
+    go : (x : Result ℕ NoExtent) → extent_of a p t ≡ x → x ≡ Err Cut
+    go (Ok e) h = no_cut e (sym c ∙ extent_stable a b p t e h)
+    go (Err Cut) h = refl
+    go (Err Without) h = no_without (sym c ∙ without_stable a b p t h)

@@ -1,4 +1,5 @@
 -- A kind, as a code's arm gives it, is the definition's; and a fixed size is at most 16. Assumes nothing.
+use Rattle.std.specs.Prelude.{None, Some}
 use Prim.Native.Nat.{ℕ, ◌+◌, ◌-◌, ◌≤◌, ◌<◌}
 use mathlib.Core.Path.{◌≡◌, refl, ap, sym, ◌∙◌}
 use mathlib.Core.Bool.{Bool, cond, ◌||◌}
@@ -9,7 +10,6 @@ use borrow.Author.Tests.{ne_eqb}
 use types.Run.{OneOf}
 use Rattle.types.specs.Ids.{size_of}
 use Rattle.types.specs.Ids.{shape_of, shape_by, varied_shape}
-use Rattle.types.specs.declared.ids.Size.TheVariants.{Bytes, Varies}
 use Rattle.types.specs.declared.ids.Shape.{Shape}
 use Rattle.types.specs.declared.ids.Shape.TheVariants.{Fixed, Text, LongText, Series, Structure, Unknown}
 use Rattle.types.proofs.Finite.{run, keys, by_run, by_keys, by_rest, NoneOf, any_key}
@@ -45,21 +45,21 @@ same x y t = sym (ranked_rank x) ∙ ap ranked (eqb→eq (rank x) (rank y) t) �
 abbrev pub right : Shape → ℕ → Bool
 right x t = same_form x (varied_shape t)
 
-pub shape_fixed : (t w : ℕ) → size_of t ≡ Bytes w → Fixed w ≡ shape_of t
+pub shape_fixed : (t w : ℕ) → size_of t ≡ Some w → Fixed w ≡ shape_of t
 unfolding shape_of
 shape_fixed t w e = rw e refl
 
-varied : (x : Shape) (t : ℕ) → size_of t ≡ Varies → T (right x t) → x ≡ shape_of t
+varied : (x : Shape) (t : ℕ) → size_of t ≡ None → T (right x t) → x ≡ shape_of t
 unfolding shape_of
 varied x t e h = same x (varied_shape t) h ∙ ap (λ z. shape_by z t) (sym e)
 
-pub shape_keys : (x : Shape) (ks : List ℕ) → T (keys (right x) ks) → (t : ℕ) → size_of t ≡ Varies → OneOf ks t → x ≡ shape_of t
+pub shape_keys : (x : Shape) (ks : List ℕ) → T (keys (right x) ks) → (t : ℕ) → size_of t ≡ None → OneOf ks t → x ≡ shape_of t
 shape_keys x ks p t e o = varied x t e (by_keys (right x) ks p t o)
 
-pub shape_run : (x : Shape) (a n : ℕ) → T (run (right x) a n) → (t : ℕ) → size_of t ≡ Varies → a ≤ t → t < a + n → x ≡ shape_of t
+pub shape_run : (x : Shape) (a n : ℕ) → T (run (right x) a n) → (t : ℕ) → size_of t ≡ None → a ≤ t → t < a + n → x ≡ shape_of t
 shape_run x a n p t e h b = varied x t e (by_run (right x) a n p t h b)
 
-pub shape_rest : (x : Shape) (kss : List (List ℕ)) (a n : ℕ) → T (run (λ t. any_key kss t || right x t) a n) → (t : ℕ) → size_of t ≡ Varies → a ≤ t → t < a + n → NoneOf kss t → x ≡ shape_of t
+pub shape_rest : (x : Shape) (kss : List (List ℕ)) (a n : ℕ) → T (run (λ t. any_key kss t || right x t) a n) → (t : ℕ) → size_of t ≡ None → a ≤ t → t < a + n → NoneOf kss t → x ≡ shape_of t
 shape_rest x kss a n p t e h b o = varied x t e (by_rest (right x) kss a n p t h b o)
 
 -- a fixed size is at most 16

@@ -1,4 +1,5 @@
 -- A size, as a code's arm gives it, is the definition's. Assumes nothing.
+use Rattle.std.specs.Prelude.{None, Option, Some}
 use Prim.Native.Nat.{ℕ, ◌+◌, ◌≤◌, ◌<◌}
 use mathlib.Core.Path.{◌≡◌, refl, ap, subst}
 use mathlib.Core.Bool.{Bool, true, false, not, ◌||◌}
@@ -9,42 +10,40 @@ use lib.Dec.{T, eqb, eqb→eq}
 use mir.Facts.{or_yes}
 use types.Run.{OneOf}
 use Rattle.types.specs.Ids.{size_of}
-use Rattle.types.specs.declared.ids.Size.{Size}
-use Rattle.types.specs.declared.ids.Size.TheVariants.{Bytes, Varies}
 use Rattle.types.proofs.Finite.{run, keys, by_run, by_keys, by_rest, NoneOf, any_key}
 
-abbrev same_size : Size → Size → Bool
-same_size (Bytes a) (Bytes b) = eqb a b
-same_size (Bytes a) Varies = false
-same_size Varies (Bytes b) = false
-same_size Varies Varies = true
+abbrev same_size : Option ℕ → Option ℕ → Bool
+same_size (Some a) (Some b) = eqb a b
+same_size (Some a) None = false
+same_size None (Some b) = false
+same_size None None = true
 
-same : (x y : Size) → T (same_size x y) → x ≡ y
-same (Bytes a) (Bytes b) t = ap Bytes (eqb→eq a b t)
-same (Bytes a) Varies t = absurd t
-same Varies (Bytes b) t = absurd t
-same Varies Varies t = refl
+same : (x y : Option ℕ) → T (same_size x y) → x ≡ y
+same (Some a) (Some b) t = ap Some (eqb→eq a b t)
+same (Some a) None t = absurd t
+same None (Some b) t = absurd t
+same None None t = refl
 
-abbrev pub right : Size → ℕ → Bool
+abbrev pub right : Option ℕ → ℕ → Bool
 right x t = same_size x (size_of t)
 
-pub size_keys : (x : Size) (ks : List ℕ) → T (keys (right x) ks) → (t : ℕ) → OneOf ks t → x ≡ size_of t
+pub size_keys : (x : Option ℕ) (ks : List ℕ) → T (keys (right x) ks) → (t : ℕ) → OneOf ks t → x ≡ size_of t
 size_keys x ks p t o = same x (size_of t) (by_keys (right x) ks p t o)
 
-pub size_run : (x : Size) (a n : ℕ) → T (run (right x) a n) → (t : ℕ) → a ≤ t → t < a + n → x ≡ size_of t
+pub size_run : (x : Option ℕ) (a n : ℕ) → T (run (right x) a n) → (t : ℕ) → a ≤ t → t < a + n → x ≡ size_of t
 size_run x a n p t h b = same x (size_of t) (by_run (right x) a n p t h b)
 
 -- the size of each code of a kind, by a rule
-pub size_kind : (q : ℕ → Bool) (f : ℕ → Size) (n : ℕ) → T (run (λ t. not (q t) || same_size (f t) (size_of t)) 0 n) → (t : ℕ) → t < n → q t ≡ true → f t ≡ size_of t
+pub size_kind : (q : ℕ → Bool) (f : ℕ → Option ℕ) (n : ℕ) → T (run (λ t. not (q t) || same_size (f t) (size_of t)) 0 n) → (t : ℕ) → t < n → q t ≡ true → f t ≡ size_of t
 size_kind q f n p t b e =
     elim (or_yes (not (q t)) _ (by_run (λ t. not (q t) || same_size (f t) (size_of t)) 0 n p t (omega arith) (omega arith)))
     [ inl x ↦ absurd (subst (λ k. T (not k)) e x) | inr y ↦ same (f t) (size_of t) y ]
 
 -- a code that is no key and not of the kind
-pub size_rest : (q : ℕ → Bool) (kss : List (List ℕ)) (a n : ℕ) → T (run (λ t. any_key kss t || (q t || right Varies t)) a n) → (t : ℕ) → a ≤ t → t < a + n → NoneOf kss t → q t ≡ false → Varies ≡ size_of t
+pub size_rest : (q : ℕ → Bool) (kss : List (List ℕ)) (a n : ℕ) → T (run (λ t. any_key kss t || (q t || right None t)) a n) → (t : ℕ) → a ≤ t → t < a + n → NoneOf kss t → q t ≡ false → None ≡ size_of t
 size_rest q kss a n p t h b o e =
-    elim (or_yes (q t) _ (by_rest (λ t. q t || right Varies t) kss a n p t h b o))
-    [ inl x ↦ absurd (subst T e x) | inr y ↦ same Varies (size_of t) y ]
+    elim (or_yes (q t) _ (by_rest (λ t. q t || right None t) kss a n p t h b o))
+    [ inl x ↦ absurd (subst T e x) | inr y ↦ same None (size_of t) y ]
 
 -- the same for a rule that a code keeps or not
 abbrev pub same_bool : Bool → Bool → Bool

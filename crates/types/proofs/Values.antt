@@ -1,4 +1,5 @@
 -- Laws of the number of a value and of a change: one for each way out. Assumes nothing.
+use Rattle.std.specs.Prelude.{None, Some}
 use Prim.Native.Nat.{ℕ, ◌*◌, ◌^◌, ◌≤◌, ◌<◌, min}
 use mathlib.Core.Path.{◌≡◌, refl, ap, sym, ◌∙◌}
 use mathlib.Core.Bool.{Bool, true, false, cond}
@@ -12,8 +13,6 @@ use Rattle.types.specs.Number.{AllBytes, unsigned_at, signed_at, signed_of}
 use Rattle.types.proofs.Numbers.{unsigned_below, signed_low}
 use Rattle.types.specs.Ids.{size_of, is_signed, is_float}
 use Rattle.types.specs.Value.{number_at, plain_at, change_at}
-use Rattle.types.specs.declared.ids.Size.TheVariants.{Bytes, Varies}
-use Rattle.types.specs.declared.value.Number.TheVariants.{Value, None}
 
 -- up to 7 bytes, the bits of 8 bytes are the number itself
 plain_is : (s : List ℕ) (p w : ℕ) → AllBytes s → w ≤ 8 → plain_at s p w ≡ signed_of 8 (unsigned_at s p w)
@@ -37,51 +36,51 @@ unfolding signed_at
 sign_read s p w n x e h = e ∙ ap (signed_of w) h
 
 module _ (s : List ℕ) (p t : ℕ) where
-  pub number_varies : size_of t ≡ Varies → number_at s p t ≡ None
+  pub number_varies : size_of t ≡ None → number_at s p t ≡ None
   unfolding number_at
   number_varies e = rw e refl
 
-  pub number_wide : (w : ℕ) → size_of t ≡ Bytes w → 8 < w → number_at s p t ≡ None
+  pub number_wide : (w : ℕ) → size_of t ≡ Some w → 8 < w → number_at s p t ≡ None
   unfolding number_at
   number_wide w e h = rw (e, lt-leb w 8 h) refl
 
-  pub number_signed : (w : ℕ) → size_of t ≡ Bytes w → w ≤ 8 → is_signed t ≡ true → number_at s p t ≡ Value (signed_at s p w)
+  pub number_signed : (w : ℕ) → size_of t ≡ Some w → w ≤ 8 → is_signed t ≡ true → number_at s p t ≡ Some (signed_at s p w)
   unfolding number_at
   number_signed w e h i = rw (e, i, le-leb w 8 h) refl
 
-  pub number_plain : (w : ℕ) → size_of t ≡ Bytes w → w ≤ 8 → is_signed t ≡ false → number_at s p t ≡ Value (plain_at s p w)
+  pub number_plain : (w : ℕ) → size_of t ≡ Some w → w ≤ 8 → is_signed t ≡ false → number_at s p t ≡ Some (plain_at s p w)
   unfolding number_at
   number_plain w e h i = rw (e, i, le-leb w 8 h) refl
 
   -- other types up to 7 bytes are zero-extended, and so not negative; other 8-byte types keep their bits
-  pub number_short : (w : ℕ) → size_of t ≡ Bytes w → w ≤ 7 → is_signed t ≡ false → number_at s p t ≡ Value (pos (unsigned_at s p w))
-  number_short w e h i = number_plain w e (omega arith) i ∙ ap (λ b. Value (cond b (pos (unsigned_at s p w)) (signed_at s p 8))) (le-leb w 7 h)
+  pub number_short : (w : ℕ) → size_of t ≡ Some w → w ≤ 7 → is_signed t ≡ false → number_at s p t ≡ Some (pos (unsigned_at s p w))
+  number_short w e h i = number_plain w e (omega arith) i ∙ ap (λ b. Some (cond b (pos (unsigned_at s p w)) (signed_at s p 8))) (le-leb w 7 h)
 
-  pub number_bits : size_of t ≡ Bytes 8 → is_signed t ≡ false → number_at s p t ≡ Value (signed_at s p 8)
+  pub number_bits : size_of t ≡ Some 8 → is_signed t ≡ false → number_at s p t ≡ Some (signed_at s p 8)
   number_bits e i = number_plain 8 e (omega arith) i
 
-  pub signed_way : (w : ℕ) (x : ℤ) → size_of t ≡ Bytes w → w ≤ 8 → is_signed t ≡ true → x ≡ signed_at s p (min w 8) → Value x ≡ number_at s p t
+  pub signed_way : (w : ℕ) (x : ℤ) → size_of t ≡ Some w → w ≤ 8 → is_signed t ≡ true → x ≡ signed_at s p (min w 8) → Some x ≡ number_at s p t
   signed_way w x e h i k =
       let m : min w 8 ≡ w = omega arith in
-      ap Value (k ∙ ap (signed_at s p) m) ∙ sym (number_signed w e h i)
+      ap Some (k ∙ ap (signed_at s p) m) ∙ sym (number_signed w e h i)
 
-  pub plain_way : (w : ℕ) (x : ℤ) (n : ℕ) → AllBytes s → size_of t ≡ Bytes w → w ≤ 8 → is_signed t ≡ false → x ≡ signed_of 8 n → n ≡ unsigned_at s p (min w 8) → Value x ≡ number_at s p t
+  pub plain_way : (w : ℕ) (x : ℤ) (n : ℕ) → AllBytes s → size_of t ≡ Some w → w ≤ 8 → is_signed t ≡ false → x ≡ signed_of 8 n → n ≡ unsigned_at s p (min w 8) → Some x ≡ number_at s p t
   plain_way w x n a e h i k l =
       let m : min w 8 ≡ w = omega arith in
-      ap Value (k ∙ ap (signed_of 8) (l ∙ ap (unsigned_at s p) m) ∙ sym (plain_is s p w a h)) ∙ sym (number_plain w e h i)
+      ap Some (k ∙ ap (signed_of 8) (l ∙ ap (unsigned_at s p) m) ∙ sym (plain_is s p w a h)) ∙ sym (number_plain w e h i)
 
-  pub change_varies : size_of t ≡ Varies → change_at s p t ≡ 0
+  pub change_varies : size_of t ≡ None → change_at s p t ≡ 0
   unfolding change_at
   change_varies e = rw e refl
 
-  pub change_signed : (w : ℕ) → size_of t ≡ Bytes w → is_signed t ≡ true → change_at s p t ≡ nat_abs (signed_at s p (min w 8))
+  pub change_signed : (w : ℕ) → size_of t ≡ Some w → is_signed t ≡ true → change_at s p t ≡ nat_abs (signed_at s p (min w 8))
   unfolding change_at
   change_signed w e i = rw (e, i) refl
 
-  pub change_float : (w : ℕ) → size_of t ≡ Bytes w → is_signed t ≡ false → is_float t ≡ true → change_at s p t ≡ 0
+  pub change_float : (w : ℕ) → size_of t ≡ Some w → is_signed t ≡ false → is_float t ≡ true → change_at s p t ≡ 0
   unfolding change_at
   change_float w e i f = rw (e, i, f) refl
 
-  pub change_plain : (w : ℕ) → size_of t ≡ Bytes w → is_signed t ≡ false → is_float t ≡ false → change_at s p t ≡ unsigned_at s p (min w 8)
+  pub change_plain : (w : ℕ) → size_of t ≡ Some w → is_signed t ≡ false → is_float t ≡ false → change_at s p t ≡ unsigned_at s p (min w 8)
   unfolding change_at
   change_plain w e i f = rw (e, i, f) refl

@@ -1,30 +1,29 @@
 // Where a value ends (ZCL 2.6): the role of the `ZclDataType` reader, for every slice, place and type.
-ghost use Rattle.std.specs.Prelude.{◌≡◌, ◌<◌, ◌≤◌};
+ghost use Rattle.std.specs.Prelude.{◌≡◌, ◌<◌, ◌≤◌, Err};
+ghost use Rattle.types.specs.declared.extent.NoExtent.TheVariants.{Without};
 ghost use Rattle.types.specs.Extent.{upto, count, text, by_shape, series_at, structure_at, extent_of};
 ghost use Rattle.types.specs.Inside.{ended};
-ghost use Rattle.types.specs.declared.extent.Extent.TheVariants.{Without};
 
 use super::ids::{Shape, TypeId};
 use super::number::{byte_at, u16_at};
 
-// Where a value ends: at a place; the slice ends first; or nowhere, whatever bytes came behind.
+// Why a value has no end: the slice ends first; or it ends nowhere, whatever bytes came behind.
 #[derive(Clone, Copy)]
-pub enum Extent {
-    End(usize),
+pub enum NoExtent {
     Cut,
     Without,
 }
 
 // n bytes from p on.
-fn span(s: &[u8], p: usize, n: usize) -> Extent
+fn span(s: &[u8], p: usize, n: usize) -> Result<usize, NoExtent>
     ensures { result ≡ upto s.now p n }
 {
     if p <= s.len() {
         if n <= s.len() - p {
-            return Extent::End(p + n);
+            return Ok(p + n);
         }
     }
-    Extent::Cut
+    Err(NoExtent::Cut)
 }
 
 // The two-byte count at p; ffff is the mark of an invalid value, which has no elements.
@@ -40,12 +39,10 @@ fn counted(s: &[u8], p: usize) -> usize
 }
 
 // A string with one length byte; ff is the mark of an invalid one.
-fn text_extent(s: &[u8], p: usize) -> Extent
+fn text_extent(s: &[u8], p: usize) -> Result<usize, NoExtent>
     ensures { result ≡ text 1 s.now p }
 {
-    let Extent::End(first) = span(s, p, 1) else {
-        return Extent::Cut;
-    };
+    let first = span(s, p, 1)?;
     let n = byte_at(s, p) as usize;
     if n == 0xff {
         return span(s, first, 0);
@@ -54,57 +51,53 @@ fn text_extent(s: &[u8], p: usize) -> Extent
 }
 
 // A string with two length bytes.
-fn long_text_extent(s: &[u8], p: usize) -> Extent
+fn long_text_extent(s: &[u8], p: usize) -> Result<usize, NoExtent>
     ensures { result ≡ text 2 s.now p }
 {
-    let Extent::End(first) = span(s, p, 2) else {
-        return Extent::Cut;
-    };
+    let first = span(s, p, 2)?;
     span(s, first, counted(s, p))
 }
 
 // A value that is no collection.
-fn plain_extent(s: &[u8], p: usize, layout: Shape) -> Extent
-    ensures { result ≡ by_shape s.now p layout Without Without }
+fn plain_extent(s: &[u8], p: usize, layout: Shape) -> Result<usize, NoExtent>
+    ensures { result ≡ by_shape s.now p layout (Err Without) (Err Without) }
 {
     match layout {
         Shape::Fixed(w) => span(s, p, w),
         Shape::Text => text_extent(s, p),
         Shape::LongText => long_text_extent(s, p),
-        Shape::Series => Extent::Without,
-        Shape::Structure => Extent::Without,
-        Shape::Unknown => Extent::Without,
+        Shape::Series | Shape::Structure | Shape::Unknown => Err(NoExtent::Without),
     }
 }
 
 // A collection's extent as a number: where it ends, or one of these two, which are no end since a head alone has two bytes. A number comes back in a
-// register; an `Extent` would go through memory, on the stack of every level.
+// register; a `Result` would go through memory, on the stack of every level.
 const WITHOUT: usize = 0;
 
 const CUT: usize = 1;
 
-// The extent that such a number says.
-fn extent_by(place: usize) -> Extent
+// The end that such a number says.
+fn extent_by(place: usize) -> Result<usize, NoExtent>
     ensures { result ≡ ended place }
 {
     if CUT < place {
-        return Extent::End(place);
+        return Ok(place);
     }
     if place == CUT {
-        return Extent::Cut;
+        return Err(NoExtent::Cut);
     }
-    Extent::Without
+    Err(NoExtent::Without)
 }
 
 // A value that is no collection, as such a number.
 fn plain_place(s: &[u8], p: usize, layout: Shape) -> usize
     requires { 2 ≤ p }
-    ensures { ended result ≡ by_shape s.now p layout Without Without }
+    ensures { ended result ≡ by_shape s.now p layout (Err Without) (Err Without) }
 {
     match plain_extent(s, p, layout) {
-        Extent::End(q) => q,
-        Extent::Cut => CUT,
-        Extent::Without => WITHOUT,
+        Ok(q) => q,
+        Err(NoExtent::Cut) => CUT,
+        Err(NoExtent::Without) => WITHOUT,
     }
 }
 
@@ -117,7 +110,7 @@ fn series_extent(s: &[u8], p: usize, depth: usize) -> usize
     if depth == 0 {
         return WITHOUT;
     }
-    let Extent::End(first) = span(s, p, 3) else {
+    let Ok(first) = span(s, p, 3) else {
         return CUT;
     };
     let n = counted(s, p + 1);
@@ -126,8 +119,7 @@ fn series_extent(s: &[u8], p: usize, depth: usize) -> usize
         return plain_place(s, first, Shape::Fixed(n * w));
     }
     let mut q = first;
-    let mut left = n;
-    while 0 < left {
+    for _ in 0..n {
         let next = match layout {
             Shape::Series => series_extent(s, q, depth - 1),
             Shape::Structure => structure_extent(s, q, depth - 1),
@@ -137,7 +129,6 @@ fn series_extent(s: &[u8], p: usize, depth: usize) -> usize
             return next;
         }
         q = next;
-        left -= 1;
     }
     q
 }
@@ -150,12 +141,11 @@ fn structure_extent(s: &[u8], p: usize, depth: usize) -> usize
     if depth == 0 {
         return WITHOUT;
     }
-    let Extent::End(first) = span(s, p, 2) else {
+    let Ok(first) = span(s, p, 2) else {
         return CUT;
     };
     let mut q = first;
-    let mut left = counted(s, p);
-    while 0 < left {
+    for _ in 0..counted(s, p) {
         if s.len() <= q {
             return CUT;
         }
@@ -169,13 +159,12 @@ fn structure_extent(s: &[u8], p: usize, depth: usize) -> usize
             return next;
         }
         q = next;
-        left -= 1;
     }
     q
 }
 
 // Where the value of a type at p ends. The outermost collection is level 1 of 15.
-pub fn extent_at(s: &[u8], p: usize, type_id: TypeId) -> Extent
+pub fn extent_at(s: &[u8], p: usize, type_id: TypeId) -> Result<usize, NoExtent>
     ensures { result ≡ extent_of s.now p type_id.0 }
 {
     let layout = type_id.shape();

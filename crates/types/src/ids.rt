@@ -4,28 +4,21 @@ ghost use Rattle.types.specs.Ids.{counted_width, size_of, shape_of, is_analog, i
 ghost use Rattle.types.specs.Ids.{among as codes_among};
 
 // Three kinds of numbers that no call can take for one another.
-#[derive(Clone, Copy)]
+#[derive(Clone, Copy, PartialEq, Eq)]
 pub struct ClusterId(pub u16);
 
-#[derive(Clone, Copy)]
+#[derive(Clone, Copy, PartialEq, Eq)]
 pub struct AttributeId(pub u16);
 
-#[derive(Clone, Copy)]
+#[derive(Clone, Copy, PartialEq, Eq)]
 pub struct CommandId(pub u8);
 
 // The type of a value, by its code. A code that has no constant here is an unknown type.
-#[derive(Clone, Copy)]
+#[derive(Clone, Copy, PartialEq, Eq)]
 pub struct TypeId(pub u8);
 
-// How many bytes a value of a type has, where that is fixed.
-#[derive(Clone, Copy)]
-pub enum Size {
-    Bytes(usize),
-    Varies,
-}
-
 // How a type's values are laid out, and so how one finds their end.
-#[derive(Clone, Copy)]
+#[derive(Clone, Copy, PartialEq, Eq)]
 pub enum Shape {
     Fixed(usize),
     Text,
@@ -50,7 +43,8 @@ fn counted_width(code: u8) -> usize
 }
 
 impl TypeId {
-    // The codes. They are numbers, since a pattern takes a constant only where it is one: the type is TypeId(TypeId::NO_DATA).
+    // The codes, as numbers: the type is TypeId(TypeId::NO_DATA). Tried as `TypeId`s, which a pattern takes as well; but an arm of such a match
+    // gives the proof no fact under a name that stays, and it did not close.
     pub const NO_DATA: u8 = 0x00;
 
     pub const DATA8: u8 = 0x08;
@@ -161,31 +155,31 @@ impl TypeId {
 
     pub const SECURITY_KEY: u8 = 0xf1;
 
-    // The size of every value, or Varies where values differ in size or the type is unknown. The widths of the four families are counted;
+    // How many bytes every value has; none where values differ in size or the type is unknown. The widths of the four families are counted;
     // boolean and the enumerations come next behind two of them, and have what the count gives there. That leaves so few codes to name
     // that the compiler inlines this; were only the families counted, or every code named, it would make a call of it for each attribute
     // of a store. There are two tests, the commoner types' first, as it would make both of every code were they joined by ||.
-    pub fn fixed_size(self) -> Size
+    pub fn fixed_size(self) -> Option<usize>
         ensures { result ≡ size_of self.0 }
     {
         let code = self.0;
         if among(TypeId::BITMAP8, TypeId::ENUM16, code) {
-            return Size::Bytes(counted_width(code));
+            return Some(counted_width(code));
         }
         if among(TypeId::DATA8, TypeId::BOOLEAN, code) {
-            return Size::Bytes(counted_width(code));
+            return Some(counted_width(code));
         }
         match code {
-            TypeId::NO_DATA => Size::Bytes(0),
-            TypeId::SEMI_PRECISION | TypeId::CLUSTER_ID | TypeId::ATTRIBUTE_ID => Size::Bytes(2),
+            TypeId::NO_DATA => Some(0),
+            TypeId::SEMI_PRECISION | TypeId::CLUSTER_ID | TypeId::ATTRIBUTE_ID => Some(2),
             TypeId::SINGLE_PRECISION
             | TypeId::TIME_OF_DAY
             | TypeId::DATE
             | TypeId::UTC_TIME
-            | TypeId::BACNET_OID => Size::Bytes(4),
-            TypeId::DOUBLE_PRECISION | TypeId::IEEE_ADDRESS => Size::Bytes(8),
-            TypeId::SECURITY_KEY => Size::Bytes(16),
-            _ => Size::Varies,
+            | TypeId::BACNET_OID => Some(4),
+            TypeId::DOUBLE_PRECISION | TypeId::IEEE_ADDRESS => Some(8),
+            TypeId::SECURITY_KEY => Some(16),
+            _ => None,
         }
     }
 
@@ -193,7 +187,7 @@ impl TypeId {
     pub fn shape(self) -> Shape
         ensures { result ≡ shape_of self.0 }
     {
-        if let Size::Bytes(w) = self.fixed_size() {
+        if let Some(w) = self.fixed_size() {
             return Shape::Fixed(w);
         }
         let code = self.0;

@@ -3,30 +3,18 @@ ghost use Rattle.std.specs.Prelude.{◌≡◌, ◌+◌, ◌-◌, ◌*◌, ◌<�
 ghost use Rattle.std.proofs.lemmas.List.Edits.{sets};
 ghost use Rattle.types.specs.Number.{all_zero, bytes_of, unsigned_at, signed_at, signed_of};
 
-fn least(a: usize, b: usize) -> usize
-    ensures { result ≡ min a b }
-{
-    if a < b { a } else { b }
-}
-
 // How many of `width` bytes, and of the 8 that a u64 holds, a slice of `len` bytes has from `at` on.
 fn available(len: usize, at: usize, width: usize) -> usize
     ensures { result ≡ min (min width 8) (len - at) }
 {
-    if len <= at {
-        return 0;
-    }
-    least(least(width, 8), len - at)
+    width.min(8).min(len.saturating_sub(at))
 }
 
 // The byte at `at`; past the end, 0.
 pub fn byte_at(s: &[u8], at: usize) -> u8
     ensures { result ≡ get_or s.now at 0 }
 {
-    if at < s.len() {
-        return s[at];
-    }
-    0
+    s.get(at).copied().unwrap_or(0)
 }
 
 // Whether every byte is 0: whether no bit is set in any. One way out of the loop and no test in it, so that it runs on many bytes at
@@ -35,10 +23,8 @@ pub fn all_zero(s: &[u8]) -> bool
     ensures { result ≡ all_zero s.now }
 {
     let mut bits: u8 = 0;
-    let mut i = 0;
-    while i < s.len() {
-        bits = bits | s[i];
-        i += 1;
+    for b in s {
+        bits |= b;
     }
     bits == 0
 }
@@ -50,19 +36,15 @@ pub fn u16_at(s: &[u8], at: usize) -> u16
     if s.len() <= at {
         return 0;
     }
-    let low = byte_at(s, at) as u16;
-    let high = byte_at(s, at + 1) as u16;
-    low + 256 * high
+    u16::from_le_bytes([s[at], byte_at(s, at + 1)])
 }
 
 // The number of `width` bytes from `at` on, of which at most 8 are read; bytes past the end count as 0.
 pub fn unsigned_at(s: &[u8], at: usize, width: usize) -> u64
     ensures { result ≡ unsigned_at s.now at (min width 8) }
 {
-    let mut i = available(s.len(), at, width);
     let mut n = 0u64;
-    while 0 < i {
-        i -= 1;
+    for i in (0..available(s.len(), at, width)).rev() {
         n = n * 256 + s[at + i] as u64;
     }
     n
@@ -72,28 +54,20 @@ pub fn unsigned_at(s: &[u8], at: usize, width: usize) -> u64
 pub fn bits_i64(x: u64) -> i64
     ensures { result ≡ signed_of 8 x }
 {
-    if x <= 0x7fff_ffff_ffff_ffff {
-        return x as i64;
-    }
-    !((!x) as i64)
+    x.cast_signed()
 }
 
-// A number of `width` bytes, and of at most 8, as two's complement. No entry point: its number must have that width.
+// A number of `width` bytes, and of at most 8, as two's complement: shifted up until its sign is the top bit, and down again with that.
+// No entry point: its number must have that width.
 pub(crate) fn sign_extended(n: u64, width: usize) -> i64
     requires { n < 2 ^ (8 * min width 8) }
     ensures { result ≡ signed_of (min width 8) n }
 {
-    if 8 <= width {
-        return bits_i64(n);
-    }
     if width == 0 {
         return 0;
     }
-    let half = 1u64 << (8 * width - 1);
-    if n < half {
-        return n as i64;
-    }
-    !((half - 1 + half - n) as i64)
+    let unused = 64 - 8 * width.min(8);
+    (n << unused).cast_signed() >> unused
 }
 
 // The number of `width` bytes from `at` on, with its sign.
@@ -108,27 +82,18 @@ pub fn signed_at(s: &[u8], at: usize, width: usize) -> i64
 pub fn magnitude(x: i64) -> u64
     ensures { result ≡ nat_abs x }
 {
-    if x >= 0 {
-        return x as u64;
-    }
-    (!x) as u64 + 1
+    x.unsigned_abs()
 }
 
 // Writes the low `width` bytes of n from `at` on, as far as the slice goes.
 pub fn put_le(out: &mut [u8], at: usize, width: usize, n: u64)
     ensures { out.new ≡ sets out.old at (bytes_of width n) }
 {
-    let mut p = at;
-    let mut left = width;
+    let end = at.saturating_add(width).min(out.len());
     let mut v = n;
-    while 0 < left {
-        if out.len() <= p {
-            return;
-        }
+    for p in at..end {
         out[p] = (v % 256) as u8;
-        v = v / 256;
-        p += 1;
-        left -= 1;
+        v /= 256;
     }
 }
 
@@ -136,7 +101,5 @@ pub fn put_le(out: &mut [u8], at: usize, width: usize, n: u64)
 pub fn le_bytes(n: u64) -> [u8; 8]
     ensures { result ≡ bytes_of 8 n }
 {
-    let mut out = [0u8; 8];
-    put_le(&mut out, 0, 8, n);
-    out
+    n.to_le_bytes()
 }

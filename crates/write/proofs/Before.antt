@@ -1,4 +1,5 @@
 -- The three commands as document 01 has them, and what stayed of them (specs/Claims/Before.antt). Assumes nothing.
+use Rattle.std.specs.Prelude.{Err, None, Ok, Option, Some}
 use mathlib.Core.Path.{◌≡◌, refl, sym, ap, ◌∙◌, fun_ext}
 use mathlib.Core.Bool.{Bool, true, false, cond}
 use mathlib.Core.List.{List, [], ◌∷◌}
@@ -19,12 +20,10 @@ use Rattle.frame.specs.Failures.{Doing, Sofar, sofar, pass, always, concluded, p
 use Rattle.frame.proofs.Walks.{any}
 use Rattle.frame.proofs.States.{folded}
 use Rattle.frame.proofs.Failing.{Closed, fits_closed, over, Halts}
-use Rattle.store.specs.declared.lookup.Found.{Found}
-use Rattle.store.specs.declared.lookup.Found.TheVariants.{At, Nothing}
+use Rattle.store.specs.declared.lookup.Attribute.{Attribute}
 use Rattle.store.specs.Contents.{name_of, find_of}
 use Rattle.store.specs.Layout.{is_store}
 use Rattle.store.specs.Write.{too_long, is_writable, check_of, write_by, write_of}
-use Rattle.store.specs.declared.write.Checked.TheVariants.{Fine, Failed}
 use Rattle.frame.specs.declared.status.Status.TheVariants.{ReadOnly, InvalidDataType}
 use Rattle.write.specs.Request.{WriteRecord, records}
 use Rattle.write.specs.Reply.{Failure, encode}
@@ -37,28 +36,28 @@ use Rattle.write.proofs.Judged.{judged_fit, judged_halts, halted_left, checked_l
 
 module _ (s : List ℕ) (t : ℕ) (v : List ℕ) where
   -- the four checks at once, or three and then the fourth
-  as_stored : (f : Found) → write_by s (check_of f t v) v ≡ stored_before s v (writable_before f t)
+  as_stored : (f : Option Attribute) → write_by s (check_of f t v) v ≡ stored_before s v (writable_before f t)
   unfolding check_of
-  as_stored Nothing = refl
-  as_stored (At a) = go (is_writable a) (eqb a.type_id.0 t) (too_long a v) refl
+  as_stored None = refl
+  as_stored (Some a) = go (is_writable a) (eqb a.type_id.0 t) (too_long a v) refl
     where
       go : (x y z : Bool) → too_long a v ≡ z
-          → write_by s (cond x (cond y (cond z (Failed InvalidValue) (Fine a)) (Failed InvalidDataType)) (Failed ReadOnly)) v
-          ≡ stored_before s v (cond x (cond y (Fine a) (Failed InvalidDataType)) (Failed ReadOnly))
+          → write_by s (cond x (cond y (cond z (Err InvalidValue) (Ok a)) (Err InvalidDataType)) (Err ReadOnly)) v
+          ≡ stored_before s v (cond x (cond y (Ok a) (Err InvalidDataType)) (Err ReadOnly))
       go false y z e = refl
       go true false z e = refl
       go true true true e = rw e
       go true true false e = rw e
 
   -- three checks say what four say, of a value that is not too long
-  as_passed : (f : Found) → ((write_by s (check_of f t v) v).status ≡ InvalidValue → ⊥) → passed_before (writable_before f t) ≡ (write_by s (check_of f t v) v).status
+  as_passed : (f : Option Attribute) → ((write_by s (check_of f t v) v).status ≡ InvalidValue → ⊥) → passed_before (writable_before f t) ≡ (write_by s (check_of f t v) v).status
   unfolding check_of
-  as_passed Nothing n = refl
-  as_passed (At a) n = go (is_writable a) (eqb a.type_id.0 t) (too_long a v) n
+  as_passed None n = refl
+  as_passed (Some a) n = go (is_writable a) (eqb a.type_id.0 t) (too_long a v) n
     where
-      go : (x y z : Bool) → ((write_by s (cond x (cond y (cond z (Failed InvalidValue) (Fine a)) (Failed InvalidDataType)) (Failed ReadOnly)) v).status ≡ InvalidValue → ⊥)
-          → passed_before (cond x (cond y (Fine a) (Failed InvalidDataType)) (Failed ReadOnly))
-          ≡ (write_by s (cond x (cond y (cond z (Failed InvalidValue) (Fine a)) (Failed InvalidDataType)) (Failed ReadOnly)) v).status
+      go : (x y z : Bool) → ((write_by s (cond x (cond y (cond z (Err InvalidValue) (Ok a)) (Err InvalidDataType)) (Err ReadOnly)) v).status ≡ InvalidValue → ⊥)
+          → passed_before (cond x (cond y (Ok a) (Err InvalidDataType)) (Err ReadOnly))
+          ≡ (write_by s (cond x (cond y (cond z (Err InvalidValue) (Ok a)) (Err InvalidDataType)) (Err ReadOnly)) v).status
       go false y z n = refl
       go true false z n = refl
       go true true true n = absurd (n refl)

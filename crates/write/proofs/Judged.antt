@@ -1,4 +1,5 @@
 -- Records judged over one store: the failures of a pass that only checks, and of one that writes (specs/Claims/Undivided.antt). Assumes nothing.
+use Rattle.std.specs.Prelude.{Err, Ok, Result}
 use mathlib.Core.Path.{◌≡◌, refl, sym, ap, ◌∙◌}
 use mathlib.Core.Bool.{Bool, true, false}
 use mathlib.Core.List.{List, [], ◌∷◌}
@@ -9,8 +10,7 @@ use Rattle.frame.specs.Failures.{Sofar, sofar, pass_from, pass, always}
 use Rattle.frame.proofs.Walks.{any}
 use Rattle.frame.proofs.States.{folded, pass_keeps}
 use Rattle.frame.proofs.Failing.{Closed, over, Halts, all-fit, some_halts}
-use Rattle.store.specs.declared.write.Checked.{Checked}
-use Rattle.store.specs.declared.write.Checked.TheVariants.{Fine, Failed}
+use Rattle.frame.specs.declared.status.Status.{Status}
 use Rattle.store.specs.declared.lookup.Attribute.{Attribute}
 use Rattle.store.specs.Contents.{name_of, find_in, find_of}
 use Rattle.store.specs.Layout.{is_store}
@@ -81,9 +81,9 @@ checks_fail form request s body =
 -- ---- a pass that writes, over a store
 
 -- what the check says goes by the contents alone
-status_any : (s t : List ℕ) (x : Checked) (v : List ℕ) → (write_by t x v).status ≡ (write_by s x v).status
-status_any s t (Fine a) v = refl
-status_any s t (Failed why) v = refl
+status_any : (s t : List ℕ) (x : Result Attribute Status) (v : List ℕ) → (write_by t x v).status ≡ (write_by s x v).status
+status_any s t (Ok a) v = refl
+status_any s t (Err why) v = refl
 
 module _ (form : ℕ) (request : ZclHeader) (s : List ℕ) (wide : 8 ≤ form) (is : is_store form s ≡ true) where
   pub status_alike : (t : List ℕ) (r : WriteRecord) → StoreLike form s t → Whole r → (written form request t r).status ≡ status_over form request s r

@@ -69,10 +69,6 @@ module _ (P : List ℕ → Type 0) (form : ℕ) (request : ZclHeader) (keep : (t
 -- ---- the length of any bytes, and a store's layout and contents
 
 module _ (form : ℕ) (s : List ℕ) (request : ZclHeader) where
-  record_length : (t : List ℕ) (r : WriteRecord) → length t ≡ length s → Whole r → length (written form request t r).store ≡ length s
-  unfolding written
-  record_length t r e w = write_length form t (name_of request.manufacturer_code.0 r.id) r.type r.value ∙ e
-
   pub record_alike : 8 ≤ form → (t : List ℕ) (r : WriteRecord) → StoreLike form s t → Whole r → StoreLike form s (written form request t r).store
   unfolding written
   record_alike wide t r a w =
@@ -84,9 +80,6 @@ module _ (form : ℕ) (s : List ℕ) (request : ZclHeader) where
       }
 
   module _ (body : List ℕ) (room : ℕ) where
-    pub length_keeps : Keeps (λ t. length t ≡ length s) form s request body room
-    length_keeps = commands_keep (λ t. length t ≡ length s) form request record_length body room s refl
-
     -- A STORE STAYS A STORE under each of the three commands, for every request
     pub write_keeps : 8 ≤ form → is_store form s ≡ true → Keeps (StoreLike form s) form s request body room
     write_keeps wide h = commands_keep (StoreLike form s) form request (record_alike wide) body room s (record { still = h; same_length = refl; same_contents = refl })

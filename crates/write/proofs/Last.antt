@@ -1,4 +1,5 @@
 -- What records of which none fails leave in a store (specs/Claims/Last.antt). Assumes nothing.
+use Rattle.std.specs.Prelude.{Some}
 use mathlib.Core.Path.{◌≡◌, refl, sym, ap, ◌∙◌, subst}
 use mathlib.Core.Bool.{Bool, true, false, cond}
 use mathlib.Core.List.{List, [], ◌∷◌}
@@ -16,7 +17,6 @@ use Rattle.frame.specs.Claims.Failing.{failing_by}
 use Rattle.frame.proofs.Codes.{status_zero}
 use Rattle.frame.proofs.States.{folded}
 use Rattle.store.specs.declared.lookup.Attribute.{Attribute}
-use Rattle.store.specs.declared.lookup.Found.TheVariants.{At}
 use Rattle.store.specs.Contents.{find_in, find_of}
 use Rattle.store.specs.Layout.{bodies_at, is_store}
 use Rattle.store.specs.Value.{value_of}
@@ -65,12 +65,12 @@ module _ (form : ℕ) (request : ZclHeader) (s : List ℕ) (wide : 8 ≤ form) (
     unfolding written
     front = subst (λ (n : ℕ). take n (after t r) ≡ take n t) same_bodies (write_front form t (naming request r) r.type r.value like.still whole)
 
-    module _ (fine : status_over form request s r ≡ Success) (name : ℕ) (a : Attribute) (found : find_of form s name ≡ At a) where
-      found_there : find_of form t name ≡ At a
+    module _ (fine : status_over form request s r ≡ Success) (name : ℕ) (a : Attribute) (found : find_of form s name ≡ Some a) where
+      found_there : find_of form t name ≡ Some a
       unfolding find_of
       found_there = ap (λ (l : List Attribute). find_in l name) like.same_contents ∙ found
 
-      same_one : (b : Attribute) → At b ≡ At a → a ≡ b
+      same_one : (b : Attribute) → Some b ≡ Some a → a ≡ b
       same_one b e = cc
 
       named : naming request r ≡ name → value_of (after t r) a ≡ r.value
@@ -98,7 +98,7 @@ module _ (form : ℕ) (request : ZclHeader) (s : List ℕ) (wide : 8 ≤ form) (
   fronts [] all t like = refl
   fronts (r ∷ rs) all t like = fronts rs all.1 (after t r) (like_after t like r all.0) ∙ front t like r all.0
 
-  values : (name : ℕ) (a : Attribute) → find_of form s name ≡ At a → (rs : List WriteRecord) → All Whole rs → failing form request s rs ≡ [] → (t : List ℕ) → StoreLike form s t
+  values : (name : ℕ) (a : Attribute) → find_of form s name ≡ Some a → (rs : List WriteRecord) → All Whole rs → failing form request s rs ≡ [] → (t : List ℕ) → StoreLike form s t
       → value_of (leaves t rs) a ≡ last_value request name rs (value_of t a)
   unfolding last_value
   values name a found [] all none t like = refl

@@ -1,4 +1,5 @@
 -- The two passes of an undivided write: from what the inner functions say to the definition. Assumes nothing.
+use Rattle.std.specs.Prelude.{Err, Ok, Option, Result, Some}
 use mathlib.Core.Path.{◌≡◌, sym, ap, ◌∙◌, subst}
 use mathlib.Core.Bool.{Bool, true, false, cond}
 use mathlib.Core.List.{List, [], ◌∷◌, ◌++◌}
@@ -8,11 +9,9 @@ use lib.ListN.{length}
 use borrow.Author.Tests.{eqb-true, eqb-false}
 use Rattle.types.specs.Number.{zeros}
 use Rattle.frame.specs.declared.header.ZclHeader.{ZclHeader}
-use Rattle.frame.specs.declared.reply.Put.{Put}
-use Rattle.frame.specs.declared.reply.Put.TheVariants.{At}
-use Rattle.frame.specs.declared.answer.Answer.{Answer}
+use Rattle.frame.specs.declared.answer.Refusal.{Refusal}
 use Rattle.frame.specs.declared.command_identifier.CommandIdentifier.TheVariants.{WriteAttributesResponse}
-use Rattle.frame.specs.declared.failures.Pass.{Pass}
+use Rattle.frame.specs.declared.failures.Unfinished.{Unfinished}
 use Rattle.frame.specs.Header.{reply_head}
 use Rattle.frame.specs.Inside.Buffer.{putting, put, Shows}
 use Rattle.frame.specs.Answer.{no_state, seen}
@@ -50,19 +49,19 @@ module _ (writes : List ℕ → List ℕ) (start : ℕ) (head : List ℕ) (way :
   never : {A : Type 0} → false ≡ true → A
   never e = let y : ◌≡◌ {A = ℕ} 0 1 = cc in absurd (omega arith)
 
-  settled_passes : (first : Pass) → Passes encode way head first s d → (b : Bool) → is_clean first start ≡ b → Passes encode (settled writes way) head first (cond b (writes s) s) d
-  settled_passes (Pass.Through out) w true e =
+  settled_passes : (first : Result ℕ Unfinished) → Passes encode way head first s d → (b : Bool) → is_clean first start ≡ b → Passes encode (settled writes way) head first (cond b (writes s) s) d
+  settled_passes (Ok out) w true e =
       clean_by out w.failures w.is w.shows (none_listed encode some d start out head k w.failures w.shows (eqb-true out start e))
-  settled_passes (Pass.Through out) w false e = listed_by out (eqb-false out start e) w.failures w.is w.shows
-  settled_passes Pass.Cut w true e = never e
-  settled_passes Pass.Cut w false e = record { failures = w.failures; is = ap (settled writes) w.is }
-  settled_passes Pass.Full w true e = never e
-  settled_passes Pass.Full w false e = record { last = w.last; failures = w.failures; is = ap (settled writes) w.is }
+  settled_passes (Ok out) w false e = listed_by out (eqb-false out start e) w.failures w.is w.shows
+  settled_passes (Err Unfinished.Cut) w true e = never e
+  settled_passes (Err Unfinished.Cut) w false e = record { failures = w.failures; is = ap (settled writes) w.is }
+  settled_passes (Err Unfinished.Full) w true e = never e
+  settled_passes (Err Unfinished.Full) w false e = record { last = w.last; failures = w.failures; is = ap (settled writes) w.is }
 
 -- ---- the whole command, behind its header and the first pass
 
-module _ (request : ZclHeader) (s : List ℕ) (room : ℕ) (r : Put) (after : List ℕ) (p : putting r after ≡ put (zeros room) 0 (reply_head request WriteAttributesResponse)) (body : List ℕ)
-    (start : ℕ) (e : r ≡ At start) (first : Pass) (t d : List ℕ) (w : Passed (checking 8 request) (records body) start s after first t d) (l : length d ≡ length after)
+module _ (request : ZclHeader) (s : List ℕ) (room : ℕ) (r : Option ℕ) (after : List ℕ) (p : putting r after ≡ put (zeros room) 0 (reply_head request WriteAttributesResponse)) (body : List ℕ)
+    (start : ℕ) (e : r ≡ Some start) (first : Result ℕ Unfinished) (t d : List ℕ) (w : Passed (checking 8 request) (records body) start s after first t d) (l : length d ≡ length after)
     (clean : Bool) (c : clean ≡ is_clean first start) (u : List ℕ) (z : u ≡ cond clean (written_all 8 request body t) t) where
   abbrev way : List ℕ → Way (Sofar (List ℕ) Failure)
   way h = pass (checking 8 request) (fits encode room (length h)) (records body) s
@@ -82,7 +81,7 @@ module _ (request : ZclHeader) (s : List ℕ) (room : ℕ) (r : Put) (after : Li
   led : Passes encode (leads head) head first u d
   led = subst (λ (x : List ℕ). Passes encode (leads head) head first x d) (sym z) (settled_passes (written_all 8 request body) start head (way head) t d begun.0.0.place first passes clean (sym c))
 
-  pub undivided_run : (x : Answer) (d2 : List ℕ) → seen x d2 no_state ≡ concluded_at d start first → seen x d2 u ≡ write_undivided 8 s request body room
+  pub undivided_run : (x : Result ℕ Refusal) (d2 : List ℕ) → seen x d2 no_state ≡ concluded_at d start first → seen x d2 u ≡ write_undivided 8 s request body room
   unfolding write_undivided
   undivided_run x d2 q =
       concludes encode some d start first x d2 q head (leads head) u begun.0.0.place led

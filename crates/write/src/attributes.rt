@@ -4,22 +4,18 @@ ghost use Rattle.frame.specs.Answer.{seen};
 ghost use Rattle.write.specs.Write.{write_attributes, write_undivided, write_silently};
 ghost use Rattle.write.specs.Inside.{is_clean};
 
-use super::pass::{Task, apply_write_records, pass_records};
+use super::pass::{apply_write_records, check, pass_records};
 use frame::answer::{Answer, Refusal, refuse};
 use frame::command_identifier::CommandIdentifier;
-use frame::failures::{Pass, conclude};
+use frame::failures::{Unfinished, conclude};
 use frame::header::{ZclHeader, begin_reply};
-use frame::reply::Put;
+use store::write::write;
 
 // Whether a pass took every record and listed none of them.
-fn is_clean(done: Pass, start: usize) -> bool
+fn is_clean(done: Result<usize, Unfinished>, start: usize) -> bool
     ensures { result ≡ is_clean done start }
 {
-    match done {
-        Pass::Through(out) => out == start,
-        Pass::Cut => false,
-        Pass::Full => false,
-    }
+    matches!(done, Ok(out) if out == start)
 }
 
 // Write Attributes.
@@ -32,10 +28,8 @@ pub fn write_attributes(
     ensures { seen result reply.new store.new ≡ write_attributes 8 store.old request body.now (length reply.old) }
 {
     let begun = begin_reply(reply, request, CommandIdentifier::WriteAttributesResponse);
-    let Put::At(start) = begun else {
-        return refuse(reply, Refusal::ReplyTooLong);
-    };
-    let done = pass_records(store, Task::Write, request, body, reply, start);
+    let start = begun.ok_or(Refusal::ReplyTooLong)?;
+    let done = pass_records(store, write, request, body, reply, start);
     conclude(reply, start, done)
 }
 
@@ -49,10 +43,8 @@ pub fn write_attributes_undivided(
     ensures { seen result reply.new store.new ≡ write_undivided 8 store.old request body.now (length reply.old) }
 {
     let begun = begin_reply(reply, request, CommandIdentifier::WriteAttributesResponse);
-    let Put::At(start) = begun else {
-        return refuse(reply, Refusal::ReplyTooLong);
-    };
-    let first = pass_records(store, Task::Check, request, body, reply, start);
+    let start = begun.ok_or(Refusal::ReplyTooLong)?;
+    let first = pass_records(store, check, request, body, reply, start);
     if is_clean(first, start) {
         apply_write_records(store, request, body);
     }

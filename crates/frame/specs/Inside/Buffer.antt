@@ -1,8 +1,6 @@
 -- Inside. What functions that put bytes into the reply buffer say of it; nothing that a caller must believe.
-use Rattle.std.specs.Prelude.{◌≡◌, ℕ, ◌+◌, ◌≤◌, cond, true, false, List, ◌++◌, length, leb}
+use Rattle.std.specs.Prelude.{◌≡◌, ℕ, ◌+◌, ◌≤◌, cond, true, false, List, ◌++◌, length, leb, None, Option, Some}
 use Rattle.std.proofs.lemmas.List.Edits.{sets}
-use Rattle.frame.specs.declared.reply.Put.{Put}
-use Rattle.frame.specs.declared.reply.Put.TheVariants.{At, Full}
 use Rattle.frame.specs.Reply.{padded}
 use Rattle.frame.specs.Encoded.{encode_all, fits}
 
@@ -10,15 +8,15 @@ use Rattle.frame.specs.Encoded.{encode_all, fits}
 
 -- what a put leaves: its answer, and the buffer
 pub record Putting : Type 0 where
-  pub answer : Put
+  pub answer : Option ℕ
   pub buffer : List ℕ
 
-abbrev pub putting : Put → List ℕ → Putting
+abbrev pub putting : Option ℕ → List ℕ → Putting
 putting r d = record { answer = r; buffer = d }
 
 -- bytes put at `at`: what does not fit changes nothing
 unfoldable pub put : List ℕ → ℕ → List ℕ → Putting
-put d at bytes = cond (leb (at + length bytes) (length d)) (putting (At (at + length bytes)) (sets d at bytes)) (putting Full d)
+put d at bytes = cond (leb (at + length bytes) (length d)) (putting (Some (at + length bytes)) (sets d at bytes)) (putting None d)
 
 -- the buffer is `out` and then zeros, and the next byte goes to `at`
 pub record Shows (d : List ℕ) (at : ℕ) (out : List ℕ) : Type 0 where
@@ -40,6 +38,6 @@ pub record Stays {R : Type 0} (encode : R → List ℕ) (head : List ℕ) (rs : 
   pub same : after ≡ d
 
 -- the one or the other, by the answer of a put
-abbrev pub Ways : {R : Type 0} → (R → List ℕ) → List ℕ → List R → ℕ → List ℕ → Put → List ℕ → Type 0
-Ways encode head rs room d (At o) after = Longer encode head rs room o after
-Ways encode head rs room d Full after = Stays encode head rs room d after
+abbrev pub Ways : {R : Type 0} → (R → List ℕ) → List ℕ → List R → ℕ → List ℕ → Option ℕ → List ℕ → Type 0
+Ways encode head rs room d (Some o) after = Longer encode head rs room o after
+Ways encode head rs room d None after = Stays encode head rs room d after

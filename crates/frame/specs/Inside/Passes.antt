@@ -1,8 +1,8 @@
 -- Inside. What functions say of a pass over the records that lists its failures; nothing that a caller must believe.
-use Rattle.std.specs.Prelude.{◌≡◌, ℕ, List, ◌++◌, length}
+use Rattle.std.specs.Prelude.{◌≡◌, ℕ, List, ◌++◌, length, Err, Ok, Result}
 use Rattle.frame.specs.declared.status.Status.{Status}
-use Rattle.frame.specs.declared.answer.Answer.{Answer}
-use Rattle.frame.specs.declared.failures.Pass.{Pass}
+use Rattle.frame.specs.declared.answer.Refusal.{Refusal}
+use Rattle.frame.specs.declared.failures.Unfinished.{Unfinished}
 use Rattle.frame.specs.Inside.Buffer.{Shows}
 use Rattle.frame.specs.Answer.{seen}
 use Rattle.frame.specs.Walk.{Item, item, unread, Records, Way, through, broken, stopped}
@@ -37,15 +37,15 @@ pub record Stopped {S F : Type 0} (way : Way (Sofar S F)) (s : S) : Type 0 where
   pub failures : List F
   pub is : way ≡ stopped last (sofar s failures)
 
-abbrev pub Passes : {S F : Type 0} → (F → List ℕ) → Way (Sofar S F) → List ℕ → Pass → S → List ℕ → Type 0
-Passes bytes way head (Pass.Through out) s d = Listed bytes way head out s d
-Passes bytes way head Pass.Cut s d = Broken way s
-Passes bytes way head Pass.Full s d = Stopped way s
+abbrev pub Passes : {S F : Type 0} → (F → List ℕ) → Way (Sofar S F) → List ℕ → Result ℕ Unfinished → S → List ℕ → Type 0
+Passes bytes way head (Ok out) s d = Listed bytes way head out s d
+Passes bytes way head (Err Unfinished.Cut) s d = Broken way s
+Passes bytes way head (Err Unfinished.Full) s d = Stopped way s
 
-abbrev pub Passed : {S R F : Type 0} → Doing S R F → Records R → ℕ → S → List ℕ → Pass → S → List ℕ → Type 0
+abbrev pub Passed : {S R F : Type 0} → Doing S R F → Records R → ℕ → S → List ℕ → Result ℕ Unfinished → S → List ℕ → Type 0
 Passed doing rs start s d r t after =
     (head : List ℕ) → Shows d start head → Passes doing.bytes (pass doing (fits doing.bytes (length d) (length head)) rs s) head r t after
 
 -- a pass and its answer
-abbrev pub Performs : {S R F : Type 0} → Doing S R F → Records R → ℕ → S → List ℕ → Answer → S → List ℕ → Type 0
+abbrev pub Performs : {S R F : Type 0} → Doing S R F → Records R → ℕ → S → List ℕ → Result ℕ Refusal → S → List ℕ → Type 0
 Performs doing rs start s d r t after = (head : List ℕ) → Shows d start head → seen r after t ≡ performed doing rs s (length d) head

@@ -1,10 +1,9 @@
 -- Claims. What every call of the server's functions leaves to C (document 01, "What a call says back"), as claims about every argument: nothing is
 -- supposed of store, table or frame but what a claim names. `Clears`, `ThenZeros`, `AsLong` and `Early` are those of crate `server`
 -- (specs/Claims/Left.antt); number, length and reply buffer are what the call gives back, what it puts through `reply_used`, and what it leaves in `reply`.
-use Rattle.std.specs.Prelude.{◌≡◌, true, false, cond, List, [], ℕ, ◌^◌, ◌<◌, length}
+use Rattle.std.specs.Prelude.{◌≡◌, true, false, cond, List, [], ℕ, ◌^◌, ◌<◌, length, Some}
 use Rattle.types.specs.Number.{AllBytes}
 use Rattle.frame.specs.declared.header.ZclHeader.{ZclHeader}
-use Rattle.frame.specs.declared.header.HeaderRead.TheVariants.{Header}
 use Rattle.frame.specs.declared.command_identifier.CommandIdentifier.TheVariants.{ReportAttributes, DefaultResponse}
 use Rattle.frame.specs.declared.answer.Refusal.{Refusal}
 use Rattle.frame.specs.declared.answer.Refusal.TheVariants.{NotAStore, NotATable, NotASavedForm}
@@ -71,7 +70,7 @@ HdTableStays =
 abbrev pub HdHandleRequestStarts : Type 0
 HdHandleRequestStarts =
     (s bs : List ℕ) (cluster unicast : ℕ) (frame : List ℕ) (size : ℕ) (h : ZclHeader)
-    → header_of frame ≡ Header h
+    → header_of frame ≡ Some h
     → Starts h.sequence_number (answering (frame_type_of h.frame_control.0) h.command_identifier.0) (handle_left s bs cluster unicast frame size)
 
 -- ---- hd_unsupported_cluster, which changes neither
@@ -91,7 +90,7 @@ HdUnsupportedClusterLength = OfEveryResponse (λ size o. AsLong size o)
 abbrev pub HdUnsupportedClusterStarts : Type 0
 HdUnsupportedClusterStarts =
     (served : List ℕ) (cluster unicast : ℕ) (frame : List ℕ) (size : ℕ) (h : ZclHeader)
-    → header_of frame ≡ Header h
+    → header_of frame ≡ Some h
     → Starts h.sequence_number DefaultResponse (unsupported_left served cluster unicast frame size)
 
 -- ---- hd_report, which changes neither

@@ -2,8 +2,7 @@
 -- answers: "Start from an empty reporting table. An accepted configuration record gives an attribute minimum m and maximum M, M from 1 to 65534;
 -- nothing later configures or clears it, but any other calls may come between. .." and of a table just read in (document 02, request 5). What is supposed
 -- and promised of the events is said in crate `reporting` (specs/Demand3.antt).
-use Rattle.std.specs.Prelude.{◌≡◌, cond, List, [], ◌∷◌, ◌++◌, ℕ, ◌^◌, ◌≤◌, ◌<◌, eqb, ℤ}
-use Rattle.std.proofs.Math.Option.{some}
+use Rattle.std.specs.Prelude.{◌≡◌, cond, List, [], ◌∷◌, ◌++◌, ℕ, ◌^◌, ◌≤◌, ◌<◌, eqb, ℤ, Some}
 use Rattle.types.specs.Number.{AllBytes}
 use Rattle.frame.specs.Answer.{no_state}
 use Rattle.std.specs.Int.Signed.{mag}
@@ -205,7 +204,7 @@ Demand3OfRestored =
     (was form bs : List ℕ) (after : List Made) (k : Key) (g : ReportingConfig) (G : ℕ)
     → Begins (read form 0) was bs
     → Log bs after
-    → lookup_l k (saved_in (form_in form) form) ≡ some (fresh k g)
+    → lookup_l k (saved_in (form_in form) form) ≡ Some (fresh k g)
     → 1 ≤ g.max_interval
     → Supposed k G (all_events_of after bs)
     → Promised g G (asks_of k (all_events_of after bs))

@@ -1,7 +1,6 @@
 -- Claims. A power cut, in what the functions towards C left: the log of specs/Claims/LogExample.antt as far as attribute 5's mark, and the table saved; then memory that is no table, the
 -- saved form read in over it, asks and their mark, on a clock that began again. All that `Demand3OfRestored` supposes is met.
-use Rattle.std.specs.Prelude.{◌≡◌, true, false, List, [], ◌∷◌, ℕ, ◌-◌, ◌≤◌, negsuc}
-use Rattle.std.proofs.Math.Option.{some}
+use Rattle.std.specs.Prelude.{◌≡◌, true, false, List, [], ◌∷◌, ℕ, ◌-◌, ◌≤◌, negsuc, Some}
 use Rattle.types.specs.Number.{zeros}
 use Rattle.frame.specs.Reply.{padded}
 use Rattle.reporting.specs.declared.entry.Entry.{Entry}
@@ -69,5 +68,5 @@ RestoreStands = (is_table capacity memory ≡ false) × (Begins (read form 0) me
 -- attribute 5 stands in the form, and the events are as supposed, with asks at most 59 seconds apart
 abbrev pub RestoreSupposed : Type 0
 RestoreSupposed =
-    (lookup_l key (saved_in (form_in form) form) ≡ some (fresh key g))
+    (lookup_l key (saved_in (form_in form) form) ≡ Some (fresh key g))
     × ((1 ≤ g.max_interval) × ((all_events_of after back ≡ told) × Supposed key 59 told))

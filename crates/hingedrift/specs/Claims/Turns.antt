@@ -1,7 +1,6 @@
 -- Claims. REPORT TURNS IN WHAT THE FUNCTIONS TOWARDS C LEFT: what document 02, request 3, promises of turns (crate `report`, specs/Claims: Fairness.antt, Demand3.antt; of a table that is
 -- served: crate `server`, Turns.antt), of a log of one table's bytes (Log.antt).
-use Rattle.std.specs.Prelude.{◌≡◌, cond, List, [], ◌∷◌, ◌++◌, ℕ, ◌+◌, ◌-◌, ◌*◌, ◌≤◌, length, eqb}
-use Rattle.std.proofs.Math.Option.{Option, none, some}
+use Rattle.std.specs.Prelude.{◌≡◌, cond, List, [], ◌∷◌, ◌++◌, ℕ, ◌+◌, ◌-◌, ◌*◌, ◌≤◌, length, eqb, None, Option, Some}
 use Rattle.frame.specs.Encoded.{encode_all}
 use Rattle.frame.specs.Reply.{padded}
 use Rattle.store.specs.declared.lookup.Attribute.{Attribute}
@@ -27,19 +26,19 @@ use Rattle.hingedrift.specs.Claims.Log.{Handled, Turning, Made, configure, clear
 
 -- the turn that a call was, if it was one
 abbrev pub turn_in : Made → Option Turn
-turn_in (configure a g number accepted table) = none
-turn_in (clear a number table) = none
-turn_in (mark a x number table) = none
-turn_in (ask a x number due) = none
-turn_in (configuration a number found) = none
-turn_in (handle h) = none
-turn_in (save size number used buffer) = none
-turn_in (restore form number table) = none
-turn_in (turn t) = some (turn_as t)
+turn_in (configure a g number accepted table) = None
+turn_in (clear a number table) = None
+turn_in (mark a x number table) = None
+turn_in (ask a x number due) = None
+turn_in (configuration a number found) = None
+turn_in (handle h) = None
+turn_in (save size number used buffer) = None
+turn_in (restore form number table) = None
+turn_in (turn t) = Some (turn_as t)
 
 abbrev pub happens_by : Option Turn → List Event → List Happening
-happens_by none es = as_events es
-happens_by (some u) es = Happens.turn u ∷ []
+happens_by None es = as_events es
+happens_by (Some u) es = Happens.turn u ∷ []
 
 abbrev pub happenings_in : List Made → List ℕ → List Happening
 happenings_in [] bs = []
@@ -47,8 +46,8 @@ happenings_in (c ∷ cs) bs = happens_by (turn_in c) (events_of c bs) ++ happeni
 
 -- a turn of the cluster is one of these, with the entries that it met
 abbrev pub turn_first : ℕ → Option Turn → List Entry → List Met → List Met
-turn_first cluster none l more = more
-turn_first cluster (some u) l more = cond (eqb (cluster_of u.store) cluster) (record { turn = u; entries = l } ∷ more) more
+turn_first cluster None l more = more
+turn_first cluster (Some u) l more = cond (eqb (cluster_of u.store) cluster) (record { turn = u; entries = l } ∷ more) more
 
 -- the turns of a cluster, in their order
 abbrev pub turns_made : ℕ → List Made → List ℕ → List Met
@@ -109,7 +108,7 @@ MostApartInLog =
     (how : Begin) (was bs : List ℕ) (before after : List Made) (cluster id G : ℕ) (e : Entry)
     → Begins how was bs
     → Log bs (before ++ after)
-    → lookup_l (key_of cluster id) (table_in (last before bs)) ≡ some e
+    → lookup_l (key_of cluster id) (table_in (last before bs)) ≡ Some e
     → AcceptedRecord e.config
     → LeftAlone (key_of cluster id) (happenings_in after (last before bs))
     → Each (Present 8 id) (turns_made cluster after (last before bs))

@@ -1,6 +1,7 @@
 -- Claims. THE READERS' PROMISE, both ways, for each reply: what was written is read back, exactly; and what is accepted was so written. Proved in
 -- proofs/ReadsBack.antt.
-use Rattle.std.specs.Prelude.{◌≡◌, ℕ, List, [], ◌∷◌, ◌++◌, take, drop}
+use Rattle.frame.specs.declared.answer.Refusal.{Refusal}
+use Rattle.std.specs.Prelude.{◌≡◌, ℕ, List, [], ◌∷◌, ◌++◌, take, drop, Ok, Result}
 use Rattle.types.specs.Number.{AllBytes}
 use Rattle.frame.specs.declared.header.ZclHeader.{ZclHeader}
 use Rattle.frame.specs.declared.command_identifier.CommandIdentifier.{CommandIdentifier}
@@ -15,23 +16,23 @@ use Rattle.configure.specs.Configure as Configure
 use Rattle.configure.specs.Configuration as Configuration
 use Rattle.discover.specs.Discover as Discover
 use Rattle.report.specs.Report as Report
-use Rattle.readers.specs.Reading.{Read, read, body_of}
+use Rattle.readers.specs.Reading.{body_of}
 use Rattle.readers.specs.Replies.{Discovery, Response, read_reply_of, write_reply_of, configure_reply_of, configuration_reply_of, report_frame_of, discover_reply_of, default_response_of}
 use Rattle.readers.specs.Claims.Sendable.{ReadSendable, WriteSendable, ConfigureSendable, SettingSendable, ReportSendable, DiscoverySendable}
 
 -- ---- over a reply's content, its bytes, and which content can be sent
 
 -- what was written behind the head of a reply to whatever request is read back
-abbrev pub ReadsBack : {A : Type 0} → (List ℕ → Read A) → CommandIdentifier → (A → List ℕ) → (A → Type 0) → Type 0
-ReadsBack {A} reader command bytes Sendable = (request : ZclHeader) (x : A) → Sendable x → reader (reply_head request command ++ bytes x) ≡ read x
+abbrev pub ReadsBack : {A : Type 0} → (List ℕ → Result A Refusal) → CommandIdentifier → (A → List ℕ) → (A → Type 0) → Type 0
+ReadsBack {A} reader command bytes Sendable = (request : ZclHeader) (x : A) → Sendable x → reader (reply_head request command ++ bytes x) ≡ Ok x
 
 -- a frame that is accepted has a body, and that is the bytes of what was read, which can be sent
-abbrev pub AcceptsOnly : {A : Type 0} → (List ℕ → Read A) → CommandIdentifier → (A → List ℕ) → (A → Type 0) → Type 0
+abbrev pub AcceptsOnly : {A : Type 0} → (List ℕ → Result A Refusal) → CommandIdentifier → (A → List ℕ) → (A → Type 0) → Type 0
 AcceptsOnly {A} reader command bytes Sendable =
-    (f : List ℕ) (x : A) → AllBytes f → reader f ≡ read x
-    → Sendable x × ((p : ℕ) × (body_of command f ≡ read p) × (drop p f ≡ bytes x))
+    (f : List ℕ) (x : A) → AllBytes f → reader f ≡ Ok x
+    → Sendable x × ((p : ℕ) × (body_of command f ≡ Ok p) × (drop p f ≡ bytes x))
 
-abbrev pub BothWays : {A : Type 0} → (List ℕ → Read A) → CommandIdentifier → (A → List ℕ) → (A → Type 0) → Type 0
+abbrev pub BothWays : {A : Type 0} → (List ℕ → Result A Refusal) → CommandIdentifier → (A → List ℕ) → (A → Type 0) → Type 0
 BothWays reader command bytes Sendable = ReadsBack reader command bytes Sendable × AcceptsOnly reader command bytes Sendable
 
 -- ---- each reply
@@ -63,9 +64,9 @@ response_bytes r = r.command ∷ r.status ∷ []
 
 abbrev pub DefaultResponsesBack : Type 0
 DefaultResponsesBack =
-    (request : ZclHeader) (x : Response) (more : List ℕ) → default_response_of (reply_head request DefaultResponse ++ response_bytes x ++ more) ≡ read x
+    (request : ZclHeader) (x : Response) (more : List ℕ) → default_response_of (reply_head request DefaultResponse ++ response_bytes x ++ more) ≡ Ok x
 
 abbrev pub DefaultResponsesOnly : Type 0
 DefaultResponsesOnly =
-    (f : List ℕ) (x : Response) → default_response_of f ≡ read x
-    → (p : ℕ) × (body_of DefaultResponse f ≡ read p) × (take 2 (drop p f) ≡ response_bytes x)
+    (f : List ℕ) (x : Response) → default_response_of f ≡ Ok x
+    → (p : ℕ) × (body_of DefaultResponse f ≡ Ok p) × (take 2 (drop p f) ≡ response_bytes x)

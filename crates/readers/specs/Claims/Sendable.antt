@@ -1,8 +1,7 @@
 -- Claims. The records that a reply can hold: their numbers fit their fields, and a value is a whole value of its type.
-use Rattle.std.specs.Prelude.{◌≡◌, false, ℕ, ◌*◌, ◌^◌, ◌≤◌, ◌<◌, List, length}
+use Rattle.std.specs.Prelude.{◌≡◌, false, ℕ, ◌*◌, ◌^◌, ◌≤◌, ◌<◌, List, length, Ok}
 use Rattle.types.specs.Extent.{extent_of}
 use Rattle.frame.specs.Walk.{All}
-use Rattle.types.specs.declared.extent.Extent.TheVariants.{End}
 use Rattle.read.specs.Read.{ReadRecord, value, failure}
 use Rattle.write.specs.Reply as Write
 use Rattle.configure.specs.Request.{change_width}
@@ -14,7 +13,7 @@ use Rattle.readers.specs.Replies.{Discovery}
 
 -- these bytes are one value of a type, to their end
 abbrev pub Whole : ℕ → List ℕ → Type 0
-Whole t v = extent_of v 0 t ≡ End (length v)
+Whole t v = extent_of v 0 t ≡ Ok (length v)
 
 abbrev pub Failed : ℕ → Type 0
 Failed status = status ≡ 0 → ⊥

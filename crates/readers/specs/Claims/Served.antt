@@ -1,13 +1,12 @@
 -- Claims. READING WHAT WAS SERVED gives the records that the command's definition made: for every store, table, request and room. Where the room
 -- shortened a reply, the records are those that fit. Proved in proofs/ServesBack.antt.
-use Rattle.std.specs.Prelude.{◌≡◌, ℕ, ◌-◌, ◌<◌, ◌^◌, Bool, List, [], take, drop, get_or}
+use Rattle.frame.specs.declared.answer.Refusal.{Refusal}
+use Rattle.std.specs.Prelude.{◌≡◌, ℕ, ◌-◌, ◌<◌, ◌^◌, Bool, List, [], take, drop, get_or, Ok, Some, Result}
 use Rattle.types.specs.Number.{unsigned_at, AllBytes}
 use Rattle.frame.specs.declared.header.ZclHeader.{ZclHeader}
-use Rattle.frame.specs.declared.header.HeaderRead.TheVariants.{Header}
 use Rattle.frame.specs.declared.command_identifier.CommandIdentifier.{CommandIdentifier}
 use Rattle.frame.specs.declared.command_identifier.CommandIdentifier.TheVariants.{ReadAttributes, ReadAttributesResponse, WriteAttributes, WriteAttributesUndivided, WriteAttributesResponse, WriteAttributesNoResponse, ConfigureReporting, ConfigureReportingResponse, ReadReportingConfiguration, ReadReportingConfigurationResponse, ReportAttributes, DefaultResponse, DiscoverAttributes, DiscoverAttributesResponse, Other}
 use Rattle.frame.specs.declared.status.Status.TheVariants.{UnsupCommand, UnsupportedCluster}
-use Rattle.frame.specs.declared.answer.Answer.TheVariants.{Reply}
 use Rattle.frame.specs.Status.{status_code}
 use Rattle.frame.specs.Header.{header_of}
 use Rattle.frame.specs.Answer.{no_state, seen}
@@ -31,7 +30,6 @@ use Rattle.server.specs.Serve.{State, serve}
 use Rattle.server.specs.UnsupportedCluster.{unsupported_cluster}
 use Rattle.report.specs.Report.{ReportRecord, all, report_from, report_of}
 use Rattle.server.specs.Claims.Asks.{Asks, AsksCluster}
-use Rattle.readers.specs.Reading.{Read, read}
 use Rattle.readers.specs.Replies.{Discovery, discovery, Response, read_reply_of, write_reply_of, configure_reply_of, configuration_reply_of, report_frame_of, discover_reply_of, default_response_of}
 
 -- ---- the records that a command made, behind a head of three bytes
@@ -80,14 +78,14 @@ abbrev pub Typed : List ℕ → List ℕ → List Entry → Type 0
 Typed s frame l = AllBytes s × AllBytes frame × All (λ (e : Entry). (e.config.min_interval < 2 ^ 16) × (e.config.max_interval < 2 ^ 16)) l
 
 -- whatever was answered to a frame, with a table of these entries, reads as that
-abbrev pub Answered : {A : Type 0} → (List ℕ → ZclHeader → Type 0) → (List ℕ → Read A) → OfRequest A → Type 0
+abbrev pub Answered : {A : Type 0} → (List ℕ → ZclHeader → Type 0) → (List ℕ → Result A Refusal) → OfRequest A → Type 0
 Answered Asking reader made =
     (form limit : ℕ) (s : List ℕ) (l : List Entry) (cluster : ℕ) (unicast : Bool) (frame : List ℕ) (room : ℕ) (h : ZclHeader)
     → Typed s frame l → Asking frame h
-    → (size : ℕ) (reply : List ℕ) (after : State) → seen (Reply size) reply after ≡ serve form limit s (holding l) cluster unicast frame room
-    → reader (take size reply) ≡ read (made form limit s l h (drop h.body frame) room)
+    → (size : ℕ) (reply : List ℕ) (after : State) → seen (Ok size) reply after ≡ serve form limit s (holding l) cluster unicast frame room
+    → reader (take size reply) ≡ Ok (made form limit s l h (drop h.body frame) room)
 
-abbrev pub Serves : {A : Type 0} → CommandIdentifier → (List ℕ → Read A) → OfRequest A → Type 0
+abbrev pub Serves : {A : Type 0} → CommandIdentifier → (List ℕ → Result A Refusal) → OfRequest A → Type 0
 Serves command reader made = Answered (Asks command) reader made
 
 abbrev pub ReadServed : Type 0
@@ -137,13 +135,13 @@ OtherServed = (command : CommandIdentifier) → IsOther command → Serves comma
 
 abbrev pub UnsupportedClusterServed : Type 0
 UnsupportedClusterServed =
-    (served : List ℕ) (cluster : ℕ) (unicast : Bool) (frame : List ℕ) (room : ℕ) (h : ZclHeader) → header_of frame ≡ Header h
-    → (size : ℕ) (reply : List ℕ) → seen (Reply size) reply no_state ≡ unsupported_cluster served cluster unicast frame room
-    → default_response_of (take size reply) ≡ read (record { command = h.command_identifier.0; status = status_code UnsupportedCluster })
+    (served : List ℕ) (cluster : ℕ) (unicast : Bool) (frame : List ℕ) (room : ℕ) (h : ZclHeader) → header_of frame ≡ Some h
+    → (size : ℕ) (reply : List ℕ) → seen (Ok size) reply no_state ≡ unsupported_cluster served cluster unicast frame room
+    → default_response_of (take size reply) ≡ Ok (record { command = h.command_identifier.0; status = status_code UnsupportedCluster })
 
 -- a report's records are made one by one from its list of ids
 abbrev pub ReportSent : Type 0
 ReportSent =
     (form : ℕ) (s : List ℕ) (sequence : ℕ) (ids : List ℕ) (room : ℕ) → All (λ (id : ℕ). id < 2 ^ 16) ids
-    → (size : ℕ) (reply : List ℕ) → seen (Reply size) reply no_state ≡ report_of form s sequence ids room
-    → (rs : List ReportRecord) × (report_from form s room 3 [] ids ≡ all rs) × (report_frame_of (take size reply) ≡ read rs)
+    → (size : ℕ) (reply : List ℕ) → seen (Ok size) reply no_state ≡ report_of form s sequence ids room
+    → (rs : List ReportRecord) × (report_from form s room 3 [] ids ≡ all rs) × (report_frame_of (take size reply) ≡ Ok rs)

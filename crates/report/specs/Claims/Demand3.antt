@@ -2,8 +2,7 @@
 -- store of each and marked by them alone, demand 3's yes to an ask reads 'found due', the yes it is timed from the last report, and reports
 -- stand at least m and, on the terms above, at most M+nG-1 seconds apart."
 -- Asks may still come between, also of the attribute.
-use Rattle.std.specs.Prelude.{◌≡◌, ◌↔◌, ℕ, ◌+◌, ◌-◌, ◌*◌, ◌≤◌, ◌<◌, Bool, true, false, ◌&&◌, List, [], ◌∷◌, ◌++◌, ℤ}
-use Rattle.std.proofs.Math.Option.{some}
+use Rattle.std.specs.Prelude.{◌≡◌, ◌↔◌, ℕ, ◌+◌, ◌-◌, ◌*◌, ◌≤◌, ◌<◌, Bool, true, false, ◌&&◌, List, [], ◌∷◌, ◌++◌, ℤ, Some}
 use Rattle.store.specs.Contents.{attributes_of, reportable}
 use Rattle.reporting.specs.declared.entry.Key.{Key}
 use Rattle.reporting.specs.declared.entry.ReportingConfig.{ReportingConfig}
@@ -100,7 +99,7 @@ abbrev pub TurnsStanding : Type 0
 TurnsStanding =
     (form limit cluster id G : ℕ) (start : List Entry) (g : ReportingConfig) (later : List Happening)
     → Distinct start
-    → lookup_l (key_of cluster id) start ≡ some (fresh (key_of cluster id) g)
+    → lookup_l (key_of cluster id) start ≡ Some (fresh (key_of cluster id) g)
     → AcceptedRecord g
     → Supposed form limit cluster id G later start
     → Promised g (looks_of form id (turns_of form limit cluster later start))
@@ -111,7 +110,7 @@ abbrev pub MostApart : Type 0
 MostApart =
     (form limit cluster id G : ℕ) (start : List Entry) (e : Entry) (later : List Happening)
     → Distinct start
-    → lookup_l (key_of cluster id) start ≡ some e
+    → lookup_l (key_of cluster id) start ≡ Some e
     → AcceptedRecord e.config
     → Supposed form limit cluster id G later start
     → Standing cluster later

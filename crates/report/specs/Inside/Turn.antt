@@ -1,7 +1,7 @@
 -- Inside. What the functions of a report turn say; nothing that a caller must believe.
-use Rattle.std.specs.Prelude.{◌≡◌, ℕ, Bool, true, false, not, cond, List, [], ◌∷◌, ◌++◌, length}
+use Rattle.std.specs.Prelude.{◌≡◌, ℕ, Bool, true, false, not, cond, List, [], ◌∷◌, ◌++◌, length, Result}
 use Rattle.frame.specs.declared.answer.Refusal.TheVariants.{ReplyTooLong, NothingToSend}
-use Rattle.frame.specs.declared.answer.Answer.{Answer}
+use Rattle.frame.specs.declared.answer.Refusal.{Refusal}
 use Rattle.frame.specs.Answer.{Outcome, no_state, seen, replied, refused}
 use Rattle.frame.specs.Inside.Buffer.{Shows, Longer, Stays}
 use Rattle.frame.specs.Encoded.{encode_all}
@@ -82,7 +82,7 @@ closing space sequence s full [] = refused space (cond full ReplyTooLong Nothing
 closing space sequence s full (a ∷ more) = replied space (report_head sequence ++ encode_all (record_in s) (a ∷ more)) no_state
 
 -- the end, whatever records the buffer showed behind the header
-abbrev pub Finishes : List ℕ → ℕ → Swept → Answer → List ℕ → Type 0
+abbrev pub Finishes : List ℕ → ℕ → Swept → Result ℕ Refusal → List ℕ → Type 0
 Finishes d from c r d' =
     (s : List ℕ) (sequence : ℕ) (w : List Attribute) → from ≡ length (report_head sequence) → Shows d c.out (report_head sequence ++ encode_all (record_in s) w)
     → seen r d' no_state ≡ closing (length d) sequence s c.full w

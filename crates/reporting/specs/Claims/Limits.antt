@@ -1,7 +1,6 @@
 -- Claims. Two limits (document 02, request 7: "from an empty table every history of configure and clear whose keys, as they stand under the new limit, never pass 16 at once gives the
 -- same answers under both limits"): of every history of calls, from any entries, and over any two limits.
-use Rattle.std.specs.Prelude.{◌≡◌, Bool, true, false, ◌&&◌, List, [], ◌∷◌, ℕ, zero, suc, ◌≤◌, length, get_or, leb}
-use Rattle.std.proofs.Math.Option.{Option}
+use Rattle.std.specs.Prelude.{◌≡◌, Bool, true, false, ◌&&◌, List, [], ◌∷◌, ℕ, zero, suc, ◌≤◌, length, get_or, leb, Option}
 use Rattle.frame.specs.declared.status.Status.{Status}
 use Rattle.reporting.specs.declared.entry.Entry.{Entry}
 use Rattle.reporting.specs.Entries.{lookup_l, distinct, accepts_l}

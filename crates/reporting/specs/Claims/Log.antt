@@ -1,12 +1,10 @@
 -- Claims. What the code of the table did: the calls of its methods one after the other, each with what it gave back; and demand 3 of these answers.
-use Rattle.std.specs.Prelude.{◌≡◌, cond, List, [], ◌∷◌, ◌++◌, ℕ, eqb, ℤ}
+use Rattle.std.specs.Prelude.{◌≡◌, cond, List, [], ◌∷◌, ◌++◌, ℕ, eqb, ℤ, Option, Result, Bool}
 use Rattle.reporting.specs.declared.entry.Key.{Key}
 use Rattle.reporting.specs.declared.entry.ReportingConfig.{ReportingConfig}
 use Rattle.reporting.specs.declared.table.ReportingTable.{ReportingTable}
 use Rattle.reporting.specs.declared.table.Changed.{Changed}
-use Rattle.reporting.specs.declared.table.Report.{Report}
-use Rattle.reporting.specs.declared.table.Setting.{Setting}
-use Rattle.reporting.specs.declared.table.Length.{Length}
+use Rattle.frame.specs.declared.answer.Refusal.{Refusal}
 use Rattle.reporting.specs.Table.{capacity, table_of, holding, ChangeTold, ReportTold, change_told, report_told, setting_told, length_told, handed_back, configure_t, clear_t, mark_t, ask_t, configuration_t, length_t}
 use Rattle.reporting.specs.Claims.Events.{Event, configured, cleared, asked, marked}
 use Rattle.reporting.specs.Demand3.{AcceptedRecord, Supposed, Promised, asks_of}
@@ -16,9 +14,9 @@ pub data Made : Type 0 where
   configure : Key → ReportingConfig → Changed → Made
   clear : Key → Changed → Made
   mark : Key → ℕ → ℤ → Changed → Made
-  ask : Key → ℕ → ℤ → Report → Made
-  configuration : Key → Setting → Made
-  len : Length → Made
+  ask : Key → ℕ → ℤ → Result Bool Refusal → Made
+  configuration : Key → Result (Option ReportingConfig) Refusal → Made
+  len : Result ℕ Refusal → Made
 
 -- what the method's contract says of it, for the table that it was called on: the `ensures` of src/table.rt
 abbrev pub Contract : Made → ReportingTable → Type 0

@@ -1,15 +1,11 @@
 -- Claims. A log of the table's methods that meets all that demand 3 of the code supposes (specs/Claims/Log.antt, `Demand3OfCode`): a configuration, an ask,
 -- its mark, calls for another key and calls that only look, and asks before and at the maximum.
-use Rattle.std.specs.Prelude.{◌≡◌, true, false, List, [], ◌∷◌, ◌++◌, ℕ, ◌-◌, length, replicate, pos}
+use Rattle.std.specs.Prelude.{◌≡◌, true, false, List, [], ◌∷◌, ◌++◌, ℕ, ◌-◌, length, replicate, pos, Ok, Some}
 use Rattle.reporting.specs.declared.entry.Key.{Key}
 use Rattle.reporting.specs.declared.entry.ReportingConfig.{ReportingConfig}
 use Rattle.reporting.specs.declared.entry.Entry.{Entry}
 use Rattle.reporting.specs.declared.table.ReportingTable.{ReportingTable}
-use Rattle.reporting.specs.declared.table.Change.TheVariants.{Done}
 use Rattle.reporting.specs.declared.table.Changed.{Changed}
-use Rattle.reporting.specs.declared.table.Report.TheVariants.{Due, NotDue}
-use Rattle.reporting.specs.declared.table.Setting.TheVariants.{Given}
-use Rattle.reporting.specs.declared.table.Length.TheVariants.{Entries}
 use Rattle.reporting.specs.Entries.{fresh}
 use Rattle.reporting.specs.Table.{capacity, table_of, holding, zero_config}
 use Rattle.reporting.specs.Claims.Events.{Event, configured, cleared, asked, marked}
@@ -27,7 +23,7 @@ table_with l = record { entries = l ++ replicate (capacity - length l) (fresh (k
 
 -- an operation was done, and left these entries
 abbrev pub done_with : List Entry → Changed
-done_with l = record { table = table_with l; answer = Done }
+done_with l = record { table = table_with l; answer = (Ok true) }
 
 -- ---- the log
 
@@ -48,13 +44,13 @@ abbrev pub log : List Made
 log =
     configure j g (done_with (fresh j g ∷ []))
     ∷ configure k g (done_with (fresh j g ∷ fresh k g ∷ []))
-    ∷ ask k 1000 (pos 2100) Due
+    ∷ ask k 1000 (pos 2100) (Ok true)
     ∷ mark k 1000 (pos 2100) (done_with (fresh j g ∷ reported ∷ []))
-    ∷ ask k 1029 (pos 2124) NotDue
+    ∷ ask k 1029 (pos 2124) (Ok false)
     ∷ clear j (done_with (reported ∷ []))
-    ∷ configuration k (Given g)
-    ∷ len (Entries 1)
-    ∷ ask k 1030 (pos 2124) Due
+    ∷ configuration k (Ok (Some g))
+    ∷ len (Ok 1)
+    ∷ ask k 1030 (pos 2124) (Ok true)
     ∷ []
 
 abbrev pub earlier : List Event

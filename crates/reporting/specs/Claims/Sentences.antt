@@ -1,14 +1,11 @@
 -- Claims. Document 01's sentences about the reporting table ("The reporting table is a value of sixteen entries and a count .."), in its order, as
 -- claims of the operations as they are defined (Table.antt), which the functions are proved equal to. `limit` is how many entries a table may have,
 -- in the table's functions `capacity`: document 01's sixteen, 128 since document 02's request 7. Proved in proofs/Sentences.antt, and those of histories in proofs/Histories.antt.
-use Rattle.std.specs.Prelude.{◌≡◌, ◌↔◌, true, false, List, [], ℕ, ◌-◌, ◌≤◌, ◌<◌, length, get_or, set, take, ℤ}
-use Rattle.std.proofs.Math.Option.{none, some}
+use Rattle.std.specs.Prelude.{◌≡◌, ◌↔◌, true, false, List, [], ℕ, ◌-◌, ◌≤◌, ◌<◌, length, get_or, set, take, ℤ, None, Ok, Some}
 use Rattle.reporting.specs.declared.entry.Key.{Key}
 use Rattle.reporting.specs.declared.entry.ReportingConfig.{ReportingConfig}
 use Rattle.reporting.specs.declared.entry.Entry.{Entry}
 use Rattle.reporting.specs.declared.table.ReportingTable.{ReportingTable}
-use Rattle.reporting.specs.declared.table.Change.TheVariants as ChangeV
-use Rattle.reporting.specs.declared.table.Report.TheVariants as ReportV
 use Rattle.reporting.specs.Entries.{find_l, lookup_l, Distinct, others, fresh, configure_l, clear_l}
 use Rattle.reporting.specs.Due.{moved_by, ripe}
 use Rattle.reporting.specs.Table.{capacity, holding, Alike, ReportTold, change_told, report_told, done_t, full_t, configure_t, clear_t, mark_t, ask_t}
@@ -28,10 +25,10 @@ AlikeCount = (t u : ReportingTable) → length t.entries ≡ capacity → length
 -- ---- "A mark or clear without an entry changes nothing."
 
 abbrev pub MarkMissing : Type 0
-MarkMissing = (k : Key) (now : ℕ) (v : ℤ) (l : List Entry) → lookup_l k l ≡ none → mark_t k now v (holding l) ≡ done_t l
+MarkMissing = (k : Key) (now : ℕ) (v : ℤ) (l : List Entry) → lookup_l k l ≡ None → mark_t k now v (holding l) ≡ done_t l
 
 abbrev pub ClearMissing : Type 0
-ClearMissing = (k : Key) (l : List Entry) → lookup_l k l ≡ none → clear_t k (holding l) ≡ done_t l
+ClearMissing = (k : Key) (l : List Entry) → lookup_l k l ≡ None → clear_t k (holding l) ≡ done_t l
 
 -- ---- "The scan ends at the first entry that matches cluster and attribute both."
 
@@ -57,9 +54,9 @@ KeysNeverTwice = (limit : ℕ) (cs : List Call) → Distinct (calls limit cs [])
 abbrev pub ConfigureAgain : Type 0
 ConfigureAgain =
     (limit : ℕ) (k : Key) (g : ReportingConfig) (l : List Entry) (e : Entry)
-    → lookup_l k l ≡ some e
+    → lookup_l k l ≡ Some e
     → (configure_t limit k g (holding l) ≡ done_t (set l (find_l k l) (fresh k g)))
-    × (lookup_l k (set l (find_l k l) (fresh k g)) ≡ some (fresh k g))
+    × (lookup_l k (set l (find_l k l) (fresh k g)) ≡ Some (fresh k g))
 
 -- ---- "A direct configure takes any interval, failing exactly when sixteen others stand."
 
@@ -68,7 +65,7 @@ abbrev pub ConfigureFails : Type 0
 ConfigureFails =
     (limit : ℕ) (k : Key) (g : ReportingConfig) (l : List Entry)
     → length l ≤ limit
-    → ((configure_t limit k g (holding l)).told ≡ change_told ChangeV.Full) ↔ (others k l ≡ limit)
+    → ((configure_t limit k g (holding l)).told ≡ change_told (Ok false)) ↔ (others k l ≡ limit)
 
 -- .. and leaves the table
 abbrev pub ConfigureFailed : Type 0
@@ -84,7 +81,7 @@ ConfigureTakes =
     (limit : ℕ) (k : Key) (g : ReportingConfig) (l : List Entry)
     → others k l < limit
     → (configure_t limit k g (holding l) ≡ done_t (configure_l limit k g l))
-    × (lookup_l k (configure_l limit k g l) ≡ some (fresh k g))
+    × (lookup_l k (configure_l limit k g l) ≡ Some (fresh k g))
     × ((j : Key) → (k ≡ j → ⊥) → lookup_l j (configure_l limit k g l) ≡ lookup_l j l)
 
 -- ---- "Clearing moves the last entry into the hole, and its room serves again."
@@ -93,7 +90,7 @@ ConfigureTakes =
 abbrev pub ClearMoves : Type 0
 ClearMoves =
     (k : Key) (l : List Entry) (e : Entry)
-    → lookup_l k l ≡ some e
+    → lookup_l k l ≡ Some e
     → clear_t k (holding l) ≡ done_t (take (length l - 1) (set l (find_l k l) (get_or l (length l - 1) e)))
 
 -- where keys are distinct, the key has no entry then, and every other key the one that it had, wherever that is now
@@ -101,7 +98,7 @@ abbrev pub ClearLeaves : Type 0
 ClearLeaves =
     (k : Key) (l : List Entry)
     → Distinct l
-    → (lookup_l k (clear_l k l) ≡ none)
+    → (lookup_l k (clear_l k l) ≡ None)
     × ((j : Key) → (k ≡ j → ⊥) → lookup_l j (clear_l k l) ≡ lookup_l j l)
 
 -- after a clear of a key that stood, a configuration of any key is done
@@ -109,24 +106,24 @@ abbrev pub RoomServesAgain : Type 0
 RoomServesAgain =
     (limit : ℕ) (k j : Key) (g : ReportingConfig) (l : List Entry) (e : Entry)
     → length l ≤ limit
-    → lookup_l k l ≡ some e
-    → (configure_t limit j g (clear_t k (holding l)).table).told ≡ change_told ChangeV.Done
+    → lookup_l k l ≡ Some e
+    → (configure_t limit j g (clear_t k (holding l)).table).told ≡ change_told (Ok true)
 
 -- ---- "An ask: no entry, no; maximum ffff, no; never marked, yes; elapsed is 0 if the clock went back; then as demand 3, maximum 0 never
 -- firing by time, and the Rust deciding where a direct call put the minimum above a nonzero maximum."
 
 abbrev pub AskMissing : Type 0
-AskMissing = (k : Key) (now : ℕ) (v : ℤ) (l : List Entry) → lookup_l k l ≡ none → ask_t k now v (holding l) ≡ report_told ReportV.NotDue
+AskMissing = (k : Key) (now : ℕ) (v : ℤ) (l : List Entry) → lookup_l k l ≡ None → ask_t k now v (holding l) ≡ report_told (Ok false)
 
 -- for every table and key with an entry, every time and value: P of the entry, the time, the value and the answer
 abbrev pub OfEveryAsk : (Entry → ℕ → ℤ → ReportTold → Type 0) → Type 0
-OfEveryAsk P = (k : Key) (now : ℕ) (v : ℤ) (l : List Entry) (e : Entry) → lookup_l k l ≡ some e → P e now v (ask_t k now v (holding l))
+OfEveryAsk P = (k : Key) (now : ℕ) (v : ℤ) (l : List Entry) (e : Entry) → lookup_l k l ≡ Some e → P e now v (ask_t k now v (holding l))
 
 abbrev pub AskOff : Type 0
-AskOff = OfEveryAsk (λ e now v answer. e.config.max_interval ≡ 0xffff → answer ≡ report_told ReportV.NotDue)
+AskOff = OfEveryAsk (λ e now v answer. e.config.max_interval ≡ 0xffff → answer ≡ report_told (Ok false))
 
 abbrev pub AskFirst : Type 0
-AskFirst = OfEveryAsk (λ e now v answer. (e.config.max_interval ≡ 0xffff → ⊥) → e.marked ≡ false → answer ≡ report_told ReportV.Due)
+AskFirst = OfEveryAsk (λ e now v answer. (e.config.max_interval ≡ 0xffff → ⊥) → e.marked ≡ false → answer ≡ report_told (Ok true))
 
 -- of an entry that was marked, and whose maximum is not ffff
 abbrev pub OfMarked : (Entry → ℕ → ℤ → ReportTold → Type 0) → Type 0
@@ -144,7 +141,7 @@ elapsed e now = now - e.last_time
 
 -- under the minimum, no
 abbrev pub AskEarly : Type 0
-AskEarly = OfMarked (λ e now v answer. elapsed e now < e.config.min_interval → answer ≡ report_told ReportV.NotDue)
+AskEarly = OfMarked (λ e now v answer. elapsed e now < e.config.min_interval → answer ≡ report_told (Ok false))
 
 -- from the maximum on, yes
 abbrev pub AskLate : Type 0
@@ -152,11 +149,11 @@ AskLate =
     OfMarked (λ e now v answer. e.config.min_interval ≤ elapsed e now
     → (e.config.max_interval ≡ 0 → ⊥)
     → e.config.max_interval ≤ elapsed e now
-    → answer ≡ report_told ReportV.Due)
+    → answer ≡ report_told (Ok true))
 
 -- yes where M holds, no where it does not
 abbrev pub YesExactly : Type 0 → ReportTold → Type 0
-YesExactly M answer = (M → answer ≡ report_told ReportV.Due) × ((M → ⊥) → answer ≡ report_told ReportV.NotDue)
+YesExactly M answer = (M → answer ≡ report_told (Ok true)) × ((M → ⊥) → answer ≡ report_told (Ok false))
 
 -- between the two, yes exactly when "the value has since moved by a nonzero amount not under the configured change"
 abbrev pub AskBetween : Type 0

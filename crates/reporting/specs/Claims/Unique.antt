@@ -1,19 +1,15 @@
 -- Claims. No second answer fits a contract: one claim for each public function, of two results and exit buffers that meet it at the same entry
 -- values. Of a table that comes back the slots past its count are no part (`Alike`).
-use Rattle.std.specs.Prelude.{◌≡◌, Bool, true, List, [], ℕ, drop, ℤ}
+use Rattle.std.specs.Prelude.{◌≡◌, Bool, true, List, [], ℕ, drop, ℤ, Option, Result, Ok, Some, is_some}
 use Rattle.std.proofs.lemmas.List.Edits.{sets}
 use Rattle.types.specs.Number.{AllBytes, bytes_of, unsigned_at}
-use Rattle.reporting.specs.declared.carried.ReadTable.{ReadTable}
 use Rattle.reporting.specs.declared.entry.Key.{Key}
 use Rattle.reporting.specs.declared.entry.ReportingConfig.{ReportingConfig}
 use Rattle.reporting.specs.declared.entry.Wish.{Wish}
 use Rattle.reporting.specs.declared.entry.Entry.{Entry}
 use Rattle.reporting.specs.declared.table.ReportingTable.{ReportingTable}
-use Rattle.reporting.specs.declared.table.Change.{Change}
+use Rattle.frame.specs.declared.answer.Refusal.{Refusal}
 use Rattle.reporting.specs.declared.table.Changed.{Changed}
-use Rattle.reporting.specs.declared.table.Report.{Report}
-use Rattle.reporting.specs.declared.table.Setting.{Setting}
-use Rattle.reporting.specs.declared.table.Length.{Length}
 use Rattle.reporting.specs.Table.{capacity, table_of, Alike, report_told, setting_told, length_told, handed_back, holding, configure_t, clear_t, mark_t, configuration_t, ask_t, length_t}
 use Rattle.reporting.specs.Entries.{same, matches, find_l, fresh, clear_l, mark_e, mark_l}
 use Rattle.reporting.specs.Due.{dist, dist_by, moved_by, ripe, due_e, due_l}
@@ -28,10 +24,10 @@ IsTableOnce = (bytes : List ℕ) (r q : Bool) → r ≡ is_table capacity bytes 
 
 abbrev pub ReadTableOnce : Type 0
 ReadTableOnce =
-    (bytes : List ℕ) (r q : ReadTable)
+    (bytes : List ℕ) (r q : Option ReportingTable)
     → reading r ≡ read_t capacity bytes
     → reading q ≡ read_t capacity bytes
-    → (r.known ≡ q.known) × Alike r.table q.table
+    → (is_some r ≡ is_some q) × ((t u : ReportingTable) → r ≡ Some t → q ≡ Some u → Alike t u)
 
 abbrev pub WriteTableOnce : Type 0
 WriteTableOnce =
@@ -82,20 +78,66 @@ EntryMarkOnce = (self : Entry) (now : ℕ) (value : ℤ) (r q : Entry) → r ≡
 abbrev pub DueOnce : Type 0
 DueOnce = (self : Entry) (now : ℕ) (value : ℤ) (r q : Bool) → r ≡ due_e self now value → q ≡ due_e self now value → r ≡ q
 
--- src/lent.rt
+-- src/held.rt
 abbrev pub FindSlotOnce : Type 0
-FindSlotOnce = (bytes : List ℕ) (key : Key) (r q : ℕ) → r ≡ find_l key (table_in bytes) → q ≡ find_l key (table_in bytes) → r ≡ q
+FindSlotOnce = (self : List ℕ) (key : Key) (r q : ℕ) → r ≡ find_l key (table_in self) → q ≡ find_l key (table_in self) → r ≡ q
 
+abbrev pub TableRefDueOnce : Type 0
+TableRefDueOnce =
+    (self : List ℕ) (key : Key) (time : ℕ) (value : ℤ) (r q : Bool)
+    → r ≡ due_l key time value (table_in self)
+    → q ≡ due_l key time value (table_in self)
+    → r ≡ q
+
+abbrev pub TableRefConfigurationOnce : Type 0
+TableRefConfigurationOnce =
+    (self : List ℕ) (key : Key) (r q : Option ReportingConfig)
+    → setting_told (Ok r) ≡ configuration_t key (holding (table_in self))
+    → setting_told (Ok q) ≡ configuration_t key (holding (table_in self))
+    → r ≡ q
+
+abbrev pub ReadOnce : Type 0
+ReadOnce = (self r q : List ℕ) → r ≡ self → q ≡ self → r ≡ q
+
+-- Where a table is changed, the contract speaks of the one that the bytes are afterwards; a table has one form as bytes.
+abbrev pub TableMutMarkOnce : Type 0
+TableMutMarkOnce =
+    (self : List ℕ) (key : Key) (time : ℕ) (value : ℤ) (x y : List ℕ)
+    → AllBytes x
+    → AllBytes y
+    → read_t capacity x ≡ table_read true (mark_l key time value (table_in self))
+    → read_t capacity y ≡ table_read true (mark_l key time value (table_in self))
+    → x ≡ y
+
+abbrev pub TableMutConfigureOnce : Type 0
+TableMutConfigureOnce =
+    (self : List ℕ) (key : Key) (config : ReportingConfig) (r q : Bool) (x y : List ℕ)
+    → AllBytes x
+    → AllBytes y
+    → kept_as r x ≡ configure_in key config (table_in self)
+    → kept_as q y ≡ configure_in key config (table_in self)
+    → (r ≡ q) × (x ≡ y)
+
+abbrev pub TableMutClearOnce : Type 0
+TableMutClearOnce =
+    (self : List ℕ) (key : Key) (x y : List ℕ)
+    → AllBytes x
+    → AllBytes y
+    → read_t capacity x ≡ table_read true (clear_l key (table_in self))
+    → read_t capacity y ≡ table_read true (clear_l key (table_in self))
+    → x ≡ y
+
+-- src/lent.rt
 abbrev pub AskLentOnce : Type 0
 AskLentOnce =
-    (bytes : List ℕ) (key : Key) (now : ℕ) (value : ℤ) (r q : Report)
+    (bytes : List ℕ) (key : Key) (now : ℕ) (value : ℤ) (r q : Result Bool Refusal)
     → report_told r ≡ ask_lent key now value bytes
     → report_told q ≡ ask_lent key now value bytes
     → r ≡ q
 
 abbrev pub ConfigurationLentOnce : Type 0
 ConfigurationLentOnce =
-    (bytes : List ℕ) (key : Key) (r q : Setting)
+    (bytes : List ℕ) (key : Key) (r q : Result (Option ReportingConfig) Refusal)
     → setting_told r ≡ configuration_lent key bytes
     → setting_told q ≡ configuration_lent key bytes
     → r ≡ q
@@ -116,52 +158,10 @@ ClearLentOnce =
 
 abbrev pub ConfigureLentOnce : Type 0
 ConfigureLentOnce =
-    (bytes : List ℕ) (key : Key) (config : ReportingConfig) (r q : Change) (x y : List ℕ)
+    (bytes : List ℕ) (key : Key) (config : ReportingConfig) (r q : Result Bool Refusal) (x y : List ℕ)
     → left_as r x ≡ configure_lent key config bytes
     → left_as q y ≡ configure_lent key config bytes
     → (r ≡ q) × (x ≡ y)
-
--- Of the functions without the check the contract speaks of the table that the bytes are afterwards; a table has one form as bytes.
-abbrev pub ConfigurationInOnce : Type 0
-ConfigurationInOnce =
-    (bytes : List ℕ) (key : Key) (r q : Setting)
-    → setting_told r ≡ configuration_t key (holding (table_in bytes))
-    → setting_told q ≡ configuration_t key (holding (table_in bytes))
-    → r ≡ q
-
-abbrev pub ConfigureInOnce : Type 0
-ConfigureInOnce =
-    (bytes : List ℕ) (key : Key) (config : ReportingConfig) (r q : Change) (x y : List ℕ)
-    → AllBytes x
-    → AllBytes y
-    → kept_as r x ≡ configure_in key config (table_in bytes)
-    → kept_as q y ≡ configure_in key config (table_in bytes)
-    → (r ≡ q) × (x ≡ y)
-
-abbrev pub DueInOnce : Type 0
-DueInOnce =
-    (bytes : List ℕ) (key : Key) (time : ℕ) (value : ℤ) (r q : Bool)
-    → r ≡ due_l key time value (table_in bytes)
-    → q ≡ due_l key time value (table_in bytes)
-    → r ≡ q
-
-abbrev pub MarkInOnce : Type 0
-MarkInOnce =
-    (bytes : List ℕ) (key : Key) (time : ℕ) (value : ℤ) (x y : List ℕ)
-    → AllBytes x
-    → AllBytes y
-    → read_t capacity x ≡ table_read true (mark_l key time value (table_in bytes))
-    → read_t capacity y ≡ table_read true (mark_l key time value (table_in bytes))
-    → x ≡ y
-
-abbrev pub ClearInOnce : Type 0
-ClearInOnce =
-    (bytes : List ℕ) (key : Key) (x y : List ℕ)
-    → AllBytes x
-    → AllBytes y
-    → read_t capacity x ≡ table_read true (clear_l key (table_in bytes))
-    → read_t capacity y ≡ table_read true (clear_l key (table_in bytes))
-    → x ≡ y
 
 -- src/numbers.rt
 abbrev pub U16InOnce : Type 0
@@ -203,17 +203,17 @@ ReportingTableMarkOnce =
 
 abbrev pub ConfigurationOnce : Type 0
 ConfigurationOnce =
-    (self : ReportingTable) (key : Key) (r q : Setting)
+    (self : ReportingTable) (key : Key) (r q : Result (Option ReportingConfig) Refusal)
     → setting_told r ≡ configuration_t key (table_of self)
     → setting_told q ≡ configuration_t key (table_of self)
     → r ≡ q
 
 abbrev pub AskOnce : Type 0
 AskOnce =
-    (self : ReportingTable) (key : Key) (now : ℕ) (value : ℤ) (r q : Report)
+    (self : ReportingTable) (key : Key) (now : ℕ) (value : ℤ) (r q : Result Bool Refusal)
     → report_told r ≡ ask_t key now value (table_of self)
     → report_told q ≡ ask_t key now value (table_of self)
     → r ≡ q
 
 abbrev pub LenOnce : Type 0
-LenOnce = (self : ReportingTable) (r q : Length) → length_told r ≡ length_t (table_of self) → length_told q ≡ length_t (table_of self) → r ≡ q
+LenOnce = (self : ReportingTable) (r q : Result ℕ Refusal) → length_told r ≡ length_t (table_of self) → length_told q ≡ length_t (table_of self) → r ≡ q

@@ -1,9 +1,6 @@
 -- Claims. Which numbers compare otherwise without their sign (document 02, request 6: "Where the mark is that of the value's type, other widths decide as before").
-use Rattle.std.specs.Prelude.{◌≡◌, Bool, true, false, ◌&&◌, List, [], ◌∷◌, ℕ, ◌-◌, ◌^◌, ◌≤◌, ◌<◌, ltb, eqb, ℤ, pos, negsuc}
+use Rattle.std.specs.Prelude.{◌≡◌, Bool, true, false, ◌&&◌, List, [], ◌∷◌, ℕ, ◌-◌, ◌^◌, ◌≤◌, ◌<◌, ltb, eqb, ℤ, pos, negsuc, None, Option, Some}
 use Rattle.std.specs.Int.Signed.{mag}
-use Rattle.types.specs.declared.ids.Size.{Size}
-use Rattle.types.specs.declared.ids.Size.TheVariants.{Bytes, Varies}
-use Rattle.types.specs.declared.value.Number.TheVariants.{Value}
 use Rattle.types.specs.Number.{AllBytes}
 use Rattle.types.specs.Ids.{size_of, is_analog, is_float}
 use Rattle.types.specs.Value.{number_at}
@@ -11,9 +8,9 @@ use Rattle.reporting.specs.declared.entry.Entry.{Entry}
 use Rattle.reporting.specs.Entries.{fresh, mark_e}
 use Rattle.reporting.specs.Due.{dist, bits_of, dist_by, compares_unsigned, due_e}
 
-abbrev pub eight_bytes : Size → Bool
-eight_bytes (Bytes w) = eqb w 8
-eight_bytes Varies = false
+abbrev pub eight_bytes : Option ℕ → Bool
+eight_bytes (Some w) = eqb w 8
+eight_bytes None = false
 
 -- a type of 8 bytes that is no Int: document 01 keeps its bits, so that a number of it may be negative
 abbrev pub keeps_bits : ℕ → Bool
@@ -28,8 +25,8 @@ OthersAsBefore =
     → AllBytes x
     → AllBytes y
     → keeps_bits t ≡ false
-    → number_at x p t ≡ Value v
-    → number_at y q t ≡ Value w
+    → number_at x p t ≡ Some v
+    → number_at y q t ≡ Some w
     → dist_by (compares_unsigned t) v w ≡ dist v w
 
 -- Two 64-bit numbers on one side of the middle, both below 2^63 without their sign or both not, are as far apart either way;
@@ -71,8 +68,8 @@ OthersDecideAsBefore =
     → AllBytes y
     → keeps_bits t ≡ false
     → e.config.unsigned ≡ compares_unsigned t
-    → number_at x p t ≡ Value e.last_value
-    → number_at y q t ≡ Value v
+    → number_at x p t ≡ Some e.last_value
+    → number_at y q t ≡ Some v
     → AsBefore e now v
 
 -- Under any mark, the type's or not, a change of 0 or 1 decides as before: it only asks whether the value has moved.
@@ -103,7 +100,7 @@ top = 0xff ∷ 0xff ∷ 0xff ∷ 0xff ∷ 0xff ∷ 0xff ∷ 0xff ∷ 0xff ∷ []
 -- Its top is -1 as a number is handed on. The minimum has just passed: yes now, and no before.
 abbrev pub MeterSpeaks : Type 0
 MeterSpeaks =
-    (number_at top 0 0x27 ≡ Value (negsuc 0))
+    (number_at top 0 0x27 ≡ Some (negsuc 0))
     × (compares_unsigned 0x27 ≡ true)
     × (due_e (meter true) 110 (negsuc 0) ≡ true)
     × (due_e (meter false) 110 (negsuc 0) ≡ false)

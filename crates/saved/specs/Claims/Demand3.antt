@@ -1,8 +1,7 @@
 -- Claims. DEMAND 3 FROM A TABLE JUST READ IN (document 02, request 5): "Demand 3 then also starts from a table just read in, its entries counting as configured; a read between,
 -- refused or not, counts as clearing what stood before." What is supposed and promised of the events is said in crate `reporting` (specs/Demand3.antt); a read between is a call
 -- `restore` there (specs/Claims/Events.antt).
-use Rattle.std.specs.Prelude.{◌≡◌, true, cond, List, [], ℕ, ◌≤◌}
-use Rattle.std.proofs.Math.Option.{some}
+use Rattle.std.specs.Prelude.{◌≡◌, true, cond, List, [], ℕ, ◌≤◌, Some}
 use Rattle.reporting.specs.declared.entry.Key.{Key}
 use Rattle.reporting.specs.declared.entry.ReportingConfig.{ReportingConfig}
 use Rattle.reporting.specs.declared.entry.Entry.{Entry}
@@ -22,7 +21,7 @@ ReadIsCall = (limit : ℕ) (bs : List ℕ) (l : List Entry) → call limit (rest
 -- Key k has the configuration g in a saved form, with a maximum that is not 0. That m ≤ M and M ≤ 65534 is no supposition: a saved form has no other.
 pub record Stands (limit : ℕ) (form : List ℕ) (k : Key) (g : ReportingConfig) : Type 0 where
   pub saved : is_saved (form_in form) limit form ≡ true
-  pub entry : lookup_l k (saved_in (form_in form) form) ≡ some (fresh k g)
+  pub entry : lookup_l k (saved_in (form_in form) form) ≡ Some (fresh k g)
   pub maximum : 1 ≤ g.max_interval
 
 -- Of events: those that tell the truth from the table just read in.

@@ -1,9 +1,8 @@
 -- Claims. Saved forms under two limits (document 02, request 7: "Saved forms of up to 16 entries keep their bytes"; "an old box gives 13 for a count above 16"). What is written has no
 -- limit in it (Saved.antt: `saved_bytes`). An old box is `restore_under 16`.
-use Rattle.std.specs.Prelude.{◌≡◌, true, List, [], ◌∷◌, ℕ, zero, suc, ◌<◌, ◌≤◌}
+use Rattle.std.specs.Prelude.{◌≡◌, true, List, [], ◌∷◌, ℕ, zero, suc, ◌<◌, ◌≤◌, Err, Ok}
 use Rattle.types.specs.Number.{AllBytes, zeros}
 use Rattle.reporting.specs.declared.entry.Entry.{Entry}
-use Rattle.reporting.specs.declared.table.Change.TheVariants.{Done, Refused}
 use Rattle.frame.specs.declared.answer.Refusal.TheVariants.{NotASavedForm}
 use Rattle.reporting.specs.Entries.{fresh}
 use Rattle.reporting.specs.Table.{capacity, zero_config}
@@ -20,7 +19,7 @@ FormUnderLimits = (f : Form) (small large : ℕ) (bs : List ℕ) → count_in bs
 
 -- a count above the limit: 13, and an empty table
 abbrev pub FormAboveLimit : Type 0
-FormAboveLimit = (limit : ℕ) (form bs : List ℕ) → limit < count_in form → size_ok limit bs ≡ true → restore_under limit form bs ≡ left_as (Refused NotASavedForm) (table_bytes limit [])
+FormAboveLimit = (limit : ℕ) (form bs : List ℕ) → limit < count_in form → size_ok limit bs ≡ true → restore_under limit form bs ≡ left_as (Err NotASavedForm) (table_bytes limit [])
 
 -- ---- document 01's sixteen, and a table now
 
@@ -35,8 +34,8 @@ in_row (suc n) i = fresh (record { cluster = record { 0 = 0 }; attribute = recor
 
 -- sixteen entries are read by both, seventeen and 128 by a table now alone, and 129 by neither
 pub record OldBox : Type 0 where
-  pub sixteen_then : restore_under 16 (saved_bytes marked (in_row 16 0)) (zeros (table_size 16)) ≡ left_as Done (table_bytes 16 (in_row 16 0))
-  pub sixteen_now : restore_under capacity (saved_bytes marked (in_row 16 0)) (zeros (table_size capacity)) ≡ left_as Done (table_bytes capacity (in_row 16 0))
-  pub seventeen_then : restore_under 16 (saved_bytes marked (in_row 17 0)) (zeros (table_size 16)) ≡ left_as (Refused NotASavedForm) (table_bytes 16 [])
-  pub seventeen_now : restore_under capacity (saved_bytes marked (in_row 17 0)) (zeros (table_size capacity)) ≡ left_as Done (table_bytes capacity (in_row 17 0))
-  pub past_now : restore_under capacity (saved_bytes marked (in_row 129 0)) (zeros (table_size capacity)) ≡ left_as (Refused NotASavedForm) (table_bytes capacity [])
+  pub sixteen_then : restore_under 16 (saved_bytes marked (in_row 16 0)) (zeros (table_size 16)) ≡ left_as (Ok true) (table_bytes 16 (in_row 16 0))
+  pub sixteen_now : restore_under capacity (saved_bytes marked (in_row 16 0)) (zeros (table_size capacity)) ≡ left_as (Ok true) (table_bytes capacity (in_row 16 0))
+  pub seventeen_then : restore_under 16 (saved_bytes marked (in_row 17 0)) (zeros (table_size 16)) ≡ left_as (Err NotASavedForm) (table_bytes 16 [])
+  pub seventeen_now : restore_under capacity (saved_bytes marked (in_row 17 0)) (zeros (table_size capacity)) ≡ left_as (Ok true) (table_bytes capacity (in_row 17 0))
+  pub past_now : restore_under capacity (saved_bytes marked (in_row 129 0)) (zeros (table_size capacity)) ≡ left_as (Err NotASavedForm) (table_bytes capacity [])

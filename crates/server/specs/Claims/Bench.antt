@@ -1,8 +1,7 @@
 -- Claims. DOCUMENT 01'S STARRED BENCH FRAMES: 1, 2, 3, 5, 6, 7, 9, 10, 11 and 12, as one list under one claim.
-use Rattle.std.specs.Prelude.{◌≡◌, Bool, true, false, List, [], ◌∷◌, ◌++◌, ℕ, ℤ, pos, negsuc}
+use Rattle.std.specs.Prelude.{◌≡◌, Bool, true, false, List, [], ◌∷◌, ◌++◌, ℕ, ℤ, pos, negsuc, Ok}
 use Rattle.types.specs.Value.{change_at}
 use Rattle.frame.specs.Answer.{Outcome, replied}
-use Rattle.store.specs.declared.value.Numbered.TheVariants.{Is}
 use Rattle.store.specs.Value.{number_of}
 use Rattle.reporting.specs.declared.entry.Key.{Key}
 use Rattle.reporting.specs.declared.entry.ReportingConfig.{ReportingConfig}
@@ -66,7 +65,7 @@ Holds (serves frame room reply level) = bench_answer frame room ≡ replied room
 Holds (reports frame reply config time value asks) =
     (bench_answer frame 64 ≡ replied 64 reply (state (T 0x07) (holding (unmarked config ∷ []))))
     × Answers (mark_t key time value (bench_answer frame 64).state.table).table asks
-Holds (numbers attribute z) = number_of 8 (T 0x07) attribute ≡ Is z
+Holds (numbers attribute z) = number_of 8 (T 0x07) attribute ≡ Ok z
 Holds (changes t bytes n) = change_at bytes 0 t ≡ n
 
 abbrev pub AllHold : List Claim → Type 0

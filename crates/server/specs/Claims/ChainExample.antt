@@ -1,6 +1,5 @@
 -- Claims. Chains over store T (Bench.antt), as one list: two replies do occur, a Default Response ends a chain, and a cluster command of the same number is none.
-use Rattle.std.specs.Prelude.{◌≡◌, true, List, [], ◌∷◌, ℕ}
-use Rattle.std.proofs.Math.Option.{some}
+use Rattle.std.specs.Prelude.{◌≡◌, true, List, [], ◌∷◌, ℕ, Some}
 use Rattle.frame.specs.declared.answer.Refusal.TheVariants.{NothingToSend}
 use Rattle.frame.specs.Answer.{refused}
 use Rattle.reporting.specs.Table.{capacity, holding}
@@ -39,5 +38,5 @@ pub record ChainsAre : Type 0 where
   -- a cluster command of its number is answered, and that answer is not
   pub clusters : chain (box ∷ box ∷ []) (0x01 ∷ 0x00 ∷ 0x0b ∷ []) ≡ (0x18 ∷ 0x00 ∷ 0x0b ∷ 0x0b ∷ 0x81 ∷ []) ∷ []
   -- a report frame gets a Default Response, and that nothing
-  pub reported : sent (report_of 8 (T 0x07) 0x07 (5 ∷ []) 64) ≡ some reporting
+  pub reported : sent (report_of 8 (T 0x07) 0x07 (5 ∷ []) 64) ≡ Some reporting
   pub one : chain (box ∷ box ∷ []) reporting ≡ (0x18 ∷ 0x07 ∷ 0x0b ∷ 0x0a ∷ 0x81 ∷ []) ∷ []

@@ -1,7 +1,6 @@
 -- Claims. What happens to a reporting table that is served: requests, direct calls and report turns, told as the events of crate `reporting` (specs/Claims/Events.antt).
-use Rattle.std.specs.Prelude.{Bool, cond, ◌&&◌, List, [], ◌∷◌, ◌++◌, ℕ, drop, eqb}
-use Rattle.frame.specs.declared.header.HeaderRead.{HeaderRead}
-use Rattle.frame.specs.declared.header.HeaderRead.TheVariants.{Header, Short}
+use Rattle.std.specs.Prelude.{Bool, cond, ◌&&◌, List, [], ◌∷◌, ◌++◌, ℕ, drop, eqb, None, Option, Some}
+use Rattle.frame.specs.declared.header.ZclHeader.{ZclHeader}
 use Rattle.frame.specs.declared.command_identifier.CommandIdentifier.TheVariants.{ConfigureReporting}
 use Rattle.frame.specs.Header.{header_of, is_command}
 use Rattle.store.specs.Contents.{cluster_of}
@@ -30,9 +29,9 @@ unfoldable pub requested : ℕ → Request → List Entry → List Entry
 requested limit r l = entries_of (serve 8 limit r.store (holding l) r.cluster r.unicast r.frame r.room).state.table
 
 -- the events of a request: those of a Configure Reporting frame over a store of its cluster; no other request has any
-abbrev pub headed_events : ℕ → Request → List Entry → HeaderRead → List Event
-headed_events limit r l Short = []
-headed_events limit r l (Header h) =
+abbrev pub headed_events : ℕ → Request → List Entry → Option ZclHeader → List Event
+headed_events limit r l None = []
+headed_events limit r l (Some h) =
     cond (is_command ConfigureReporting h)
     (configure_events 8 limit r.store l h (drop h.body r.frame) r.room)
     []

@@ -1,12 +1,10 @@
 -- Claims. A log of the server and of the table's methods that meets all that demand 3 of the server supposes (specs/Claims/Log.antt, `Demand3OfServer`):
 -- bench frame 11, an ask and its mark; then a frame for the same attribute whose record is refused, with a maximum nonzero and below the minimum, so
 -- that it neither configures nor clears; and asks before and at the maximum.
-use Rattle.std.specs.Prelude.{◌≡◌, true, false, List, [], ◌∷◌, ◌++◌, ℕ, ◌≤◌, length, negsuc}
-use Rattle.frame.specs.declared.answer.Answer.TheVariants.{Reply}
+use Rattle.std.specs.Prelude.{◌≡◌, true, false, List, [], ◌∷◌, ◌++◌, ℕ, ◌≤◌, length, negsuc, Ok}
 use Rattle.frame.specs.Reply.{padded}
 use Rattle.reporting.specs.declared.entry.Entry.{Entry}
 use Rattle.reporting.specs.declared.table.ReportingTable.{ReportingTable}
-use Rattle.reporting.specs.declared.table.Report.TheVariants.{Due, NotDue}
 use Rattle.reporting.specs.Table.{table_of, holding}
 use Rattle.reporting.specs.Claims.Events.{Event, configured, asked, marked}
 use Rattle.reporting.specs.Demand3.{Supposed}
@@ -25,7 +23,7 @@ reported = record { key = key; config = g; marked = true; last_time = 100; last_
 
 -- handle_request gave a reply of these bytes, and left a table with these entries and store T as it was
 abbrev pub handled : Request → List ℕ → List Entry → Made
-handled q reply l = request q (record { table = table_with l; answer = Reply (length reply) }) (padded 64 reply) (T 0x07)
+handled q reply l = request q (record { table = table_with l; answer = Ok (length reply) }) (padded 64 reply) (T 0x07)
 
 abbrev pub configuring : Request
 configuring = over cluster (0x00 ∷ 0x2d ∷ 0x06 ∷ own_record)
@@ -45,11 +43,11 @@ before = handled (over cluster (0x00 ∷ 0x2a ∷ 0x00 ∷ 0x09 ∷ 0x00 ∷ [])
 
 abbrev pub after : List Made
 after =
-    method (ask key 100 (negsuc 199) Due)
+    method (ask key 100 (negsuc 199) (Ok true))
     ∷ method (mark key 100 (negsuc 199) (done_with (reported ∷ [])))
     ∷ handled crossed failed (reported ∷ [])
-    ∷ method (ask key 159 (negsuc 199) NotDue)
-    ∷ method (ask key 160 (negsuc 199) Due)
+    ∷ method (ask key 159 (negsuc 199) (Ok false))
+    ∷ method (ask key 160 (negsuc 199) (Ok true))
     ∷ []
 
 -- the table that the accepted record leaves

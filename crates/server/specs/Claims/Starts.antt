@@ -1,7 +1,6 @@
 -- Claims. How every reply starts (document 01, "Frames and values": "Every reply starts 18, sequence, reply command").
-use Rattle.std.specs.Prelude.{◌≡◌, Bool, List, [], ◌∷◌, ℕ, take}
+use Rattle.std.specs.Prelude.{◌≡◌, Bool, List, [], ◌∷◌, ℕ, take, Some}
 use Rattle.frame.specs.declared.header.ZclHeader.{ZclHeader}
-use Rattle.frame.specs.declared.header.HeaderRead.TheVariants.{Header}
 use Rattle.frame.specs.declared.header.FrameType.{FrameType}
 use Rattle.frame.specs.declared.header.FrameType.TheVariants.{GlobalCommand, ClusterCommand, Reserved}
 use Rattle.frame.specs.declared.command_identifier.CommandIdentifier.{CommandIdentifier}
@@ -47,14 +46,14 @@ answering Reserved command = DefaultResponse
 abbrev pub RepliesStart : Type 0
 RepliesStart =
     (form limit : ℕ) (s : List ℕ) (t : Table) (cluster : ℕ) (unicast : Bool) (frame : List ℕ) (room : ℕ) (h : ZclHeader)
-    → header_of frame ≡ Header h
+    → header_of frame ≡ Some h
     → Starts h.sequence_number (answering (frame_type_of h.frame_control.0) h.command_identifier.0) (serve form limit s t cluster unicast frame room)
 
 -- the responder's
 abbrev pub ResponsesStart : Type 0
 ResponsesStart =
     (served : List ℕ) (cluster : ℕ) (unicast : Bool) (frame : List ℕ) (room : ℕ) (h : ZclHeader)
-    → header_of frame ≡ Header h
+    → header_of frame ≡ Some h
     → Starts h.sequence_number DefaultResponse (unsupported_cluster served cluster unicast frame room)
 
 -- and a report, with the sequence number that it was given

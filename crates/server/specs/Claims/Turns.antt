@@ -1,7 +1,6 @@
 -- Claims. REPORT TURNS AMONG REQUESTS AND DIRECT CALLS: what document 02, request 3, promises of turns (crate `report`, specs/Claims: Fairness.antt,
 -- Demand3.antt), of a table that is served.
-use Rattle.std.specs.Prelude.{◌≡◌, cond, List, [], ◌∷◌, ◌++◌, ℕ, ◌+◌, ◌-◌, ◌*◌, ◌≤◌, length, eqb}
-use Rattle.std.proofs.Math.Option.{some}
+use Rattle.std.specs.Prelude.{◌≡◌, cond, List, [], ◌∷◌, ◌++◌, ℕ, ◌+◌, ◌-◌, ◌*◌, ◌≤◌, length, eqb, Some}
 use Rattle.store.specs.Contents.{cluster_of}
 use Rattle.reporting.specs.declared.entry.ReportingConfig.{ReportingConfig}
 use Rattle.reporting.specs.declared.entry.Entry.{Entry}
@@ -75,7 +74,7 @@ Demand3OfTurnsServed =
 abbrev pub MostApartServed : Type 0
 MostApartServed =
     (limit cluster id G : ℕ) (before : List Use) (e : Entry) (after : List Use)
-    → lookup_l (key_of cluster id) (uses limit before []) ≡ some e
+    → lookup_l (key_of cluster id) (uses limit before []) ≡ Some e
     → AcceptedRecord e.config
     → LeftAlone (key_of cluster id) (happenings limit after (uses limit before []))
     → Each (Present 8 id) (turns_in limit cluster after (uses limit before []))

@@ -1,8 +1,8 @@
 -- Claims. No second answer fits a call. Two that meet a request's contract have the same answer, reply buffer and store, and tables that are alike
 -- (the slots past the count are no part of a table).
-use Rattle.std.specs.Prelude.{◌≡◌, Bool, List, ℕ, length}
+use Rattle.std.specs.Prelude.{◌≡◌, Bool, List, ℕ, length, Result}
 use Rattle.types.specs.declared.ids.ClusterId.{ClusterId}
-use Rattle.frame.specs.declared.answer.Answer.{Answer}
+use Rattle.frame.specs.declared.answer.Refusal.{Refusal}
 use Rattle.frame.specs.declared.header.ZclHeader.{ZclHeader}
 use Rattle.frame.specs.declared.status.Status.{Status}
 use Rattle.frame.specs.Answer.{no_state, seen}
@@ -18,7 +18,7 @@ use Rattle.server.specs.UnsupportedCluster.{unsupported_cluster}
 -- src/default_response.rt
 abbrev pub DefaultResponseOnce : Type 0
 DefaultResponseOnce =
-    (request : ZclHeader) (unicast : Bool) (status : Status) (reply : List ℕ) (r q : Answer) (x y : List ℕ)
+    (request : ZclHeader) (unicast : Bool) (status : Status) (reply : List ℕ) (r q : Result ℕ Refusal) (x y : List ℕ)
     → seen r x no_state ≡ default_response request unicast status (length reply)
     → seen q y no_state ≡ default_response request unicast status (length reply)
     → (r ≡ q) × (x ≡ y)
@@ -26,7 +26,7 @@ DefaultResponseOnce =
 -- src/serve.rt
 abbrev pub HandleRequestLentOnce : Type 0
 HandleRequestLentOnce =
-    (store table : List ℕ) (cluster : ClusterId) (unicast : Bool) (request reply : List ℕ) (r q : Answer) (x y s u bs cs : List ℕ)
+    (store table : List ℕ) (cluster : ClusterId) (unicast : Bool) (request reply : List ℕ) (r q : Result ℕ Refusal) (x y s u bs cs : List ℕ)
     → seen r x (lent s bs) ≡ serve_lent store table cluster.0 unicast request (length reply)
     → seen q y (lent u cs) ≡ serve_lent store table cluster.0 unicast request (length reply)
     → (r ≡ q) × ((x ≡ y) × ((s ≡ u) × (bs ≡ cs)))
@@ -41,7 +41,7 @@ HandleRequestOnce =
 -- src/unsupported_cluster.rt
 abbrev pub UnsupportedClusterOnce : Type 0
 UnsupportedClusterOnce =
-    (served : List ℕ) (cluster : ClusterId) (unicast : Bool) (request reply : List ℕ) (r q : Answer) (x y : List ℕ)
+    (served : List ℕ) (cluster : ClusterId) (unicast : Bool) (request reply : List ℕ) (r q : Result ℕ Refusal) (x y : List ℕ)
     → seen r x no_state ≡ unsupported_cluster served cluster.0 unicast request (length reply)
     → seen q y no_state ≡ unsupported_cluster served cluster.0 unicast request (length reply)
     → (r ≡ q) × (x ≡ y)

@@ -1,7 +1,6 @@
 -- Claims. A store stays a store (document 01, "The store": its layout, "also after a write").
-use Rattle.std.specs.Prelude.{ℕ, ◌≤◌, ◌≡◌, true, List, length}
+use Rattle.std.specs.Prelude.{ℕ, ◌≤◌, ◌≡◌, true, List, length, Ok}
 use Rattle.types.specs.Extent.{extent_of}
-use Rattle.types.specs.declared.extent.Extent.TheVariants.{End}
 use Rattle.store.specs.Contents.{attributes_of}
 use Rattle.store.specs.Layout.{is_store}
 use Rattle.store.specs.Write.{write_of}
@@ -18,5 +17,5 @@ WriteStays =
     (form : ℕ) (s : List ℕ) (name t : ℕ) (v : List ℕ)
     → 8 ≤ form
     → is_store form s ≡ true
-    → extent_of v 0 t ≡ End (length v)
+    → extent_of v 0 t ≡ Ok (length v)
     → StoreLike form s (write_of form s name t v).store

@@ -1,19 +1,17 @@
 -- Claims. No second answer fits a contract: one claim for each public function, of two results and exit buffers that meet it at the same entry
 -- values.
-use Rattle.std.specs.Prelude.{ℕ, ◌≡◌, Bool, List, take, drop}
+use Rattle.std.specs.Prelude.{ℤ, ℕ, ◌≡◌, Bool, List, take, drop, Option, Result}
 use Rattle.store.specs.Layout.{is_text, text_length, is_store}
 use Rattle.store.specs.Contents.{cluster_of, count_of, attribute_at, reportable, name_of, find_of}
 use Rattle.store.specs.Value.{value_of, stored, telling, number_of}
 use Rattle.store.specs.Write.{check_of, wrote, write_of}
 use Rattle.store.specs.declared.lookup.Name.{Name}
 use Rattle.store.specs.declared.lookup.Attribute.{Attribute}
-use Rattle.store.specs.declared.lookup.Found.{Found}
 use Rattle.frame.specs.declared.header.ManufacturerCode.{ManufacturerCode}
 use Rattle.types.specs.declared.ids.AttributeId.{AttributeId}
 use Rattle.types.specs.declared.ids.ClusterId.{ClusterId}
 use Rattle.types.specs.declared.ids.TypeId.{TypeId}
-use Rattle.store.specs.declared.value.Numbered.{Numbered}
-use Rattle.store.specs.declared.write.Checked.{Checked}
+use Rattle.frame.specs.declared.answer.Refusal.{Refusal}
 use Rattle.frame.specs.declared.status.Status.{Status}
 
 -- src/layout.rt
@@ -46,7 +44,7 @@ abbrev pub IsReportableOnce : Type 0
 IsReportableOnce = (a : Attribute) (r q : Bool) → r ≡ reportable a → q ≡ reportable a → r ≡ q
 
 abbrev pub FindOnce : Type 0
-FindOnce = (s : List ℕ) (name : Name) (r q : Found) → r ≡ find_of 8 s name.0 → q ≡ find_of 8 s name.0 → r ≡ q
+FindOnce = (s : List ℕ) (name : Name) (r q : Option Attribute) → r ≡ find_of 8 s name.0 → q ≡ find_of 8 s name.0 → r ≡ q
 
 -- src/value.rt
 abbrev pub ValueOfOnce : Type 0
@@ -57,7 +55,7 @@ WriteValueOnce = (s : List ℕ) (a : Attribute) (value : List ℕ) (x y : List �
 
 abbrev pub NumberOfOnce : Type 0
 NumberOfOnce =
-    (s : List ℕ) (name : Name) (r q : Numbered)
+    (s : List ℕ) (name : Name) (r q : Result ℤ Refusal)
     → telling r ≡ telling (number_of 8 s name.0)
     → telling q ≡ telling (number_of 8 s name.0)
     → r ≡ q
@@ -65,7 +63,7 @@ NumberOfOnce =
 -- src/write.rt
 abbrev pub CheckWriteOnce : Type 0
 CheckWriteOnce =
-    (s : List ℕ) (name : Name) (type_id : TypeId) (value : List ℕ) (r q : Checked)
+    (s : List ℕ) (name : Name) (type_id : TypeId) (value : List ℕ) (r q : Result Attribute Status)
     → r ≡ check_of (find_of 8 s name.0) type_id.0 value
     → q ≡ check_of (find_of 8 s name.0) type_id.0 value
     → r ≡ q

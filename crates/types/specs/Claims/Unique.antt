@@ -1,24 +1,22 @@
 -- Claims. No second answer fits a contract: one claim for each public function, of two results and exit buffers that meet it at the same entry
 -- values.
-use Rattle.std.specs.Prelude.{ℕ, min, ◌≡◌, Bool, List, ℤ, nat_abs, get_or}
+use Rattle.std.specs.Prelude.{ℕ, min, ◌≡◌, Bool, List, ℤ, nat_abs, get_or, Option, Result}
 use Rattle.types.specs.Extent.{extent_of}
 use Rattle.types.specs.Ids.{size_of, shape_of, is_analog, is_reportable, is_signed, is_float}
 use Rattle.std.proofs.lemmas.List.Edits.{sets}
 use Rattle.types.specs.Number.{all_zero, bytes_of, unsigned_at, signed_at, signed_of}
 use Rattle.types.specs.Value.{number_at, change_at}
-use Rattle.types.specs.declared.extent.Extent.{Extent}
+use Rattle.types.specs.declared.extent.NoExtent.{NoExtent}
 use Rattle.types.specs.declared.ids.TypeId.{TypeId}
-use Rattle.types.specs.declared.ids.Size.{Size}
 use Rattle.types.specs.declared.ids.Shape.{Shape}
-use Rattle.types.specs.declared.value.Number.{Number}
 
 -- src/extent.rt
 abbrev pub ExtentAtOnce : Type 0
-ExtentAtOnce = (s : List ℕ) (p : ℕ) (type_id : TypeId) (r q : Extent) → r ≡ extent_of s p type_id.0 → q ≡ extent_of s p type_id.0 → r ≡ q
+ExtentAtOnce = (s : List ℕ) (p : ℕ) (type_id : TypeId) (r q : Result ℕ NoExtent) → r ≡ extent_of s p type_id.0 → q ≡ extent_of s p type_id.0 → r ≡ q
 
 -- src/ids.rt
 abbrev pub FixedSizeOnce : Type 0
-FixedSizeOnce = (self : TypeId) (r q : Size) → r ≡ size_of self.0 → q ≡ size_of self.0 → r ≡ q
+FixedSizeOnce = (self : TypeId) (r q : Option ℕ) → r ≡ size_of self.0 → q ≡ size_of self.0 → r ≡ q
 
 abbrev pub ShapeOnce : Type 0
 ShapeOnce = (self : TypeId) (r q : Shape) → r ≡ shape_of self.0 → q ≡ shape_of self.0 → r ≡ q
@@ -65,7 +63,7 @@ LeBytesOnce = (n : ℕ) (r q : List ℕ) → r ≡ bytes_of 8 n → q ≡ bytes_
 
 -- src/value.rt
 abbrev pub NumberAtOnce : Type 0
-NumberAtOnce = (s : List ℕ) (at : ℕ) (type_id : TypeId) (r q : Number) → r ≡ number_at s at type_id.0 → q ≡ number_at s at type_id.0 → r ≡ q
+NumberAtOnce = (s : List ℕ) (at : ℕ) (type_id : TypeId) (r q : Option ℤ) → r ≡ number_at s at type_id.0 → q ≡ number_at s at type_id.0 → r ≡ q
 
 abbrev pub ChangeAtOnce : Type 0
 ChangeAtOnce = (s : List ℕ) (at : ℕ) (type_id : TypeId) (r q : ℕ) → r ≡ change_at s at type_id.0 → q ≡ change_at s at type_id.0 → r ≡ q

@@ -1,8 +1,6 @@
 -- Claims. Sizes are counted in four families (document 02, request 9: "a width is the low three bits plus one"), and none is another than types/ids.rs has.
-use Rattle.std.specs.Prelude.{ℕ, ◌+◌, ◌%◌, ◌<◌, ◌≡◌, Bool, true, false, cond, ◌||◌, List, [], ◌∷◌, eqb}
+use Rattle.std.specs.Prelude.{ℕ, ◌+◌, ◌%◌, ◌<◌, ◌≡◌, Bool, true, false, cond, ◌||◌, List, [], ◌∷◌, eqb, None, Option, Some}
 use Rattle.types.specs.Ids.{among, size_of}
-use Rattle.types.specs.declared.ids.Size.{Size}
-use Rattle.types.specs.declared.ids.Size.TheVariants.{Bytes, Varies}
 
 -- the families 08 to 0f, 18 to 1f, 20 to 27 and 28 to 2f
 abbrev pub in_four : ℕ → Bool
@@ -10,7 +8,7 @@ in_four t = among 0x08 0x0f t || among 0x18 0x1f t || among 0x20 0x27 t || among
 
 -- in these a size is the low three bits plus one
 abbrev pub WidthsCounted : Type 0
-WidthsCounted = (t : ℕ) → t < 256 → in_four t ≡ true → size_of t ≡ Bytes (t % 8 + 1)
+WidthsCounted = (t : ℕ) → t < 256 → in_four t ≡ true → size_of t ≡ Some (t % 8 + 1)
 
 -- an arm of `fixed_size` in types/ids.rs: a size, and the codes of its types in their order there
 pub record Arm : Type 0 where
@@ -38,9 +36,9 @@ abbrev pub is_named : List ℕ → ℕ → Bool
 is_named [] t = false
 is_named (k ∷ ks) t = eqb t k || is_named ks t
 
-abbrev pub size_by : List Arm → ℕ → Size
-size_by [] t = Varies
-size_by (a ∷ more) t = let r = size_by more t in cond (is_named a.codes t) (Bytes a.size) r
+abbrev pub size_by : List Arm → ℕ → Option ℕ
+size_by [] t = None
+size_by (a ∷ more) t = let r = size_by more t in cond (is_named a.codes t) (Some a.size) r
 
 -- every code has the size that it has there
 abbrev pub SizesAsThere : Type 0

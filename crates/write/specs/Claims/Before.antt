@@ -1,6 +1,6 @@
 -- Claims. What document 02, request 2 moved: the three commands as document 01 has them, and that Write and Write without response keep their results,
 -- and Undivided its own where no record is too long.
-use Rattle.std.specs.Prelude.{◌≡◌, ℕ, ◌≤◌, true, cond, List, length, eqb}
+use Rattle.std.specs.Prelude.{◌≡◌, ℕ, ◌≤◌, true, cond, List, length, eqb, Err, None, Ok, Option, Result, Some}
 use Rattle.frame.specs.declared.header.ZclHeader.{ZclHeader}
 use Rattle.frame.specs.declared.command_identifier.CommandIdentifier.TheVariants.{WriteAttributesResponse}
 use Rattle.frame.specs.declared.status.Status.{Status}
@@ -10,10 +10,7 @@ use Rattle.frame.specs.Answer.{Outcome, refused}
 use Rattle.frame.specs.Walk.{Way, through, broken, stopped, reached, All}
 use Rattle.frame.specs.Encoded.{fits}
 use Rattle.frame.specs.Failures.{Doing, Sofar, pass, always, concluded, performed, headed}
-use Rattle.store.specs.declared.lookup.Found.{Found}
-use Rattle.store.specs.declared.lookup.Found.TheVariants.{At, Nothing}
-use Rattle.store.specs.declared.write.Checked.{Checked}
-use Rattle.store.specs.declared.write.Checked.TheVariants.{Fine, Failed}
+use Rattle.store.specs.declared.lookup.Attribute.{Attribute}
 use Rattle.store.specs.Contents.{name_of, find_of}
 use Rattle.store.specs.Layout.{is_store}
 use Rattle.store.specs.Value.{stored}
@@ -26,25 +23,25 @@ use Rattle.write.specs.Claims.Undivided.{status_over}
 -- ---- document 01: a writable check that does not look at the value
 
 -- not found 86, then not writable 88, then other type 8d
-abbrev pub writable_before : Found → ℕ → Checked
-writable_before Nothing t = Failed UnsupportedAttribute
-writable_before (At a) t = cond (is_writable a) (cond (eqb a.type_id.0 t) (Fine a) (Failed InvalidDataType)) (Failed ReadOnly)
+abbrev pub writable_before : Option Attribute → ℕ → Result Attribute Status
+writable_before None t = Err UnsupportedAttribute
+writable_before (Some a) t = cond (is_writable a) (cond (eqb a.type_id.0 t) (Ok a) (Err InvalidDataType)) (Err ReadOnly)
 
-abbrev pub found_before : ℕ → ZclHeader → List ℕ → WriteRecord → Checked
+abbrev pub found_before : ℕ → ZclHeader → List ℕ → WriteRecord → Result Attribute Status
 found_before form request s r = writable_before (find_of form s (name_of request.manufacturer_code.0 r.id)) r.type
 
 -- "then string longer than room-1 (ff is not) 87; else stored at once"
-abbrev pub stored_before : List ℕ → List ℕ → Checked → Wrote
-stored_before s v (Fine a) = cond (too_long a v) (wrote InvalidValue s) (wrote Success (stored s a v))
-stored_before s v (Failed why) = wrote why s
+abbrev pub stored_before : List ℕ → List ℕ → Result Attribute Status → Wrote
+stored_before s v (Ok a) = cond (too_long a v) (wrote InvalidValue s) (wrote Success (stored s a v))
+stored_before s v (Err why) = wrote why s
 
 unfoldable pub written_before : ℕ → ZclHeader → List ℕ → WriteRecord → Wrote
 written_before form request s r = stored_before s r.value (found_before form request s r)
 
 -- "a first pass reads all records and makes the first three checks"
-abbrev pub passed_before : Checked → Status
-passed_before (Fine a) = Success
-passed_before (Failed why) = why
+abbrev pub passed_before : Result Attribute Status → Status
+passed_before (Ok a) = Success
+passed_before (Err why) = why
 
 unfoldable pub checked_before : ℕ → ZclHeader → List ℕ → WriteRecord → Wrote
 checked_before form request s r = wrote (passed_before (found_before form request s r)) s

@@ -8,7 +8,7 @@ use Rattle.bench.proofs.answer.bench.Goals as goal
 pub returns-then-input-end : goal.returns-then-input-end
 returns-then-input-end c =
     c.put_number.ensures
-    ∙ ap decimal c.number.ensures
+    ∙ ap decimal c.from.ensures
     ∙ bench_cut c.args.input.now c.u16_at-n.result c.u16_at-n.ensures (omega arith)
 
 pub returns : goal.returns

@@ -1,5 +1,5 @@
 -- Too long for a store, or served over the copy. Assumes nothing.
-use mathlib.Core.Path.{◌≡◌, sym, ap, ◌∙◌}
+use mathlib.Core.Path.{◌≡◌, ap, ◌∙◌}
 use native.Mathlib.Omega.{arith}
 use lib.ListN.{length, take}
 use Rattle.bench.specs.Bench.{decimal}
@@ -10,13 +10,8 @@ pub returns-then-n-gt4096 : goal.returns-then-n-gt4096
 returns-then-n-gt4096 c =
     let a = c.args in
     c.put_number.ensures
-    ∙ ap decimal c.number.ensures
+    ∙ ap decimal c.from.ensures
     ∙ said_too_long a.store.now a.request.now (omega arith)
-
-pub slice_bounds-handle_request-end : goal.slice_bounds-handle_request-end
-slice_bounds-handle_request-end c =
-    let store_copied : take (length ((c.args.store.now))) c.put_run.new.buffer ≡ (c.args.store.now) = copied _ _ _ _ (omega arith) c.put_run.ensures in
-    sym (ap length store_copied)
 
 pub returns : goal.returns
 returns c =

@@ -1,36 +1,21 @@
 -- What is left of the digits equals the whole. Assumes nothing.
-use mathlib.Core.Path.{refl, sym, ap, ◌∙◌}
-use mathlib.Core.List.{List, ◌++◌, append-nil}
-use Prim.Native.Nat.{ℕ, ◌+◌}
-use native.Mathlib.Omega.{arith}
-use lib.ListN.{set, take, drop, length-set}
+use Rattle.std.proofs.Common.{◌∙◌, ◌+◌, ◌++◌, sym, ap, take, drop, arith}
+use lib.ListN.{set}
+use mathlib.Core.List.{append-nil}
 use Rattle.bench.specs.Bench.{hex}
 use Rattle.bench.proofs.Laid.{hex_step, hex_done}
 use Rattle.bench.proofs.text.put_hex.Goals as goal
 
-pub loop-i-init : goal.loop-i-init
-loop-i-init c = (omega arith, omega arith, refl, refl)
-
-pub bounds-out-p-in-loop-i : goal.bounds-out-p-in-loop-i
-bounds-out-p-in-loop-i c = simp length-set (omega arith)
-
-pub loop-i-preserved : goal.loop-i-preserved
-loop-i-preserved c =
-    let l = c.loop-i in
-    let bytes : List ℕ = c.args.bytes.now in (
+pub loop-b-preserved : goal.loop-b-preserved
+loop-b-preserved c =
+    let l = c.loop-b in (
       omega arith,
-      omega arith,
-      simp length-set l.invariant.2,
-      (λ i. take (l.p + 2) (set (set l.out l.p (c.digit.ensures i)) (l.p + 1) (c.digit-in-loop-i.ensures i)) ++ hex (drop (l.i + 1) bytes))
-          ∙ hex_step l.out bytes l.p l.i (omega arith) (omega arith)
-          ∙ l.invariant.3,
+      (λ i. take (l.p + 2) (set (set l.out l.p (c.digit.ensures i)) (l.p + 1) (c.digit-in-loop-b.ensures i)) ++ hex (drop (l.b-index + 1) c.args.bytes.now))
+          ∙ hex_step l.out c.args.bytes.now l.p l.b-index (omega arith) (omega arith)
+          ∙ l.invariant.1,
     )
-
-pub shape_of-out : goal.shape_of-out
-shape_of-out c = c.loop-i.invariant.2
 
 pub returns : goal.returns
 returns c =
-    let l = c.loop-i in
-    let bytes : List ℕ = c.args.bytes.now in
-    sym (ap (λ (r : List ℕ). take l.p l.out ++ r) (hex_done bytes l.i (omega arith)) ∙ append-nil (take l.p l.out)) ∙ l.invariant.3
+    let l = c.loop-b in
+    sym (ap (λ r. take l.p l.out ++ r) (hex_done c.args.bytes.now l.b-index (omega arith)) ∙ append-nil (take l.p l.out)) ∙ l.invariant.1

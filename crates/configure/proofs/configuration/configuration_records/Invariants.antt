@@ -13,7 +13,7 @@ use Rattle.configure.proofs.configuration.configuration_records.Given as goal
 abbrev pub invariant-loop-at : goal.invariant-loop-at
 invariant-loop-at l =
     (length l.reply ≡ length l.initial.reply) × ((head : List ℕ) → Shows l.initial.reply l.from head
-    → Going encode (λ fit. record_for 8 l.store (table_in l.table) l.request) (asked_at l.body) (length l.body) (length l.initial.reply) head l.reply l.at l.out)
+    → Going encode (λ fit. record_for 8 l.store (table_in l.table.bytes.now) l.request) (asked_at l.body) (length l.body) (length l.initial.reply) head l.reply l.at l.out)
 
 abbrev pub decreases-loop-at : goal.decreases-loop-at
 decreases-loop-at l = length l.body - l.at

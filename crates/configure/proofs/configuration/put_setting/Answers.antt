@@ -1,5 +1,5 @@
 -- `configuration::put_setting` meets its contract: nine bytes and the change cut to its width, in one run. Assumes nothing.
-use mathlib.Core.Path.{sym, ap, ◌∙◌, subst}
+use mathlib.Core.Path.{sym, ap, subst}
 use Prim.Native.Nat.{ℕ, ◌+◌, ◌≤◌}
 use native.Mathlib.Omega.{arith}
 use lib.Seq.{length-take-le}
@@ -26,5 +26,5 @@ slice_bounds-put_run-end c =
 pub returns : goal.returns
 returns c =
     let a = c.args in
-    c.put_run.ensures
-    ∙ ap (put a.reply.now a.out) (setting_bytes a.direction a.id.0 a.type_id.0 a.config c.le_bytes-change.result _ c.le_bytes-change.ensures (ap (λ (k : ℕ). 9 + k) c.change_width-end.ensures))
+    rw (c.put_run.ensures, c.to_le_bytes.ensures, c.to_le_bytes-2.ensures, c.to_le_bytes-3.ensures)
+    (ap (put a.reply.now a.out) (setting_bytes a.direction a.id.0 a.type_id.0 a.config c.le_bytes.result _ c.le_bytes.ensures (ap (λ (k : ℕ). 9 + k) c.change_width-end.ensures)))

@@ -1,73 +1,48 @@
 -- What is left of the walk from the table's entries is the whole. Assumes nothing.
-use mathlib.Core.Path.{◌≡◌, sym, subst, ◌∙◌}
+use Rattle.std.proofs.Common.{rules}
+use Rattle.std.specs.Prelude.{Err}
+use mathlib.Core.Path.{◌≡◌, refl, ◌∙◌, subst}
 use native.Mathlib.Omega.{arith}
-use lib.ListN.{length}
-use Rattle.reporting.proofs.CarriageLoops.{known_size}
-use Rattle.configure.specs.declared.pass.Turn.{Turn}
+use Rattle.frame.specs.declared.failures.Unfinished.{Unfinished}
 use Rattle.configure.specs.Inside.{Took, Turns}
 use Rattle.configure.proofs.Items.{ahead}
 use Rattle.configure.proofs.Turns.{goes_first, goes_done, goes_cut, goes_more, goes_stop}
 use Rattle.configure.proofs.pass.configure_records.Goals as goal
 
 pub loop-at-init : goal.loop-at-init
-loop-at-init c =
+loop-at-init c = (refl, goes_first _ _ _ _ _ _ c.args.table.now.whole)
+
+pub returns-in_err-turn-clause-run : goal.returns-in_err-turn-clause-run
+returns-in_err-turn-clause-run c =
     let a = c.args in
-    goes_first a.store.now a.request a.body.now a.start a.table.now a.reply.now c.requires
+    let why : c.in_err-turn.field-0.0 ≡ Unfinished.Cut = cc (rw c.in_err-turn.ensures.ok_part at c.in_err-turn.ensures.value) in
+    let kept : c.from_residual.result ≡ Err Unfinished.Cut = search rules in
+    rw kept (goes_cut c.loop-at.invariant.1 c.loop-at-test.true c.loop-at.reply (subst (Turns a.store.now a.request a.body.now c.loop-at.at) c.in_err-turn.ensures.ok_part c.configure_turn.ensures))
 
-pub shape_of-table-in_default : goal.shape_of-table-in_default
-shape_of-table-in_default c =
-    let size_kept : length c.loop-at.table ≡ length c.args.table.now = known_size c.loop-at.table c.loop-at.invariant.table ∙ sym (known_size c.args.table.now c.requires) in
-    size_kept
-
-pub shape_of-reply-in_default : goal.shape_of-reply-in_default
-shape_of-reply-in_default c = c.loop-at.invariant.going.reply_length
-
-pub returns-in_default : goal.returns-in_default
-returns-in_default c =
-    let did : (r : Turn) → c.configure_turn-turn.result ≡ r → Turns c.args.store.now c.args.request c.args.body.now c.loop-at.at r = λ r e. subst (Turns c.args.store.now c.args.request c.args.body.now c.loop-at.at) e c.configure_turn-turn.ensures in
-    goes_cut c.loop-at.invariant c.loop-at-test.true c.loop-at.reply (did Turn.Cut c.in_default.is)
-
-pub done-status-requires : goal.done-status-requires
-done-status-requires c = c.loop-at.invariant.table
-
-pub shape_of-table-in_default-note : goal.shape_of-table-in_default-note
-shape_of-table-in_default-note c =
-    let size_kept : length c.loop-at.table ≡ length c.args.table.now = known_size c.loop-at.table c.loop-at.invariant.table ∙ sym (known_size c.args.table.now c.requires) in
-    c.done-status.auto.table ∙ size_kept
-
-pub shape_of-reply-in_default-note : goal.shape_of-reply-in_default-note
-shape_of-reply-in_default-note c = c.note.auto.reply ∙ c.loop-at.invariant.going.reply_length
-
-pub returns-in_default-note : goal.returns-in_default-note
-returns-in_default-note c =
-    let did : (r : Turn) → c.configure_turn-turn.result ≡ r → Turns c.args.store.now c.args.request c.args.body.now c.loop-at.at r = λ r e. subst (Turns c.args.store.now c.args.request c.args.body.now c.loop-at.at) e c.configure_turn-turn.ensures in
-    let took : Took c.args.store.now c.args.request c.args.body.now c.loop-at.at c.in-Read.end c.in-Read.direction c.in-Read.id.0 c.in-Read.deed = did _ c.in-Read.is in
-    let y = c.done-status in
-    let n = c.note in
-    goes_stop c.loop-at.invariant c.loop-at-test.true c.in-Read.end c.in-Read.direction c.in-Read.id.0 c.in-Read.deed took y.result y.new.table y.ensures n.result n.new.reply n.ensures c.in_default-note.is
+pub returns-in_err-out-clause-run : goal.returns-in_err-out-clause-run
+returns-in_err-out-clause-run c =
+    let a = c.args in
+    let took : Took a.store.now a.request a.body.now c.loop-at.at c.in_ok-turn.turn.end c.in_ok-turn.turn.direction c.in_ok-turn.turn.id.0 c.in_ok-turn.turn.deed =
+    subst (Turns a.store.now a.request a.body.now c.loop-at.at) c.in_ok-turn.ensures.ok_part c.configure_turn.ensures in
+    let why : c.in_err-out.field-0.0 ≡ Unfinished.Full = cc (rw c.in_err-out.ensures.ok_part at c.in_err-out.ensures.value) in
+    let kept : c.from_residual-in_err-out.result ≡ Err Unfinished.Full = search rules in
+    rw kept (goes_stop c.loop-at.invariant.1 c.loop-at-test.true _ _ _ _ took _ _ c.done-status.ensures.settled _ _ c.note.ensures c.in_err-out.ensures.ok_part)
 
 pub loop-at-smaller : goal.loop-at-smaller
 loop-at-smaller c =
-    let did : (r : Turn) → c.configure_turn-turn.result ≡ r → Turns c.args.store.now c.args.request c.args.body.now c.loop-at.at r = λ r e. subst (Turns c.args.store.now c.args.request c.args.body.now c.loop-at.at) e c.configure_turn-turn.ensures in
-    let took : Took c.args.store.now c.args.request c.args.body.now c.loop-at.at c.in-Read.end c.in-Read.direction c.in-Read.id.0 c.in-Read.deed = did _ c.in-Read.is in
-    let k = took in
-    omega (arith, ahead c.args.body.now c.loop-at.at k.taken c.in-Read.end k.is, c.loop-at-test.true)
+    let a = c.args in
+    let took : Took a.store.now a.request a.body.now c.loop-at.at c.in_ok-turn.turn.end c.in_ok-turn.turn.direction c.in_ok-turn.turn.id.0 c.in_ok-turn.turn.deed =
+    subst (Turns a.store.now a.request a.body.now c.loop-at.at) c.in_ok-turn.ensures.ok_part c.configure_turn.ensures in
+    omega (arith, ahead a.body.now c.loop-at.at took.taken c.in_ok-turn.turn.end took.is, c.loop-at-test.true)
 
 pub loop-at-preserved : goal.loop-at-preserved
 loop-at-preserved c =
-    let did : (r : Turn) → c.configure_turn-turn.result ≡ r → Turns c.args.store.now c.args.request c.args.body.now c.loop-at.at r = λ r e. subst (Turns c.args.store.now c.args.request c.args.body.now c.loop-at.at) e c.configure_turn-turn.ensures in
-    let took : Took c.args.store.now c.args.request c.args.body.now c.loop-at.at c.in-Read.end c.in-Read.direction c.in-Read.id.0 c.in-Read.deed = did _ c.in-Read.is in
-    let y = c.done-status in
-    let n = c.note in
-    goes_more c.loop-at.invariant c.loop-at-test.true c.in-Read.end c.in-Read.direction c.in-Read.id.0 c.in-Read.deed took y.result y.new.table y.ensures n.result n.new.reply n.ensures c.in-At.next c.in-At.is n.auto.reply
+    let a = c.args in
+    let took : Took a.store.now a.request a.body.now c.loop-at.at c.in_ok-turn.turn.end c.in_ok-turn.turn.direction c.in_ok-turn.turn.id.0 c.in_ok-turn.turn.deed =
+    subst (Turns a.store.now a.request a.body.now c.loop-at.at) c.in_ok-turn.ensures.ok_part c.configure_turn.ensures in (
+      c.done-status.ensures.same_reference ∙ c.loop-at.invariant.0,
+      goes_more c.loop-at.invariant.1 c.loop-at-test.true _ _ _ _ took _ _ c.done-status.ensures.settled _ _ c.note.ensures _ c.in_ok-out.ensures.ok_part c.note.auto.reply,
+    )
 
-pub shape_of-table : goal.shape_of-table
-shape_of-table c =
-    let size_kept : length c.loop-at.table ≡ length c.args.table.now = known_size c.loop-at.table c.loop-at.invariant.table ∙ sym (known_size c.args.table.now c.requires) in
-    size_kept
-
-pub shape_of-reply : goal.shape_of-reply
-shape_of-reply c = c.loop-at.invariant.going.reply_length
-
-pub returns : goal.returns
-returns c = goes_done c.loop-at.invariant c.loop-at-test.false
+pub returns-clause-run : goal.returns-clause-run
+returns-clause-run c = goes_done c.loop-at.invariant.1 c.loop-at-test.false

@@ -1,25 +1,15 @@
 -- A deed by its kind: what the function on the bytes did is what the deed comes to. Assumes nothing.
-use mathlib.Core.Path.{refl, sym, subst}
-use Rattle.frame.specs.declared.status.Status.TheVariants.{Success}
+use mathlib.Core.Path.{◌≡◌}
 use Rattle.configure.specs.declared.settle.Deed.{Deed}
-use Rattle.configure.specs.Inside.{Settles}
 use Rattle.configure.proofs.Settings.{clear_settles, set_settles}
 use Rattle.configure.proofs.pass.done.Goals as goal
 
-pub returns-in-Fails : goal.returns-in-Fails
-returns-in-Fails c =
-    let bs = c.args.table.now in
-    subst (λ (x : Deed). Settles x bs bs c.in-Fails.why) (sym c.in-Fails.is) (record { table = c.requires; is = refl })
+pub returns-in-Ok-Clears-clause-settled : goal.returns-in-Ok-Clears-clause-settled
+returns-in-Ok-Clears-clause-settled c =
+    let clears : c.in-Ok-Clears.field-0 ≡ Deed.Clears c.in-Ok-Clears.key = rw c.in-Ok-Clears.is at c.in-Ok-Clears.field-0-is in
+    rw (c.in-Ok-Clears.is, clears) (clear_settles _ _ _ c.clear.ensures.cleared)
 
-pub returns-in-Clears : goal.returns-in-Clears
-returns-in-Clears c =
-    let bs = c.args.table.now in
-    let x = c.clear_in in
-    subst (λ (d : Deed). Settles d bs x.new.bytes Success) (sym c.in-Clears.is) (clear_settles c.in-Clears.key bs x.new.bytes x.ensures)
-
-pub returns-in-Sets : goal.returns-in-Sets
-returns-in-Sets c =
-    let bs = c.args.table.now in
-    let x = c.configure_in-answer in
-    let s = c.status_of in
-    subst (λ (d : Deed). Settles d bs x.new.bytes s.result) (sym c.in-Sets.is) (set_settles c.in-Sets.key bs x.new.bytes c.in-Sets.config x.result s.result s.ensures x.ensures)
+pub returns-in-Ok-Sets-clause-settled : goal.returns-in-Ok-Sets-clause-settled
+returns-in-Ok-Sets-clause-settled c =
+    let sets : c.in-Ok-Sets.field-0 ≡ Deed.Sets c.in-Ok-Sets.key c.in-Ok-Sets.config = rw c.in-Ok-Sets.is at c.in-Ok-Sets.field-0-is in
+    rw (c.in-Ok-Sets.is, sets) (set_settles _ _ _ _ _ _ c.status_of.ensures c.configure-accepted.ensures.configured)

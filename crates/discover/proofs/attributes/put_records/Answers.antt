@@ -9,44 +9,29 @@ use Rattle.discover.specs.Discover.{at_or_after}
 use Rattle.discover.specs.Inside.{records_of}
 use Rattle.discover.proofs.Going.{going_first, going_put, going_full, going_skip, going_more, going_end, going_as}
 use Rattle.discover.proofs.attributes.put_records.Goals as goal
-use Rattle.discover.proofs.attributes.put_records.Goals.{then-start-name+else-left-eq0+in-At, else-start-name}
+use Rattle.discover.proofs.attributes.put_records.Goals.{then-start-name+else-left-eq0+in_ok-out, else-start-name}
 
 pub loop-i-init : goal.loop-i-init
-loop-i-init c = (omega arith, (refl, λ before w. going_first c.args.store.now c.count_of-n.result c.args.start.0 before c.args.reply.now c.args.wanted c.args.from c.count_of-n.ensures w))
-
-pub shape_of-reply-then-left-eq0 : goal.shape_of-reply-then-left-eq0
-shape_of-reply-then-left-eq0 c = c.loop-i.invariant.1.0
+loop-i-init c = (refl, λ before w. going_first c.args.store.now c.count_of-n.result c.args.start.0 before c.args.reply.now c.args.wanted c.args.from c.count_of-n.ensures w)
 
 pub returns-then-left-eq0 : goal.returns-then-left-eq0
 returns-then-left-eq0 c =
-    λ before w. going_more _ _ _ _ _ _ _ _ _ (c.loop-i.invariant.1.1 before w) _ c.loop-i-test.true c.attribute_at-a.ensures c.count_of-n.ensures c.if-left-eq0.true c.if-start-name.true
+    λ before w. going_more _ _ _ _ _ _ _ _ _ (c.loop-i.invariant.1 before w) _ c.loop-i-test.true c.attribute_at-a.ensures c.count_of-n.ensures c.if-left-eq0.true c.if-start-name.true
 
-pub shape_of-reply-in_default : goal.shape_of-reply-in_default
-shape_of-reply-in_default c = c.put_record.auto.reply ∙ c.loop-i.invariant.1.0
-
-pub returns-in_default : goal.returns-in_default
-returns-in_default c =
-    λ before w. subst (λ (k : ℕ). k < length (before ++ records_of (take c.args.wanted (at_or_after c.args.start.0 (attributes_of 8 c.args.store.now))))) c.loop-i.invariant.1.0
-    (going_full _ _ _ _ _ _ _ _ _ (c.loop-i.invariant.1.1 before w) _ c.loop-i-test.true c.attribute_at-a.ensures (omega (arith, c.if-left-eq0.false)) c.if-start-name.true _ _ c.put_record.ensures c.in_default.is)
-
-pub overflow_sub-left : goal.overflow_sub-left
-overflow_sub-left c = omega (arith, c.if-left-eq0.false)
+pub returns-in_err-out : goal.returns-in_err-out
+returns-in_err-out c =
+    λ before w. rw c.from_residual.ensures (subst (λ (k : ℕ). k < length (before ++ records_of (take c.args.wanted (at_or_after c.args.start.0 (attributes_of 8 c.args.store.now))))) c.loop-i.invariant.0
+    (going_full _ _ _ _ _ _ _ _ _ (c.loop-i.invariant.1 before w) _ c.loop-i-test.true c.attribute_at-a.ensures (omega (arith, c.if-left-eq0.false)) c.if-start-name.true _ _ c.put_record.ensures c.in_err-out.was))
 
 pub loop-i-preserved : goal.loop-i-preserved
-loop-i-preserved c = (
-  omega arith,
-  elim c.if-start-name.branch [
-    | then-start-name+else-left-eq0+in-At x ↦ (
-      ap length x.reply-is ∙ x.put_record.auto.reply ∙ c.loop-i.invariant.1.0,
-      λ before w. going_as _ _ _ _ _ _ _ _ _ _ _ _ x.reply-is x.left-is x.out-is (going_put _ _ _ _ _ _ _ _ _ (c.loop-i.invariant.1.1 before w) _ c.loop-i-test.true c.attribute_at-a.ensures (omega (arith, x.if-left-eq0.false)) x.if-start-name.true _ _ x.put_record.ensures _ x.in-At.is),
-    )
-    | else-start-name x ↦ (ap length x.reply-is ∙ c.loop-i.invariant.1.0, λ before w. going_as _ _ _ _ _ _ _ _ _ _ _ _ x.reply-is x.left-is x.out-is (going_skip _ _ _ _ _ _ _ _ _ (c.loop-i.invariant.1.1 before w) _ c.loop-i-test.true c.attribute_at-a.ensures x.if-start-name.false))
-  ],
-)
-
-pub shape_of-reply : goal.shape_of-reply
-shape_of-reply c = c.loop-i.invariant.1.0
+loop-i-preserved c = elim c.if-start-name.branch [
+  | then-start-name+else-left-eq0+in_ok-out x ↦ (
+    ap length x.reply-is ∙ x.put_record.auto.reply ∙ c.loop-i.invariant.0,
+    λ before w. going_as _ _ _ _ _ _ _ _ _ _ _ _ x.reply-is x.left-is x.out-is (going_put _ _ _ _ _ _ _ _ _ (c.loop-i.invariant.1 before w) _ c.loop-i-test.true c.attribute_at-a.ensures (omega (arith, x.if-left-eq0.false)) x.if-start-name.true _ _ x.put_record.ensures _ x.in_ok-out.was),
+  )
+  | else-start-name x ↦ (ap length x.reply-is ∙ c.loop-i.invariant.0, λ before w. going_as _ _ _ _ _ _ _ _ _ _ _ _ x.reply-is x.left-is x.out-is (going_skip _ _ _ _ _ _ _ _ _ (c.loop-i.invariant.1 before w) _ c.loop-i-test.true c.attribute_at-a.ensures x.if-start-name.false))
+]
 
 pub returns : goal.returns
 returns c =
-    λ before w. going_end _ _ _ _ _ _ _ _ _ (c.loop-i.invariant.1.1 before w) c.count_of-n.ensures c.loop-i-test.false
+    λ before w. going_end _ _ _ _ _ _ _ _ _ (c.loop-i.invariant.1 before w) c.count_of-n.ensures c.loop-i-test.false

@@ -1,21 +1,15 @@
 -- Each way a pass ends has its answer. Assumes nothing.
+use Rattle.std.specs.Prelude.{length}
+use Rattle.frame.specs.Answer.{refused, no_state}
+use Rattle.frame.specs.declared.answer.Refusal.{Refusal}
 use mathlib.Core.Path.{sym, ap, ◌∙◌}
 use Rattle.frame.specs.Inside.Failures.{concluded_at}
 use Rattle.frame.proofs.failures.conclude.Goals as goal
 
-pub returns-in-Through : goal.returns-in-Through
-returns-in-Through c =
-    let a = c.args in
-    c.finish.ensures ∙ ap (concluded_at a.reply.now a.start) (sym c.in-Through.is)
-
-pub returns-in-Cut : goal.returns-in-Cut
+pub returns-in-Err : goal.returns-in-Err
 unfolding concluded_at
-returns-in-Cut c =
+returns-in-Err c =
     let a = c.args in
-    c.refuse.ensures ∙ ap (concluded_at a.reply.now a.start) (sym c.in-Cut.is)
-
-pub returns-in-Full : goal.returns-in-Full
-unfolding concluded_at
-returns-in-Full c =
-    let a = c.args in
-    c.refuse-in-Full.ensures ∙ ap (concluded_at a.reply.now a.start) (sym c.in-Full.is)
+    c.refuse.ensures
+    ∙ ap (λ (why : Refusal). refused (length a.reply.now) why no_state) c.from.ensures
+    ∙ ap (concluded_at a.reply.now a.start) (sym c.in-Err.is)

@@ -1,15 +1,17 @@
 -- A success is not listed. Assumes nothing.
 use mathlib.Core.Path.{sym, ◌∙◌}
+use borrow.Author.Tests.{eqb-true, eqb-false}
+use Rattle.frame.proofs.Codes.{is_success}
 use Rattle.frame.proofs.Listings.{note_success, note_failure}
 use Rattle.frame.proofs.failures.list_failure.Goals as goal
 
-pub returns-then-to_u8-eq0 : goal.returns-then-to_u8-eq0
-returns-then-to_u8-eq0 c =
+pub returns-then-eq : goal.returns-then-eq
+returns-then-eq c =
     let a = c.args in
-    sym (note_success a.reply.now a.out a.status a.failure.now (sym c.to_u8.ensures ∙ c.if-to_u8-eq0.true))
+    sym (note_success a.reply.now a.out a.status a.failure.now (eqb-true _ 0 (sym (is_success a.status) ∙ sym c.eq.ensures ∙ c.if-eq.true)))
 
 pub returns : goal.returns
 returns c =
     let a = c.args in
     c.put_run.ensures
-    ∙ sym (note_failure a.reply.now a.out a.status a.failure.now (λ z. c.if-to_u8-eq0.false (c.to_u8.ensures ∙ z)))
+    ∙ sym (note_failure a.reply.now a.out a.status a.failure.now (eqb-false _ 0 (sym (is_success a.status) ∙ sym c.eq.ensures ∙ c.if-eq.false)))

@@ -1,11 +1,11 @@
 -- `header::read_header` meets its contract: each return is one law of the header. Assumes nothing.
+use Rattle.std.specs.Prelude.{Some}
 use mathlib.Core.Path.{◌≡◌, sym, ap, ◌∙◌}
 use mathlib.Core.Bool.{true, false}
 use Prim.Native.Nat.{ℕ}
 use native.Mathlib.Omega.{arith}
 use lib.ListN.{get_or}
 use Rattle.frame.specs.Header.{has_code, header_with}
-use Rattle.frame.specs.declared.header.HeaderRead.TheVariants.{Header}
 use Rattle.frame.proofs.Headers.{header_short, header_plain, header_coded, header_coded_short}
 use Rattle.frame.proofs.header.read_header.Goals as goal
 
@@ -28,4 +28,4 @@ pub returns : goal.returns
 returns c =
     let announced : has_code (get_or c.args.frame.now 0 0) ≡ true = sym c.is_manufacturer_specific.ensures ∙ c.if-not-is_manufacturer_specific.false in
     let s = c.args.frame.now in
-    ap (λ (k : ℕ). Header (header_with s k 2)) c.u16_at.ensures ∙ sym (header_coded s announced (omega arith))
+    ap (λ (k : ℕ). Some (header_with s k 2)) c.u16_at.ensures ∙ sym (header_coded s announced (omega arith))

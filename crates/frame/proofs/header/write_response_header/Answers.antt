@@ -11,4 +11,4 @@ unfolding reply_head
 returns c =
     let a = c.args in
     c.put_run.ensures
-    ∙ ap (λ (k : ℕ). put a.reply.now 0 (0x18 ∷ a.request.sequence_number ∷ k ∷ [])) c.raw.ensures
+    ∙ ap (λ (k : ℕ). put a.reply.now 0 (0x18 ∷ a.request.sequence_number ∷ k ∷ [])) c.from.ensures

@@ -16,4 +16,4 @@ pub returns-in_default : goal.returns-in_default
 returns-in_default c = both_none _ _ _ c.args.back.now _ _ c.put_run.ensures c.in_default.is
 
 pub returns : goal.returns
-returns c = both_put _ _ _ c.args.back.now (omega (arith, c.if-buffer-at.false, c.if-room-front.false, c.if-room-front-2.false)) _ _ _ _ _ c.put_run.ensures c.in-At.is c.put_run-2.ensures
+returns c = both_put _ _ _ c.args.back.now (omega (arith, c.if-buffer-at.false, c.if-room-front.false, c.if-room-front-2.false)) _ _ _ _ _ c.put_run.ensures c.in-Some.is c.put_run-2.ensures

@@ -1,12 +1,12 @@
 -- `reply::put_run` meets its contract: the two tests together ask whether the bytes fit. Assumes nothing.
+use Rattle.std.specs.Prelude.{Some}
 use mathlib.Core.Path.{sym, ap, ◌∙◌}
-use mathlib.Core.List.{List}
-use Prim.Native.Nat.{ℕ, ◌+◌}
+use mathlib.Core.List.{List, ◌++◌}
+use Prim.Native.Nat.{ℕ, ◌+◌, ◌-◌}
 use native.Mathlib.Omega.{arith}
-use lib.ListN.{length}
+use lib.ListN.{length, take, drop}
 use Rattle.frame.specs.Inside.Buffer.{putting}
-use Rattle.frame.specs.declared.reply.Put.TheVariants.{At}
-use Rattle.frame.proofs.Buffer.{put_fits, put_past}
+use Rattle.frame.proofs.Buffer.{put_fits, put_past, mid_sets}
 use Rattle.frame.proofs.reply.put_run.Goals as goal
 
 pub returns-then-buffer-at : goal.returns-then-buffer-at
@@ -22,5 +22,8 @@ returns-then-buffer-at-2 c =
 pub returns : goal.returns
 returns c =
     let a = c.args in
-    ap (λ (d : List ℕ). putting (At (a.at + length a.bytes.now)) d) c.copy_into.ensures
-    ∙ sym (put_fits a.buffer.now a.at a.bytes.now (omega arith))
+    let d = a.buffer.now in
+    let n : ℕ = a.at + length a.bytes.now - a.at in
+    ap (λ (l : List ℕ). putting (Some (a.at + length a.bytes.now)) (take a.at d ++ (l ++ drop n (drop a.at d)))) c.copy_from_slice.ensures.after
+    ∙ ap (λ (l : List ℕ). putting (Some (a.at + length a.bytes.now)) l) (mid_sets d a.bytes.now a.at n (omega arith) (omega arith))
+    ∙ sym (put_fits d a.at a.bytes.now (omega arith))

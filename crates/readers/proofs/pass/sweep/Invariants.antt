@@ -5,8 +5,8 @@ use Rattle.readers.specs.Layout.{length_of}
 use Rattle.readers.proofs.Sweeping.{Passed}
 use Rattle.readers.proofs.pass.sweep.Given as goal
 
-abbrev pub invariant-loop-here : goal.invariant-loop-here
-invariant-loop-here l = Passed (length_of l.layout) l.frame l.k l.from l.here l.count l.at l.size
+abbrev pub invariant-loop-at : goal.invariant-loop-at
+invariant-loop-at l = Passed (length_of l.layout) l.frame l.k l.from l.at l.count l.kth
 
-abbrev pub decreases-loop-here : goal.decreases-loop-here
-decreases-loop-here l = length l.frame - l.here
+abbrev pub decreases-loop-at : goal.decreases-loop-at
+decreases-loop-at l = length l.frame - l.at

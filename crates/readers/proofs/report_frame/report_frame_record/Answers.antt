@@ -1,43 +1,24 @@
--- `report_frame::report_frame_record` meets its contract. Assumes nothing.
-use native.Mathlib.Omega.{arith}
+-- A record that was met in a pass, with where its value lies. Assumes nothing.
+use mathlib.Core.Path.{ap, ◌∙◌}
+use mathlib.Core.List.{List}
+use Prim.Native.Nat.{ℕ}
+use Rattle.types.specs.Number.{unsigned_at}
 use Rattle.frame.specs.declared.command_identifier.CommandIdentifier.TheVariants.{ReportAttributes}
 use Rattle.readers.specs.declared.layout.Layout.TheVariants.{Report}
-use Rattle.readers.specs.Replies.{spans_of}
 use Rattle.readers.specs.Values.{report_held, report_frame_held}
-use Rattle.readers.specs.Inside.{Stand}
-use Rattle.readers.proofs.Records.{stands, refused, past, there, none_of}
-use Rattle.readers.proofs.SpanSizes.{span_long, report_behind}
-use Rattle.readers.proofs.Values.{report-held}
+use Rattle.readers.proofs.Records.{there}
+use Rattle.readers.proofs.SpanSizes.{span_long, span_within, report_behind}
+use Rattle.readers.proofs.Values.{report_held_lem}
 use Rattle.readers.proofs.report_frame.report_frame_record.Goals as goal
-
-pub returns-then-count-k : goal.returns-then-count-k
-unfolding report_frame_held
-returns-then-count-k c =
-    let found : Stand c.args.frame.now c.args.k (spans_of ReportAttributes Report c.args.frame.now) c.in-Records.count c.in-Records.at c.in-Records.size = stands c.sweep_records-swept.ensures c.in-Records.is in
-    past (report_held c.args.frame.now) found c.if-count-k.true
-
-pub overflow_add-part : goal.overflow_add-part
-overflow_add-part c =
-    let found : Stand c.args.frame.now c.args.k (spans_of ReportAttributes Report c.args.frame.now) c.in-Records.count c.in-Records.at c.in-Records.size = stands c.sweep_records-swept.ensures c.in-Records.is in
-    omega (arith, found.within c.if-count-k.false)
-
-pub slice_bounds-part-end : goal.slice_bounds-part-end
-slice_bounds-part-end c =
-    let found : Stand c.args.frame.now c.args.k (spans_of ReportAttributes Report c.args.frame.now) c.in-Records.count c.in-Records.at c.in-Records.size = stands c.sweep_records-swept.ensures c.in-Records.is in
-    found.within c.if-count-k.false
 
 pub value_in-requires : goal.value_in-requires
 value_in-requires c =
-    let found : Stand c.args.frame.now c.args.k (spans_of ReportAttributes Report c.args.frame.now) c.in-Records.count c.in-Records.at c.in-Records.size = stands c.sweep_records-swept.ensures c.in-Records.is in
-    (report_behind _ _ (span_long ReportAttributes Report found c.if-count-k.false), found.within c.if-count-k.false)
+    let e = c.in_ok-swept.ensures in
+    (report_behind _ _ (span_long ReportAttributes Report _ _ e c.in-Some.is), span_within ReportAttributes Report _ _ e c.in-Some.is)
 
-pub returns-else-count-k : goal.returns-else-count-k
+pub returns : goal.returns
 unfolding report_frame_held
-returns-else-count-k c =
-    let found : Stand c.args.frame.now c.args.k (spans_of ReportAttributes Report c.args.frame.now) c.in-Records.count c.in-Records.at c.in-Records.size = stands c.sweep_records-swept.ensures c.in-Records.is in
-    there (report_held c.args.frame.now) found c.if-count-k.false _ (report-held _ _ _ c.u16_at.ensures c.value_in.ensures)
-
-pub returns-in-Refused : goal.returns-in-Refused
-unfolding report_frame_held
-returns-in-Refused c =
-    none_of (report_held c.args.frame.now) _ _ (refused _ _ c.sweep_records-swept.ensures c.in-Refused.is)
+returns c =
+    let f = c.args.frame.now in
+    let id = c.u16_at.ensures ∙ ap (λ (b : List ℕ). unsigned_at b 0 2) c.bytes_in-part.ensures in
+    there (report_held f) _ _ c.in_ok-swept.ensures c.in-Some.is (report_held_lem f _ id c.value_in.ensures)

@@ -1,19 +1,11 @@
--- What is left to look at decides as the whole does. Assumes nothing.
-use mathlib.Core.Path.{ap}
-use Rattle.replay.specs.Methods.{are_calls}
-use Rattle.replay.proofs.Calls.{calls_start, are_more, are_not, are_all}
+-- Each call's operation is looked at. Assumes nothing.
+use Rattle.std.proofs.Common.{◌∙◌, get_or, leb, rules, tests}
+use Rattle.std.proofs.lemmas.Iterator.{YieldsList-from_slice}
+use Rattle.std.proofs.lemmas.Iterator.Search.{all_from_yields_List}
+use Rattle.replay.proofs.Calls.{all_calls}
 use Rattle.replay.proofs.methods.are_calls.Goals as goal
 
-pub loop-i-init : goal.loop-i-init
-loop-i-init c = ap are_calls (calls_start c.args.input.now)
-
-pub returns-then-op-gt5 : goal.returns-then-op-gt5
-returns-then-op-gt5 c =
-    are_not c.args.input.now _ _ c.byte_at-op.ensures c.loop-i.invariant c.loop-i-test.true c.if-op-gt5.true
-
-pub loop-i-preserved : goal.loop-i-preserved
-loop-i-preserved c =
-    are_more c.args.input.now _ _ c.byte_at-op.ensures c.loop-i.invariant c.loop-i-test.true c.if-op-gt5.false
-
 pub returns : goal.returns
-returns c = are_all c.args.input.now _ c.loop-i.invariant c.loop-i-test.false
+returns c =
+    all_from_yields_List (λ p. leb (get_or p 0 0) 5) _ _ c.all.result c.all.ensures.ran (YieldsList-from_slice c.as_chunks.result.0.now cc) (λ x b q k. search (rules, tests))
+    ∙ all_calls _ c.args.input.now _ c.as_chunks.ensures.front

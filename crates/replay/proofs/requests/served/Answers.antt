@@ -1,25 +1,22 @@
 -- The table is read, and the buffer has the store; what comes back is compared. Assumes nothing.
-use mathlib.Core.Path.{◌≡◌, sym, ◌∙◌}
+use mathlib.Core.Path.{◌≡◌, ap, ◌∙◌}
+use Prim.Native.Nat.{ℕ}
 use lib.ListN.{length}
-use borrow.Author.Tests.{not-true, not-false}
+use lib.Dec.{eqb}
+use Rattle.std.specs.Prelude.{Option, Some}
+use Rattle.std.specs.Option.{option_eq}
 use Rattle.replay.proofs.Says.{filled}
-use Rattle.replay.proofs.Served.{request_none, request_off, request_on}
+use Rattle.replay.proofs.Served.{request_none, request_found}
 use Rattle.replay.proofs.requests.served.Goals as goal
 
-pub returns-then-not-known : goal.returns-then-not-known
-returns-then-not-known c =
-    request_none c.args.used.now c.args.store.now c.args.frame.now (length c.args.reply.now) c.table_of-known.result c.table_of-known.ensures c.args.held.now (not-true _ c.if-not-known.true)
-
-pub returns-in_default : goal.returns-in_default
-returns-in_default c =
-    let stored : c.put_run.new.buffer ≡ c.args.store.now = filled c.args.copy.now c.args.store.now _ _ c.requires c.put_run.ensures in
-    request_off c.args.used.now c.args.store.now c.args.frame.now (length c.args.reply.now) c.table_of-known.result c.table_of-known.ensures c.args.held.now (not-false _ c.if-not-known.false)
-    c.handle_request-done.result.answer _ _ _ _ _ _ stored c.u16_at.ensures c.handle_request-done.ensures (c.part.ensures ∙ c.lay-n.ensures)
-    (sym c.match_answer.ensures ∙ c.in_default.is)
+pub returns-in_err-table : goal.returns-in_err-table
+returns-in_err-table c =
+    c.from_residual.ensures
+    ∙ request_none c.args.used.now c.args.store.now c.args.frame.now (length c.args.reply.now) _ c.table_of.ensures c.args.held.now c.in_err-table.was
 
 pub returns : goal.returns
 returns c =
-    let stored : c.put_run.new.buffer ≡ c.args.store.now = filled c.args.copy.now c.args.store.now _ _ c.requires c.put_run.ensures in
-    request_on c.args.used.now c.args.store.now c.args.frame.now (length c.args.reply.now) c.table_of-known.result c.table_of-known.ensures c.args.held.now (not-false _ c.if-not-known.false)
+    let stored : c.put_run-end.new.buffer ≡ c.args.store.now = filled c.args.copy.now c.args.store.now _ _ c.requires c.put_run-end.ensures in
+    request_found c.args.used.now c.args.store.now c.args.frame.now (length c.args.reply.now) _ c.table_of.ensures c.args.held.now c.in_ok-table.table c.in_ok-table.was
     c.handle_request-done.result.answer _ _ _ _ _ _ stored c.u16_at.ensures c.handle_request-done.ensures (c.part.ensures ∙ c.lay-n.ensures)
-    _ (sym c.match_answer.ensures ∙ c.in-At.is)
+    _ (c.eq.ensures ∙ ap (λ (r : Option ℕ). option_eq eqb r (Some (length c.args.held.now))) c.match_answer-end.ensures)

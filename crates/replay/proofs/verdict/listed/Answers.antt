@@ -1,70 +1,51 @@
 -- Each way out is one law of a listed difference. Assumes nothing.
+use Rattle.std.specs.Prelude.{Option, Some}
 use mathlib.Core.Path.{◌≡◌, sym, ap, ◌∙◌}
 use mathlib.Core.Bool.{Bool, not, ◌&&◌}
-use native.Mathlib.Omega.{arith}
-use lib.ListN.{take, length-take}
+use lib.ListN.{take}
 use Rattle.replay.specs.Bytes.{same}
-use Rattle.replay.specs.Verdict.{besides, listed}
-use Rattle.replay.specs.declared.verdict.Verdict.{Verdict}
+use Rattle.replay.specs.Verdict.{agreed, besides, listed}
 use Rattle.replay.specs.declared.verdict.Verdict.TheVariants.{Case}
-use Rattle.replay.proofs.Fields.{Got, field_lost, field_got, listed_second, listed_third, listed_by, no_case}
-use borrow.Enum.Refused.{opened}
+use Rattle.replay.proofs.Matches.{pointwise_same}
+use Rattle.replay.proofs.Fields.{Got, field_lost, field_got, listed_second, listed_third, listed_by}
 use Rattle.replay.proofs.verdict.listed.Goals as goal
 
-pub returns-in_default : goal.returns-in_default
-returns-in_default c =
-    listed_second c.args.letter c.args.first.now c.args.second.now c.args.third.now (field_lost _ _ c.blank-held.ensures _ _ _ (c.decode.ensures.out_after, c.decode.ensures.within) c.in_default.is)
+pub returns-in_err-n : goal.returns-in_err-n
+returns-in_err-n c =
+    ap (agreed c.args.letter) c.from_residual.ensures
+    ∙ listed_second c.args.letter c.args.first.now c.args.second.now c.args.third.now (field_lost _ _ c.blank-held.ensures _ _ _ (c.decode.ensures.out_after, c.decode.ensures.within) c.in_err-n.was)
 
-pub returns-in_default-decode : goal.returns-in_default-decode
-returns-in_default-decode c =
-    let got : Got 4608 c.args.second.now c.decode.new.out c.in-At.n = field_got _ _ c.blank-held.ensures _ _ _ (c.decode.ensures.out_after, c.decode.ensures.within) _ c.in-At.is in
-    listed_third c.args.letter c.args.first.now c.args.second.now c.args.third.now _ got.is (field_lost _ _ c.blank-other.ensures _ _ _ (c.decode-2.ensures.out_after, c.decode-2.ensures.within) c.in_default-decode.is)
+pub returns-in_err-k : goal.returns-in_err-k
+returns-in_err-k c =
+    let got : Got 4608 c.args.second.now c.decode.new.out c.in_ok-n.n = field_got _ _ c.blank-held.ensures _ _ _ (c.decode.ensures.out_after, c.decode.ensures.within) _ c.in_ok-n.was in
+    ap (agreed c.args.letter) c.from_residual-in_err-k.ensures
+    ∙ listed_third c.args.letter c.args.first.now c.args.second.now c.args.third.now _ got.is (field_lost _ _ c.blank-other.ensures _ _ _ (c.decode-2.ensures.out_after, c.decode-2.ensures.within) c.in_err-k.was)
 
-pub returns-in_default-recorded : goal.returns-in_default-recorded
-returns-in_default-recorded c =
-    let got : Got 4608 c.args.second.now c.decode.new.out c.in-At.n = field_got _ _ c.blank-held.ensures _ _ _ (c.decode.ensures.out_after, c.decode.ensures.within) _ c.in-At.is in
-    let got2 : Got 4608 c.args.third.now c.decode-2.new.out c.in-At-decode.k = field_got _ _ c.blank-other.ensures _ _ _ (c.decode-2.ensures.out_after, c.decode-2.ensures.within) _ c.in-At-decode.is in
-    let by : besides c.recorded.result (not (same (take c.in-At.n c.decode.new.out) (take c.in-At-decode.k c.decode-2.new.out))) ≡ listed c.args.letter c.args.first.now c.args.second.now c.args.third.now = listed_by c.args.letter c.args.first.now c.args.second.now c.args.third.now _ _ _ got.is got2.is c.recorded.ensures in
-    no_case c.recorded.result (not (same (take c.in-At.n c.decode.new.out) (take c.in-At-decode.k c.decode-2.new.out))) (opened c.in_default-recorded.in_default-recorded-own.keys2) ∙ by
-
-pub slice_bounds-held-end : goal.slice_bounds-held-end
-slice_bounds-held-end c =
-    let got : Got 4608 c.args.second.now c.decode.new.out c.in-At.n = field_got _ _ c.blank-held.ensures _ _ _ (c.decode.ensures.out_after, c.decode.ensures.within) _ c.in-At.is in
-    got.within
-
-pub slice_bounds-same-end : goal.slice_bounds-same-end
-slice_bounds-same-end c =
-    let got : Got 4608 c.args.second.now c.decode.new.out c.in-At.n = field_got _ _ c.blank-held.ensures _ _ _ (c.decode.ensures.out_after, c.decode.ensures.within) _ c.in-At.is in
-    let h = got.within in simp length-take (omega arith)
-
-pub slice_bounds-other-end : goal.slice_bounds-other-end
-slice_bounds-other-end c =
-    let got2 : Got 4608 c.args.third.now c.decode-2.new.out c.in-At-decode.k = field_got _ _ c.blank-other.ensures _ _ _ (c.decode-2.ensures.out_after, c.decode-2.ensures.within) _ c.in-At-decode.is in
-    got2.within
-
-pub slice_bounds-same-end-then-agrees : goal.slice_bounds-same-end-then-agrees
-slice_bounds-same-end-then-agrees c =
-    let got2 : Got 4608 c.args.third.now c.decode-2.new.out c.in-At-decode.k = field_got _ _ c.blank-other.ensures _ _ _ (c.decode-2.ensures.out_after, c.decode-2.ensures.within) _ c.in-At-decode.is in
-    let h = got2.within in simp length-take (omega arith)
+pub returns-in_err-agrees : goal.returns-in_err-agrees
+returns-in_err-agrees c =
+    let got : Got 4608 c.args.second.now c.decode.new.out c.in_ok-n.n = field_got _ _ c.blank-held.ensures _ _ _ (c.decode.ensures.out_after, c.decode.ensures.within) _ c.in_ok-n.was in
+    let got2 : Got 4608 c.args.third.now c.decode-2.new.out c.in_ok-k.k = field_got _ _ c.blank-other.ensures _ _ _ (c.decode-2.ensures.out_after, c.decode-2.ensures.within) _ c.in_ok-k.was in
+    let by : besides (agreed c.args.letter c.recorded.result) (not (same (take c.in_ok-n.n c.decode.new.out) (take c.in_ok-k.k c.decode-2.new.out))) ≡ listed c.args.letter c.args.first.now c.args.second.now c.args.third.now = listed_by c.args.letter c.args.first.now c.args.second.now c.args.third.now _ _ _ got.is got2.is c.recorded.ensures in
+    ap (agreed c.args.letter) c.from_residual-in_err-agrees.ensures
+    ∙ ap (λ (x : Option Bool). besides (agreed c.args.letter x) (not (same (take c.in_ok-n.n c.decode.new.out) (take c.in_ok-k.k c.decode-2.new.out)))) (sym c.in_err-agrees.was)
+    ∙ by
 
 pub returns-then-agrees : goal.returns-then-agrees
 returns-then-agrees c =
-    let got : Got 4608 c.args.second.now c.decode.new.out c.in-At.n = field_got _ _ c.blank-held.ensures _ _ _ (c.decode.ensures.out_after, c.decode.ensures.within) _ c.in-At.is in
-    let got2 : Got 4608 c.args.third.now c.decode-2.new.out c.in-At-decode.k = field_got _ _ c.blank-other.ensures _ _ _ (c.decode-2.ensures.out_after, c.decode-2.ensures.within) _ c.in-At-decode.is in
-    let by : besides c.recorded.result (not (same (take c.in-At.n c.decode.new.out) (take c.in-At-decode.k c.decode-2.new.out))) ≡ listed c.args.letter c.args.first.now c.args.second.now c.args.third.now = listed_by c.args.letter c.args.first.now c.args.second.now c.args.third.now _ _ _ got.is got2.is c.recorded.ensures in
-    let x = same (take c.in-At.n c.decode.new.out) (take c.in-At-decode.k c.decode-2.new.out) in
-    ap (λ (b : Bool). Case c.in-Case.kind (not b)) c.same.ensures
-    ∙ ap (λ (a : Bool). Case c.in-Case.kind (a && not x)) (sym c.if-agrees.true)
-    ∙ ap (λ (v : Verdict). besides v (not x)) (sym c.in-Case.is)
+    let got : Got 4608 c.args.second.now c.decode.new.out c.in_ok-n.n = field_got _ _ c.blank-held.ensures _ _ _ (c.decode.ensures.out_after, c.decode.ensures.within) _ c.in_ok-n.was in
+    let got2 : Got 4608 c.args.third.now c.decode-2.new.out c.in_ok-k.k = field_got _ _ c.blank-other.ensures _ _ _ (c.decode-2.ensures.out_after, c.decode-2.ensures.within) _ c.in_ok-k.was in
+    let by : besides (agreed c.args.letter c.recorded.result) (not (same (take c.in_ok-n.n c.decode.new.out) (take c.in_ok-k.k c.decode-2.new.out))) ≡ listed c.args.letter c.args.first.now c.args.second.now c.args.third.now = listed_by c.args.letter c.args.first.now c.args.second.now c.args.third.now _ _ _ got.is got2.is c.recorded.ensures in
+    let x = same (take c.in_ok-n.n c.decode.new.out) (take c.in_ok-k.k c.decode-2.new.out) in
+    ap (λ (a : Bool). Some (Case c.args.letter a)) (c.ne.ensures ∙ ap not (pointwise_same _ _) ∙ ap (λ (a : Bool). a && not x) (sym c.if-agrees.true))
+    ∙ ap (λ (r : Option Bool). besides (agreed c.args.letter r) (not x)) (sym c.in_ok-agrees.was)
     ∙ by
 
 pub returns-else-agrees : goal.returns-else-agrees
 returns-else-agrees c =
-    let got : Got 4608 c.args.second.now c.decode.new.out c.in-At.n = field_got _ _ c.blank-held.ensures _ _ _ (c.decode.ensures.out_after, c.decode.ensures.within) _ c.in-At.is in
-    let got2 : Got 4608 c.args.third.now c.decode-2.new.out c.in-At-decode.k = field_got _ _ c.blank-other.ensures _ _ _ (c.decode-2.ensures.out_after, c.decode-2.ensures.within) _ c.in-At-decode.is in
-    let by : besides c.recorded.result (not (same (take c.in-At.n c.decode.new.out) (take c.in-At-decode.k c.decode-2.new.out))) ≡ listed c.args.letter c.args.first.now c.args.second.now c.args.third.now = listed_by c.args.letter c.args.first.now c.args.second.now c.args.third.now _ _ _ got.is got2.is c.recorded.ensures in
-    let x = same (take c.in-At.n c.decode.new.out) (take c.in-At-decode.k c.decode-2.new.out) in
-    ap (Case c.in-Case.kind) c.if-agrees.false
-    ∙ ap (λ (a : Bool). Case c.in-Case.kind (a && not x)) (sym c.if-agrees.false)
-    ∙ ap (λ (v : Verdict). besides v (not x)) (sym c.in-Case.is)
+    let got : Got 4608 c.args.second.now c.decode.new.out c.in_ok-n.n = field_got _ _ c.blank-held.ensures _ _ _ (c.decode.ensures.out_after, c.decode.ensures.within) _ c.in_ok-n.was in
+    let got2 : Got 4608 c.args.third.now c.decode-2.new.out c.in_ok-k.k = field_got _ _ c.blank-other.ensures _ _ _ (c.decode-2.ensures.out_after, c.decode-2.ensures.within) _ c.in_ok-k.was in
+    let by : besides (agreed c.args.letter c.recorded.result) (not (same (take c.in_ok-n.n c.decode.new.out) (take c.in_ok-k.k c.decode-2.new.out))) ≡ listed c.args.letter c.args.first.now c.args.second.now c.args.third.now = listed_by c.args.letter c.args.first.now c.args.second.now c.args.third.now _ _ _ got.is got2.is c.recorded.ensures in
+    let x = same (take c.in_ok-n.n c.decode.new.out) (take c.in_ok-k.k c.decode-2.new.out) in
+    ap (λ (a : Bool). Some (Case c.args.letter a)) (c.if-agrees.false ∙ ap (λ (a : Bool). a && not x) (sym c.if-agrees.false))
+    ∙ ap (λ (r : Option Bool). besides (agreed c.args.letter r) (not x)) (sym c.in_ok-agrees.was)
     ∙ by

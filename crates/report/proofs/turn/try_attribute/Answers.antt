@@ -8,27 +8,27 @@ use Rattle.reporting.specs.Carried.{table_in, table_read}
 use Rattle.report.proofs.Passes.{tried_unreportable, tried_not_due, tried_full, tried_longer}
 use Rattle.report.proofs.turn.try_attribute.Goals as goal
 
-pub returns-then-not-is_reportable : goal.returns-then-not-is_reportable
-returns-then-not-is_reportable c = tried_unreportable c.args.store.now c.args.a c.args.time c.args.table.now c.args.frame.now c.args.out c.requires.table_value (sym c.is_reportable.ensures ∙ c.if-not-is_reportable.true)
+pub returns-then-not-is_reportable-clause-tried : goal.returns-then-not-is_reportable-clause-tried
+returns-then-not-is_reportable-clause-tried c = tried_unreportable c.args.store.now c.args.a c.args.time c.args.table.now.bytes.now c.args.frame.now c.args.out c.args.table.now.whole (sym c.is_reportable.ensures ∙ c.if-not-is_reportable.true)
 
-pub returns-then-not-due_in : goal.returns-then-not-due_in
-returns-then-not-due_in c =
-    tried_not_due c.args.store.now c.args.a c.args.time c.args.table.now c.args.frame.now c.args.out c.requires.table_value
-    (sym c.is_reportable.ensures ∙ c.if-not-is_reportable.false) c.key_of-key.result c.value_in-value.result c.key_of-key.ensures c.value_in-value.ensures c.due_in.result
-    (c.due_in.ensures ∙ ap (λ v. due_l c.key_of-key.result c.args.time v (table_in c.args.table.now)) (came_back _ c.value_in-value.type_inv))
-    (c.if-not-due_in.true)
+pub returns-then-not-due-clause-tried : goal.returns-then-not-due-clause-tried
+returns-then-not-due-clause-tried c =
+    tried_not_due c.args.store.now c.args.a c.args.time c.args.table.now.bytes.now c.args.frame.now c.args.out c.args.table.now.whole
+    (sym c.is_reportable.ensures ∙ c.if-not-is_reportable.false) c.key_of-key.result c.value_in-value.result c.key_of-key.ensures c.value_in-value.ensures c.due.result
+    (c.due.ensures ∙ (λ i. due_l c.key_of-key.result c.args.time (came_back c.value_in-value.result c.value_in-value.type_inv i) (table_in (c.read.ensures i))))
+    (c.if-not-due.true)
 
-pub returns-in_default : goal.returns-in_default
-returns-in_default c =
-    tried_full c.args.store.now c.args.a c.args.time c.args.table.now c.args.frame.now c.args.out c.requires.table_value
-    (sym c.is_reportable.ensures ∙ c.if-not-is_reportable.false) c.key_of-key.result c.value_in-value.result c.key_of-key.ensures c.value_in-value.ensures c.due_in.result
-    (c.due_in.ensures ∙ ap (λ v. due_l c.key_of-key.result c.args.time v (table_in c.args.table.now)) (came_back _ c.value_in-value.type_inv))
-    (c.if-not-due_in.false) c.put_attribute-put.result c.put_attribute-put.new.frame c.put_attribute-put.ensures c.in_default.is
+pub returns-in_default-clause-tried : goal.returns-in_default-clause-tried
+returns-in_default-clause-tried c =
+    tried_full c.args.store.now c.args.a c.args.time c.args.table.now.bytes.now c.args.frame.now c.args.out c.args.table.now.whole
+    (sym c.is_reportable.ensures ∙ c.if-not-is_reportable.false) c.key_of-key.result c.value_in-value.result c.key_of-key.ensures c.value_in-value.ensures c.due.result
+    (c.due.ensures ∙ (λ i. due_l c.key_of-key.result c.args.time (came_back c.value_in-value.result c.value_in-value.type_inv i) (table_in (c.read.ensures i))))
+    (c.if-not-due.false) c.put_attribute-put.result c.put_attribute-put.new.frame c.put_attribute-put.ensures c.in_default.is
 
-pub returns : goal.returns
-returns c =
-    tried_longer c.args.store.now c.args.a c.args.time c.args.table.now c.args.frame.now c.args.out c.requires.table_value
-    (sym c.is_reportable.ensures ∙ c.if-not-is_reportable.false) c.key_of-key.result c.value_in-value.result c.key_of-key.ensures c.value_in-value.ensures c.due_in.result
-    (c.due_in.ensures ∙ ap (λ v. due_l c.key_of-key.result c.args.time v (table_in c.args.table.now)) (came_back _ c.value_in-value.type_inv))
-    (c.if-not-due_in.false) c.put_attribute-put.result c.put_attribute-put.new.frame c.put_attribute-put.ensures _ c.mark_in.new.bytes c.in-At.is
-    (c.mark_in.ensures ∙ ap (λ v. table_read true (mark_l c.key_of-key.result c.args.time v (table_in c.args.table.now))) (came_back _ c.value_in-value.type_inv))
+pub returns-clause-tried : goal.returns-clause-tried
+returns-clause-tried c =
+    tried_longer c.args.store.now c.args.a c.args.time c.args.table.now.bytes.now c.args.frame.now c.args.out c.args.table.now.whole
+    (sym c.is_reportable.ensures ∙ c.if-not-is_reportable.false) c.key_of-key.result c.value_in-value.result c.key_of-key.ensures c.value_in-value.ensures c.due.result
+    (c.due.ensures ∙ (λ i. due_l c.key_of-key.result c.args.time (came_back c.value_in-value.result c.value_in-value.type_inv i) (table_in (c.read.ensures i))))
+    (c.if-not-due.false) c.put_attribute-put.result c.put_attribute-put.new.frame c.put_attribute-put.ensures _ c.mark.new.self.bytes.now c.in-Some.is
+    (c.mark.ensures.marked ∙ ap (λ v. table_read true (mark_l c.key_of-key.result c.args.time v (table_in c.args.table.now.bytes.now))) (came_back _ c.value_in-value.type_inv))

@@ -1,5 +1,4 @@
 -- After i turns the first i slots are read. Assumes nothing.
-use Prim.Native.Nat.{◌-◌}
 use mathlib.Core.Path.{◌≡◌}
 use lib.ListN.{length}
 use Rattle.reporting.specs.Table.{capacity}
@@ -7,7 +6,4 @@ use Rattle.reporting.proofs.CarriageLoops.{ReadSoFar}
 use Rattle.reporting.proofs.carried.read_slots.Given as goal
 
 abbrev pub invariant-loop-i : goal.invariant-loop-i
-invariant-loop-i l = (length l.table.entries ≡ capacity) × ReadSoFar l.bytes l.count l.table.entries l.i
-
-abbrev pub decreases-loop-i : goal.decreases-loop-i
-decreases-loop-i l = l.count - l.i
+invariant-loop-i l = (length l.table.entries ≡ capacity) × ReadSoFar l.bytes l.table.entries l.i

@@ -8,7 +8,7 @@ use Rattle.reporting.proofs.CarriageLoops.{known_size, known_count, read_none, r
 use Rattle.reporting.proofs.carried.read_table.Goals as goal
 
 pub returns-then-not-is_table : goal.returns-then-not-is_table
-returns-then-not-is_table c = c.unknown.ensures ∙ read_none c.args.bytes.now (sym c.is_table.ensures ∙ c.if-not-is_table.true)
+returns-then-not-is_table c = read_none c.args.bytes.now (sym c.is_table.ensures ∙ c.if-not-is_table.true)
 
 pub bounds-bytes-0 : goal.bounds-bytes-0
 bounds-bytes-0 c =

@@ -1,25 +1,21 @@
--- After i turns the first i slots are in form, and the others decide. Assumes nothing.
-use mathlib.Core.Path.{sym, ◌∙◌}
-use Rattle.reporting.proofs.CarriageLoops.{form_start, form_more, form_bad, form_done}
+-- The slots that `all` looks at are the rows, one after the other. Assumes nothing.
+use Rattle.std.proofs.Common.{◌≡◌, ℕ, List, [], ◌∷◌, map, ◌&&◌, Bool, refl, sym, ap, ◌∙◌, arith, rules, tests}
+use Rattle.std.specs.List.{list_all, range_with_len}
+use Rattle.std.proofs.lemmas.Iterator.{YieldsList-from_range}
+use Rattle.std.proofs.lemmas.Iterator.Search.{all_from_yields_List}
+use Rattle.reporting.specs.Carried.{is_slot, are_slots}
+use Rattle.reporting.proofs.CarriageLoops.{slot_in, slots_placed}
 use Rattle.reporting.proofs.carried.slots_in_form.Goals as goal
 
-pub loop-i-init : goal.loop-i-init
-loop-i-init c = form_start c.args.bytes.now c.args.count
-
-pub returns-then-not-slot_in_form : goal.returns-then-not-slot_in_form
-returns-then-not-slot_in_form c =
-    let a = c.args in
-    let l = c.loop-i in
-    form_bad a.bytes.now a.count l.i l.invariant c.loop-i-test.true (sym c.slot_in_form.ensures ∙ c.if-not-slot_in_form.true)
-
-pub loop-i-preserved : goal.loop-i-preserved
-loop-i-preserved c =
-    let a = c.args in
-    let l = c.loop-i in
-    form_more a.bytes.now a.count l.i l.invariant c.loop-i-test.true (sym c.slot_in_form.ensures ∙ c.if-not-slot_in_form.false)
+all_slots : (slot : ℕ → List ℕ) (l : List ℕ) → list_all (λ i. is_slot (slot i)) l ≡ are_slots (map slot l)
+unfolding are_slots
+all_slots slot [] = refl
+all_slots slot (i ∷ l) = ap (λ (b : Bool). is_slot (slot i) && b) (all_slots slot l)
 
 pub returns : goal.returns
 returns c =
-    let a = c.args in
-    let l = c.loop-i in
-    form_done a.bytes.now a.count l.i l.invariant c.loop-i-test.false
+    let bs = c.args.bytes.now in
+    let n = c.args.count in
+    all_from_yields_List (λ i. is_slot (slot_in bs i)) _ _ c.all.result c.all.ensures.ran (YieldsList-from_range 0 n n refl (omega arith)) (λ i b q r. search (rules, tests))
+    ∙ all_slots (slot_in bs) (range_with_len 0 n)
+    ∙ ap are_slots (sym (slots_placed bs n 0))

@@ -31,7 +31,7 @@ loop-i-init c =
     let a = c.args in
     let k = c.clear in
     let f = filled_start a.table.count a.table.entries a.bytes.now k.new.buffer c.if-bytes-ne-TABLE_BYTES.false k.ensures in
-    (omega arith, (f.0, (f.1, tt)))
+    (f.0, (f.1, tt))
 
 pub loop-i-preserved : goal.loop-i-preserved
 loop-i-preserved c =
@@ -41,11 +41,11 @@ loop-i-preserved c =
     let h = c.loop-i-test.true in
     let w = c.write_slot in
     let below : l.i < capacity = omega (arith, c.if-count-gt-LIMIT.false) in
-    let f = filled_turn t.count t.entries l.i _ l.bytes w.new.bytes n below l.invariant.1.0 l.invariant.1.1.0 w.ensures.bytes_after in
-    (omega arith, (f.0, (f.1, clean_turn t.entries l.i _ (omega arith) l.invariant.1.1.1 w.ensures.clean)))
+    let f = filled_turn t.count t.entries l.i _ l.bytes w.new.bytes n below l.invariant.0 l.invariant.1.0 w.ensures.bytes_after in
+    (f.0, (f.1, clean_turn t.entries l.i _ (omega arith) l.invariant.1.1 w.ensures.clean))
 
 pub shape_of-bytes : goal.shape_of-bytes
-shape_of-bytes c = c.loop-i.invariant.1.0 ∙ sym c.if-bytes-ne-TABLE_BYTES.false
+shape_of-bytes c = c.loop-i.invariant.0 ∙ sym c.if-bytes-ne-TABLE_BYTES.false
 
 pub returns : goal.returns
 returns c =
@@ -53,5 +53,5 @@ returns c =
     let t = c.args.table in
     let n : length c.args.table.entries ≡ capacity = search (length_mapped, rules) in
     let small = c.if-count-gt-LIMIT.false in
-    let e = l.invariant.1.1.0 ∙ filled_all t l.i n small l.invariant.0 c.loop-i-test.false in
-    let i : l.i ≡ t.count = omega (arith, l.invariant.0, c.loop-i-test.false) in record { bytes_after = write_done t c.args.bytes.now c.if-bytes-ne-TABLE_BYTES.false l.bytes small e; read_back = λ q. ap (read_t capacity) e ∙ quieted_read capacity (take t.count t.entries) (omega (arith, length-take-le t.count t.entries (omega arith))) (subst (λ (k : ℕ). AllClean (map quieted (take k t.entries))) i l.invariant.1.1.1) }
+    let e = l.invariant.1.0 ∙ filled_all t l.i n small (omega arith) c.loop-i-test.false in
+    let i : l.i ≡ t.count = omega arith in record { bytes_after = write_done t c.args.bytes.now c.if-bytes-ne-TABLE_BYTES.false l.bytes small e; read_back = λ q. ap (read_t capacity) e ∙ quieted_read capacity (take t.count t.entries) (omega (arith, length-take-le t.count t.entries (omega arith))) (subst (λ (k : ℕ). AllClean (map quieted (take k t.entries))) i l.invariant.1.1) }

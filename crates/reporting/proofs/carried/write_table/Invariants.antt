@@ -1,5 +1,4 @@
 -- After i turns the bytes are the count, the first i slots, and zeros. Assumes nothing.
-use Prim.Native.Nat.{◌-◌, ◌≤◌}
 use mathlib.Core.Path.{◌≡◌}
 use mathlib.Core.List.{map}
 use lib.ListN.{length, take}
@@ -9,7 +8,4 @@ use Rattle.reporting.proofs.CarriageLoops.{filled}
 use Rattle.reporting.proofs.carried.write_table.Given as goal
 
 abbrev pub invariant-loop-i : goal.invariant-loop-i
-invariant-loop-i l = (l.i ≤ l.count) × ((length l.bytes ≡ table_length) × ((l.bytes ≡ filled table_length l.count l.table.entries l.i) × AllClean (map quieted (take l.i l.table.entries))))
-
-abbrev pub decreases-loop-i : goal.decreases-loop-i
-decreases-loop-i l = l.count - l.i
+invariant-loop-i l = (length l.bytes ≡ table_length) × ((l.bytes ≡ filled table_length l.count l.table.entries l.i) × AllClean (map quieted (take l.i l.table.entries)))

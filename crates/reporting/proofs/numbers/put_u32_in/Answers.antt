@@ -1,10 +1,7 @@
--- Two halves of two bytes, one behind the other. Assumes nothing.
-use Rattle.reporting.proofs.Carriage.{put_halves}
+-- The number's 4 bytes, written over those at the place. Assumes nothing.
+use mathlib.Core.Path.{◌∙◌}
+use Rattle.reporting.proofs.Carriage.{write_number}
 use Rattle.reporting.proofs.numbers.put_u32_in.Goals as goal
 
 pub returns : goal.returns
-returns c =
-    let a = c.args in
-    let low = c.put_u16_in in
-    let high = c.put_u16_in-2 in
-    put_halves a.at 2 2 a.n a.bytes.now low.new.bytes high.new.bytes low.ensures high.ensures
+returns c = write_number 4 c.args.at c.args.n c.args.bytes.now _ (c.copy_from_slice.ensures.after ∙ c.to_le_bytes.ensures) c.requires

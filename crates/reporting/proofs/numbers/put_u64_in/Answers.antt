@@ -1,10 +1,7 @@
--- Two halves of four bytes, one behind the other. Assumes nothing.
-use Rattle.reporting.proofs.Carriage.{put_halves}
+-- The number's 8 bytes, written over those at the place. Assumes nothing.
+use mathlib.Core.Path.{◌∙◌}
+use Rattle.reporting.proofs.Carriage.{write_number}
 use Rattle.reporting.proofs.numbers.put_u64_in.Goals as goal
 
 pub returns : goal.returns
-returns c =
-    let a = c.args in
-    let low = c.put_u32_in in
-    let high = c.put_u32_in-2 in
-    put_halves a.at 4 4 a.n a.bytes.now low.new.bytes high.new.bytes low.ensures high.ensures
+returns c = write_number 8 c.args.at c.args.n c.args.bytes.now _ (c.copy_from_slice.ensures.after ∙ c.to_le_bytes.ensures) c.requires

@@ -1,20 +1,7 @@
--- Two bytes are a number of width 2. Assumes nothing.
-use native.Mathlib.Omega.{arith}
-use Prim.Native.Nat.{◌+◌}
-use Rattle.types.proofs.Numbers.{two_bytes}
+-- The bytes at the place are a number of width 2. Assumes nothing.
+use mathlib.Core.Path.{refl, ◌∙◌}
+use Rattle.reporting.proofs.Carriage.{read_number}
 use Rattle.reporting.proofs.numbers.u16_in.Goals as goal
 
-pub overflow_cast-low : goal.overflow_cast-low
-overflow_cast-low c = omega (arith, c.type_inv.bytes c.args.at)
-
-pub overflow_cast-high : goal.overflow_cast-high
-overflow_cast-high c = omega (arith, c.type_inv.bytes (c.args.at + 1))
-
-pub overflow_mul-result : goal.overflow_mul-result
-overflow_mul-result c = omega (arith, c.type_inv.bytes (c.args.at + 1))
-
-pub overflow_add-result : goal.overflow_add-result
-overflow_add-result c = omega (arith, c.type_inv.bytes c.args.at, c.type_inv.bytes (c.args.at + 1))
-
 pub returns : goal.returns
-returns c = two_bytes c.args.bytes.now c.args.at
+returns c = c.from_le_bytes.ensures ∙ read_number 1 c.args.at c.args.bytes.now _ refl

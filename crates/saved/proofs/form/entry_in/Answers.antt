@@ -3,20 +3,11 @@ use mathlib.Core.Path.{sym, ap, ◌∙◌}
 use mathlib.Core.List.{List}
 use native.Mathlib.Omega.{arith}
 use Prim.Native.Nat.{ℕ, ◌+◌}
-use lib.ListN.{length, get_or}
+use lib.ListN.{get_or}
 use lib.Dec.{eqb}
 use Rattle.reporting.specs.Entries.{fresh}
-use Rattle.saved.proofs.Places.{body_small, three_numbers, body_numbers}
+use Rattle.saved.proofs.Places.{three_numbers, body_numbers}
 use Rattle.saved.proofs.form.entry_in.Goals as goal
-
-pub u16_in-min_interval-requires : goal.u16_in-min_interval-requires
-u16_in-min_interval-requires c = omega (arith, body_small c.args.with_marks c.args.body (length c.args.saved.now) c.requires.1)
-
-pub u16_in-max_interval-requires : goal.u16_in-max_interval-requires
-u16_in-max_interval-requires c = omega (arith, body_small c.args.with_marks c.args.body (length c.args.saved.now) c.requires.1)
-
-pub u64_in-reportable_change-requires : goal.u64_in-reportable_change-requires
-u64_in-reportable_change-requires c = omega (arith, body_small c.args.with_marks c.args.body (length c.args.saved.now) c.requires.1)
 
 pub returns : goal.returns
 returns c =

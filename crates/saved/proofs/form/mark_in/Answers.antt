@@ -1,16 +1,11 @@
 -- The byte behind the change, or none. Assumes nothing.
-use native.Mathlib.Omega.{arith}
 use mathlib.Core.Path.{sym, ap, ◌∙◌}
 use mathlib.Core.Bool.{Bool}
-use lib.ListN.{length, get_or, drop}
+use lib.ListN.{get_or, drop}
 use Rattle.reporting.specs.Carried.{numbers_in}
 use Rattle.saved.specs.Saved.{form_of}
-use Rattle.saved.proofs.Places.{mark_within, mark_there, mark_none}
+use Rattle.saved.proofs.Places.{mark_there, mark_none}
 use Rattle.saved.proofs.form.mark_in.Goals as goal
-
-pub bounds-saved-at : goal.bounds-saved-at
-bounds-saved-at c =
-    omega (arith, mark_within c.args.with_marks c.args.at (length c.args.saved.now) c.if-with_marks.true c.requires)
 
 pub returns-then-with_marks : goal.returns-then-with_marks
 returns-then-with_marks c =

@@ -1,5 +1,4 @@
 -- After i turns the table has the first i entries of the form. Assumes nothing.
-use Prim.Native.Nat.{◌-◌, ◌≤◌}
 use mathlib.Core.Path.{◌≡◌}
 use lib.ListN.{length, take}
 use Rattle.reporting.specs.Table.{capacity}
@@ -9,7 +8,8 @@ use Rattle.saved.specs.Saved.{saved_in, form_in}
 use Rattle.saved.proofs.restore.fill.Given as goal
 
 abbrev pub invariant-loop-i : goal.invariant-loop-i
-invariant-loop-i l = (l.i ≤ l.n) × ((length l.table ≡ table_length) × ((l.table ≡ table_bytes capacity (take l.i (saved_in (form_in l.saved) l.saved))) × AllClean (take l.i (saved_in (form_in l.saved) l.saved))))
-
-abbrev pub decreases-loop-i : goal.decreases-loop-i
-decreases-loop-i l = l.n - l.i
+invariant-loop-i l = record {
+  size : length l.table ≡ table_length;
+  first : l.table ≡ table_bytes capacity (take l.i (saved_in (form_in l.saved) l.saved));
+  clean : AllClean (take l.i (saved_in (form_in l.saved) l.saved));
+}

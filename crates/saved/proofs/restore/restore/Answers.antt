@@ -13,8 +13,8 @@ returns-then-not-is_laid c = restore_not_laid c.args.saved.now c.args.table.now 
 pub fill-requires : goal.fill-requires
 fill-requires c = fill_empty c.args.saved.now c.args.table.now c.if-table-ne-TABLE_BYTES.false (sym c.is_laid.ensures ∙ c.if-not-is_laid.false) c.clear.new.buffer c.clear.ensures
 
-pub is_savable-requires : goal.is_savable-requires
-is_savable-requires c = filled_table c.args.saved.now c.args.table.now c.if-table-ne-TABLE_BYTES.false (sym c.is_laid.ensures ∙ c.if-not-is_laid.false) c.fill.ensures.all_clean c.fill.new.table c.fill.ensures.table_after
+pub invariant_of-is_savable : goal.invariant_of-is_savable
+invariant_of-is_savable c = record { whole = filled_table c.args.saved.now c.args.table.now c.if-table-ne-TABLE_BYTES.false (sym c.is_laid.ensures ∙ c.if-not-is_laid.false) c.fill.ensures.all_clean c.fill.new.table c.fill.ensures.table_after }
 
 pub returns-then-is_savable : goal.returns-then-is_savable
 returns-then-is_savable c = restore_done c.args.saved.now c.args.table.now c.if-table-ne-TABLE_BYTES.false (sym c.is_laid.ensures ∙ c.if-not-is_laid.false) c.fill.ensures.all_clean c.fill.new.table c.fill.ensures.table_after (sym c.is_savable.ensures ∙ c.if-is_savable.true)

@@ -1,5 +1,4 @@
 -- After i turns the first i entries are written, none of them twice. Assumes nothing.
-use Prim.Native.Nat.{◌-◌, ◌≤◌}
 use mathlib.Core.Path.{◌≡◌}
 use mathlib.Core.Bool.{true}
 use lib.ListN.{take}
@@ -8,7 +7,4 @@ use Rattle.saved.specs.Saved.{is_savable}
 use Rattle.saved.proofs.savable.is_savable.Given as goal
 
 abbrev pub invariant-loop-i : goal.invariant-loop-i
-invariant-loop-i l = (l.i ≤ l.n) × (is_savable (take l.i (table_in l.table)) ≡ true)
-
-abbrev pub decreases-loop-i : goal.decreases-loop-i
-decreases-loop-i l = l.n - l.i
+invariant-loop-i l = is_savable (take l.i (table_in l.table.bytes.now)) ≡ true

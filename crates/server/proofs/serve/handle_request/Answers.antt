@@ -1,8 +1,11 @@
 -- The table as its bytes: not written, or served there and read back. Assumes nothing.
+use mathlib.Core.Path.{◌≡◌, ap, sym, ◌∙◌}
+use mathlib.Core.Bool.{true}
 use lib.ListN.{length}
+use Rattle.reporting.specs.Carried.{is_table, reading}
 use Rattle.reporting.specs.Table.{capacity}
 use Rattle.reporting.proofs.CarriageTable.{read_is}
-use Rattle.server.proofs.Served.{not_written, was_written, value_refused, value_served}
+use Rattle.server.proofs.Served.{read_is_some, not_written, was_written, value_refused, value_served}
 use borrow.Author.Rules.{rules}
 use Rattle.server.proofs.serve.handle_request.Goals as goal
 
@@ -18,6 +21,11 @@ returns-then-not-known c =
     _ _ _
     (c.serve_known-answer.ensures.fails none)
 
+pub unwrap-after-requires : goal.unwrap-after-requires
+unwrap-after-requires c =
+    let whole : is_table capacity c.serve_known-answer.new.table ≡ true = c.serve_known-answer.ensures.stays c.if-not-known.false in
+    read_is_some _ _ whole c.read_table.ensures
+
 pub returns : goal.returns
 returns c =
     let g = c.args in
@@ -29,5 +37,5 @@ returns c =
     _ _
     (c.serve_known-answer.ensures.stays one)
     (c.serve_known-answer.ensures.served one)
-    c.read_table-back.result
-    c.read_table-back.ensures
+    c.unwrap-after.result
+    (ap reading (sym c.unwrap-after.ensures) ∙ c.read_table.ensures)

@@ -21,20 +21,20 @@ is_reserved GlobalCommand o u = absurd (miss (1 ∷ 2 ∷ []) 0 tt o)
 is_reserved ClusterCommand o u = absurd (miss (0 ∷ 2 ∷ []) 1 tt u)
 is_reserved Reserved o u = refl
 
-pub returns-in_default-kind : goal.returns-in_default-kind
+pub returns-in_default-kind-clause-answered : goal.returns-in_default-kind-clause-answered
 unfolding typed
-returns-in_default-kind c =
-    let told : (k : FrameType) → c.frame_type-kind.result ≡ k → typed 8 capacity c.args.store.now (holding (table_in c.args.table.now)) c.args.unicast c.args.request c.args.body.now (length c.args.reply.now) k ≡ typed 8 capacity c.args.store.now (holding (table_in c.args.table.now)) c.args.unicast c.args.request c.args.body.now (length c.args.reply.now) (frame_type_of c.args.request.frame_control.0) = λ k e. ap (typed 8 capacity c.args.store.now (holding (table_in c.args.table.now)) c.args.unicast c.args.request c.args.body.now (length c.args.reply.now)) (sym e ∙ c.frame_type-kind.ensures) in
-    record { stays_table = c.requires; answered = ap (within (λ u. state c.args.store.now (holding (table_in c.args.table.now)))) c.refuse.ensures ∙ told _ (is_reserved _ (opened c.in_default.in_default-own.keys2) (opened c.in_default-kind.in_default-kind-own.keys2)) }
+returns-in_default-kind-clause-answered c =
+    let told : (k : FrameType) → c.frame_type-kind.result ≡ k → typed 8 capacity c.args.store.now (holding (table_in c.args.table.now.bytes.now)) c.args.unicast c.args.request c.args.body.now (length c.args.reply.now) k ≡ typed 8 capacity c.args.store.now (holding (table_in c.args.table.now.bytes.now)) c.args.unicast c.args.request c.args.body.now (length c.args.reply.now) (frame_type_of c.args.request.frame_control.0) = λ k e. ap (typed 8 capacity c.args.store.now (holding (table_in c.args.table.now.bytes.now)) c.args.unicast c.args.request c.args.body.now (length c.args.reply.now)) (sym e ∙ c.frame_type-kind.ensures) in
+    ap (within (λ u. state c.args.store.now (holding (table_in c.args.table.now.bytes.now)))) c.refuse.ensures ∙ told _ (is_reserved _ (opened c.in_default.in_default-own.keys2) (opened c.in_default-kind.in_default-kind-own.keys2))
 
-pub returns-in_default : goal.returns-in_default
+pub returns-in_default-clause-answered : goal.returns-in_default-clause-answered
 unfolding typed
-returns-in_default c =
-    let told : (k : FrameType) → c.frame_type-kind.result ≡ k → typed 8 capacity c.args.store.now (holding (table_in c.args.table.now)) c.args.unicast c.args.request c.args.body.now (length c.args.reply.now) k ≡ typed 8 capacity c.args.store.now (holding (table_in c.args.table.now)) c.args.unicast c.args.request c.args.body.now (length c.args.reply.now) (frame_type_of c.args.request.frame_control.0) = λ k e. ap (typed 8 capacity c.args.store.now (holding (table_in c.args.table.now)) c.args.unicast c.args.request c.args.body.now (length c.args.reply.now)) (sym e ∙ c.frame_type-kind.ensures) in
-    record { stays_table = c.requires; answered = ap (within (λ u. state c.args.store.now (holding (table_in c.args.table.now)))) c.default_response.ensures ∙ told _ c.in-ClusterCommand.is }
+returns-in_default-clause-answered c =
+    let told : (k : FrameType) → c.frame_type-kind.result ≡ k → typed 8 capacity c.args.store.now (holding (table_in c.args.table.now.bytes.now)) c.args.unicast c.args.request c.args.body.now (length c.args.reply.now) k ≡ typed 8 capacity c.args.store.now (holding (table_in c.args.table.now.bytes.now)) c.args.unicast c.args.request c.args.body.now (length c.args.reply.now) (frame_type_of c.args.request.frame_control.0) = λ k e. ap (typed 8 capacity c.args.store.now (holding (table_in c.args.table.now.bytes.now)) c.args.unicast c.args.request c.args.body.now (length c.args.reply.now)) (sym e ∙ c.frame_type-kind.ensures) in
+    ap (within (λ u. state c.args.store.now (holding (table_in c.args.table.now.bytes.now)))) c.default_response.ensures ∙ told _ c.in-ClusterCommand.is
 
-pub returns : goal.returns
+pub returns-clause-answered : goal.returns-clause-answered
 unfolding typed
-returns c =
-    let told : (k : FrameType) → c.frame_type-kind.result ≡ k → typed 8 capacity c.args.store.now (holding (table_in c.args.table.now)) c.args.unicast c.args.request c.args.body.now (length c.args.reply.now) k ≡ typed 8 capacity c.args.store.now (holding (table_in c.args.table.now)) c.args.unicast c.args.request c.args.body.now (length c.args.reply.now) (frame_type_of c.args.request.frame_control.0) = λ k e. ap (typed 8 capacity c.args.store.now (holding (table_in c.args.table.now)) c.args.unicast c.args.request c.args.body.now (length c.args.reply.now)) (sym e ∙ c.frame_type-kind.ensures) in
-    record { stays_table = c.global_command.ensures.stays_table; answered = c.global_command.ensures.answered ∙ told _ c.in-GlobalCommand.is }
+returns-clause-answered c =
+    let told : (k : FrameType) → c.frame_type-kind.result ≡ k → typed 8 capacity c.args.store.now (holding (table_in c.args.table.now.bytes.now)) c.args.unicast c.args.request c.args.body.now (length c.args.reply.now) k ≡ typed 8 capacity c.args.store.now (holding (table_in c.args.table.now.bytes.now)) c.args.unicast c.args.request c.args.body.now (length c.args.reply.now) (frame_type_of c.args.request.frame_control.0) = λ k e. ap (typed 8 capacity c.args.store.now (holding (table_in c.args.table.now.bytes.now)) c.args.unicast c.args.request c.args.body.now (length c.args.reply.now)) (sym e ∙ c.frame_type-kind.ensures) in
+    c.global_command.ensures.answered ∙ told _ c.in-GlobalCommand.is

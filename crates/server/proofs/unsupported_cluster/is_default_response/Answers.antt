@@ -1,24 +1,25 @@
 -- A global command by its number; any other frame type is none. Assumes nothing.
-use mathlib.Core.Path.{sym, ap, ◌∙◌}
-use mathlib.Core.Bool.{◌&&◌}
-use Prim.Native.Nat.{ℕ}
-use lib.Dec.{eqb}
-use Rattle.frame.specs.CommandIdentifier.{command_code}
+use mathlib.Core.Path.{◌≡◌, refl, sym, ap, ◌∙◌}
+use mathlib.Core.Bool.{true, false}
+use denote.Enum.Bare.{sameb}
+use Rattle.frame.specs.contracts.header.FrameType as frame-type
 use Rattle.frame.specs.declared.header.FrameType.{FrameType}
-use Rattle.frame.specs.declared.command_identifier.CommandIdentifier.TheVariants.{DefaultResponse}
-use Rattle.frame.specs.Header.{is_global}
-use Rattle.server.proofs.Listed.{not_global}
-use borrow.Enum.Refused.{opened}
+use Rattle.frame.specs.declared.header.FrameType.TheVariants.{GlobalCommand, ClusterCommand, Reserved}
+use Rattle.frame.specs.Header.{is_global, frame_type_of}
 use Rattle.server.proofs.unsupported_cluster.is_default_response.Goals as goal
 
-pub returns-in_default : goal.returns-in_default
-returns-in_default c =
-    let a = c.args in
-    not_global c.frame_type-kind.result (opened c.in_default.in_default-own.keys2) (eqb a.request.command_identifier.0 (command_code DefaultResponse))
-    ∙ ap (λ (t : FrameType). is_global t && eqb a.request.command_identifier.0 (command_code DefaultResponse)) c.frame_type-kind.ensures
+-- the derived equality tells a global command from the other types
+same_global : (t : FrameType) → sameb frame-type.the_type t GlobalCommand ≡ is_global t
+same_global GlobalCommand = refl
+same_global ClusterCommand = refl
+same_global Reserved = refl
 
-pub returns : goal.returns
-returns c =
-    let a = c.args in
-    ap (λ (k : ℕ). eqb a.request.command_identifier.0 k) c.raw.ensures
-    ∙ ap (λ (t : FrameType). is_global t && eqb a.request.command_identifier.0 (command_code DefaultResponse)) (sym c.in-GlobalCommand.is ∙ c.frame_type-kind.ensures)
+pub returns-then-eq : goal.returns-then-eq
+returns-then-eq c =
+    let kind : is_global (frame_type_of c.args.request.frame_control.0) ≡ true = ap is_global (sym c.frame_type.ensures) ∙ sym (same_global c.frame_type.result) ∙ sym c.eq.ensures ∙ c.if-eq.true in
+    rw (kind, c.from.ensures) refl
+
+pub returns-else-eq : goal.returns-else-eq
+returns-else-eq c =
+    let kind : is_global (frame_type_of c.args.request.frame_control.0) ≡ false = ap is_global (sym c.frame_type.ensures) ∙ sym (same_global c.frame_type.result) ∙ sym c.eq.ensures ∙ c.if-eq.false in
+    c.if-eq.false ∙ rw kind refl

@@ -14,9 +14,9 @@ returns-in_default c =
 pub returns-then-is_default_response : goal.returns-then-is_default_response
 returns-then-is_default_response c =
     c.refuse-then-is_default_response.ensures
-    ∙ respond_never _ _ _ _ _ (sym c.is_served.ensures ∙ c.if-is_served.false) c.in-Header.h (sym c.read_header.ensures ∙ c.in-Header.is) (sym c.is_default_response.ensures ∙ c.if-is_default_response.true)
+    ∙ respond_never _ _ _ _ _ (sym c.is_served.ensures ∙ c.if-is_served.false) c.in-Some.h (sym c.read_header.ensures ∙ c.in-Some.is) (sym c.is_default_response.ensures ∙ c.if-is_default_response.true)
 
 pub returns : goal.returns
 returns c =
     c.default_response.ensures
-    ∙ respond_sent _ _ _ _ _ (sym c.is_served.ensures ∙ c.if-is_served.false) c.in-Header.h (sym c.read_header.ensures ∙ c.in-Header.is) (sym c.is_default_response.ensures ∙ c.if-is_default_response.false)
+    ∙ respond_sent _ _ _ _ _ (sym c.is_served.ensures ∙ c.if-is_served.false) c.in-Some.h (sym c.read_header.ensures ∙ c.in-Some.is) (sym c.is_default_response.ensures ∙ c.if-is_default_response.false)

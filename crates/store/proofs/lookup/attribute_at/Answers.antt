@@ -8,6 +8,3 @@ pub returns-then-s-p : goal.returns-then-s-p
 returns-then-s-p c =
     let g = c.args in
     c.first.ensures ∙ ap (λ l. attribute_at 8 l 0) c.part.ensures ∙ first_there g.s.now g.i
-
-pub returns : goal.returns
-returns c = c.attribute_in.ensures

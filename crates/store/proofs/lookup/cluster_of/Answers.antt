@@ -1,8 +1,8 @@
--- Of bytes that are lent as such, the two that they start with. Assumes nothing.
-use mathlib.Core.Path.{refl, ◌∙◌}
-use native.Mathlib.Omega.{arith}
-use Rattle.store.proofs.Contents.{part_two}
+-- Of bytes that are read as such, the two that they start with. Assumes nothing.
+use Rattle.std.proofs.Common.{arith}
+use Rattle.std.proofs.lemmas.Grind.{common_steps}
+use Rattle.types.proofs.Numbers.{two_bytes}
 use Rattle.store.proofs.lookup.cluster_of.Goals as goal
 
-pub returns : goal.returns
-returns c = c.u16_at-2.ensures ∙ part_two _ 0 2 0 0 refl (omega arith)
+pub returns-in-Some : goal.returns-in-Some
+returns-in-Some c = grind (arith, common_steps, two_bytes c.args.s.now 0)

@@ -1,18 +1,26 @@
--- Whole contents are scanned here, and what stands at the place that was found is read. Assumes nothing.
+use mathlib.Core.Path.{◌≡◌, ◌∙◌}
+use Rattle.std.proofs.Common.{rules}
 use Rattle.store.proofs.Scan.{none_there, one_there}
+use Rattle.store.specs.Contents.{attribute_at}
 use Rattle.store.proofs.lookup.find.Goals as goal
 
-pub find_cut-requires : goal.find_cut-requires
-find_cut-requires c = c.count_of-n.ensures
-
-pub returns-then-s-n : goal.returns-then-s-n
-returns-then-s-n c = c.find_cut.ensures
-
-pub place_in-i-requires : goal.place_in-i-requires
-place_in-i-requires c = record { n_in_bounds = c.if-s-n.false; n_value = c.count_of-n.ensures }
-
 pub returns-then-n-i : goal.returns-then-n-i
-returns-then-n-i c = none_there _ _ _ _ c.count_of-n.ensures c.place_in-i.ensures c.if-n-i.true
+returns-then-n-i c =
+    let s = c.args.s.now in
+    none_there s _ c.args.name.0 c.count_of-n.ensures c.place-i.result c.place-i.ensures.within
+    (λ k h.
+    let p = c.place-i.ensures.passed k h in
+    let q : p.0 ≡ (attribute_at 8 s k).name.0 = search rules in
+    λ e. p.2 (q ∙ e))
+    c.if-n-i.true
 
 pub returns : goal.returns
-returns c = one_there _ _ _ _ c.count_of-n.ensures c.place_in-i.ensures _ c.if-n-i.false c.attribute_in.ensures
+returns c =
+    let s = c.args.s.now in
+    let hit = c.place-i.ensures.hit c.if-n-i.false in
+    one_there s _ c.args.name.0 c.count_of-n.ensures c.place-i.result c.place-i.ensures.within
+    (λ k h.
+    let p = c.place-i.ensures.passed k h in
+    let q : p.0 ≡ (attribute_at 8 s k).name.0 = search rules in
+    λ e. p.2 (q ∙ e))
+    _ c.if-n-i.false (search rules) c.attribute_in.ensures

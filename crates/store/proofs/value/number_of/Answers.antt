@@ -1,31 +1,28 @@
 -- Each way out is one law of the definition. Assumes nothing.
 use mathlib.Core.Path.{◌≡◌, ap, sym, ◌∙◌}
 use mathlib.Core.Bool.{true}
-use Rattle.types.proofs.Machine.{came_back}
-use Rattle.store.specs.declared.lookup.Found.TheVariants.{At}
-use Rattle.store.specs.declared.value.Numbered.TheVariants.{Is}
+use Rattle.std.specs.Prelude.{Some, None, Err, Option, ok_or, ℤ}
+use Rattle.std.proofs.Common.{rules}
+use Rattle.frame.specs.declared.answer.Refusal.TheVariants.{NoNumber}
 use Rattle.store.specs.Contents.{find_of}
 use Rattle.store.specs.Layout.{is_store}
 use Rattle.store.specs.Value.{telling}
-use Rattle.store.proofs.Tells.{number_no_store, number_absent, number_without, number_is}
+use Rattle.store.proofs.Tells.{number_no_store, number_absent, number_or}
 use Rattle.store.proofs.value.number_of.Goals as goal
 
 pub returns-then-not-is_store : goal.returns-then-not-is_store
 returns-then-not-is_store c = sym (ap telling (number_no_store 8 c.args.s.now c.args.name.0 (sym c.is_store.ensures ∙ c.if-not-is_store.true)))
 
-pub returns-in_default : goal.returns-in_default
-returns-in_default c =
+pub returns-in_err-a : goal.returns-in_err-a
+returns-in_err-a c =
     let store : is_store 8 c.args.s.now ≡ true = sym c.is_store.ensures ∙ c.if-not-is_store.false in
-    sym (ap telling (number_absent 8 c.args.s.now c.args.name.0 store (sym c.find.ensures ∙ c.in_default.is)))
-
-pub returns-in_default-number_at : goal.returns-in_default-number_at
-returns-in_default-number_at c =
-    let store : is_store 8 c.args.s.now ≡ true = sym c.is_store.ensures ∙ c.if-not-is_store.false in
-    let found : find_of 8 c.args.s.now c.args.name.0 ≡ At c.in-At.a = sym c.find.ensures ∙ c.in-At.is in
-    sym (ap telling (number_without 8 c.args.s.now c.args.name.0 store _ found (sym c.number_at.ensures ∙ c.in_default-number_at.is)))
+    let none : find_of 8 c.args.s.now c.args.name.0 ≡ None = sym c.find.ensures ∙ c.in_err-a.ensures.ok_part in
+    let why : c.in_err-a.field-0.0 ≡ NoNumber = cc (rw c.in_err-a.ensures.ok_part at c.in_err-a.ensures.value) in
+    let kept : c.from_residual.result ≡ Err NoNumber = search rules in
+    ap telling (kept ∙ sym (number_absent 8 c.args.s.now c.args.name.0 store none))
 
 pub returns : goal.returns
 returns c =
     let store : is_store 8 c.args.s.now ≡ true = sym c.is_store.ensures ∙ c.if-not-is_store.false in
-    let found : find_of 8 c.args.s.now c.args.name.0 ≡ At c.in-At.a = sym c.find.ensures ∙ c.in-At.is in
-    ap (λ z. telling (Is z)) (came_back _ c.in-Value.known_told-in-Value-1-own.given.0.1) ∙ sym (ap telling (number_is 8 c.args.s.now c.args.name.0 store _ found _ (sym c.number_at.ensures ∙ c.in-Value.is)))
+    let found : find_of 8 c.args.s.now c.args.name.0 ≡ Some c.in_ok-a.a = sym c.find.ensures ∙ c.in_ok-a.ensures.ok_part in
+    ap telling (c.ok_or-2.ensures.value ∙ ap (λ (o : Option ℤ). ok_or o NoNumber) c.number_at.ensures ∙ sym (number_or 8 c.args.s.now c.args.name.0 store _ found))

@@ -1,6 +1,6 @@
 -- A string by its length byte, any other value by its room. Assumes nothing.
-use mathlib.Core.Path.{sym, refl, ◌∙◌}
 use native.Mathlib.Omega.{arith}
+use Rattle.std.proofs.lemmas.Grind.{common_steps}
 use Rattle.store.specs.Value.{used_of}
 use Rattle.store.proofs.Layouts.{text_length_below}
 use Rattle.store.proofs.value.used_of.Goals as goal
@@ -10,8 +10,8 @@ overflow_add-result c = omega (arith, c.text_length.ensures, text_length_below c
 
 pub returns-then-is_text : goal.returns-then-is_text
 unfolding used_of
-returns-then-is_text c = rw (sym c.is_text.ensures ∙ c.if-is_text.true, c.text_length.ensures) refl
+returns-then-is_text c = grind (arith, common_steps)
 
-pub returns : goal.returns
+pub returns-else-is_text : goal.returns-else-is_text
 unfolding used_of
-returns c = rw (sym c.is_text.ensures ∙ c.if-is_text.false) refl
+returns-else-is_text c = grind (arith, common_steps)

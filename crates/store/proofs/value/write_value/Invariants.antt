@@ -1,13 +1,8 @@
--- What is left of the value, laid here, is the whole laid from the start. Assumes nothing.
-use Prim.Native.Nat.{◌-◌}
+-- The bytes so far are the value's, and 0 behind it. Assumes nothing.
+use Prim.Native.Nat.{ℕ, ◌<◌}
 use mathlib.Core.Path.{◌≡◌}
-use lib.ListN.{length}
-use lib.Seq.{sets}
-use Rattle.store.proofs.Fitted.{left}
+use lib.ListN.{get_or}
 use Rattle.store.proofs.value.write_value.Given as goal
 
 abbrev pub invariant-loop-i : goal.invariant-loop-i
-invariant-loop-i l = (length l.s ≡ length l.initial.s) × (sets l.s l.p (left l.room l.value l.i) ≡ sets l.initial.s l.initial.p (left l.room l.value 0))
-
-abbrev pub decreases-loop-i : goal.decreases-loop-i
-decreases-loop-i l = l.room - l.i
+invariant-loop-i l = (k : ℕ) → k < l.i → get_or l.b-items k 0 ≡ get_or l.value k 0

@@ -4,10 +4,10 @@ use Rattle.frame.specs.declared.status.Status.TheVariants.{Success}
 use Rattle.store.specs.Write.{wrote, write_by, write_of}
 use Rattle.store.proofs.write.write.Goals as goal
 
-pub returns-in-Fine : goal.returns-in-Fine
+pub returns-in-Ok : goal.returns-in-Ok
 unfolding write_of
-returns-in-Fine c = ap (wrote Success) c.write_value.ensures ∙ ap (λ x. write_by c.args.s.now x c.args.value.now) (sym (sym c.check_write-checked.ensures ∙ c.in-Fine.is))
+returns-in-Ok c = ap (wrote Success) c.write_value.ensures ∙ ap (λ x. write_by c.args.s.now x c.args.value.now) (sym (sym c.check_write-checked.ensures ∙ c.in-Ok.is))
 
-pub returns-in-Failed : goal.returns-in-Failed
+pub returns-in-Err : goal.returns-in-Err
 unfolding write_of
-returns-in-Failed c = ap (λ x. write_by c.args.s.now x c.args.value.now) (sym (sym c.check_write-checked.ensures ∙ c.in-Failed.is))
+returns-in-Err c = ap (λ x. write_by c.args.s.now x c.args.value.now) (sym (sym c.check_write-checked.ensures ∙ c.in-Err.is))

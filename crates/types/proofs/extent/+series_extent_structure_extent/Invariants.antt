@@ -10,14 +10,8 @@ decreases-series_extent l = l.depth
 abbrev pub decreases-structure_extent : goal.decreases-structure_extent
 decreases-structure_extent l = l.depth
 
-abbrev pub invariant-series_extent-loop-left : goal.invariant-series_extent-loop-left
-invariant-series_extent-loop-left l = (2 ≤ l.q) × (times (value_at (l.depth - 1) l.s (get_or l.s l.p 0)) l.left l.q ≡ series_at l.depth l.s l.p)
+abbrev pub invariant-series_extent-loop : goal.invariant-series_extent-loop
+invariant-series_extent-loop l = (2 ≤ l.q) × (times (value_at (l.depth - 1) l.s (get_or l.s l.p 0)) (l.n - l.counter) l.q ≡ series_at l.depth l.s l.p)
 
-abbrev pub decreases-series_extent-loop-left : goal.decreases-series_extent-loop-left
-decreases-series_extent-loop-left l = l.left
-
-abbrev pub invariant-structure_extent-loop-left : goal.invariant-structure_extent-loop-left
-invariant-structure_extent-loop-left l = (2 ≤ l.q) × (times (member l.s (value_at (l.depth - 1) l.s)) l.left l.q ≡ structure_at l.depth l.s l.p)
-
-abbrev pub decreases-structure_extent-loop-left : goal.decreases-structure_extent-loop-left
-decreases-structure_extent-loop-left l = l.left
+abbrev pub invariant-structure_extent-loop : goal.invariant-structure_extent-loop
+invariant-structure_extent-loop l = (2 ≤ l.q) × (times (member l.s (value_at (l.depth - 1) l.s)) (l.end - l.counter) l.q ≡ structure_at l.depth l.s l.p)

@@ -1,4 +1,7 @@
 -- Each shape by its own extent; a collection is not for this function. Assumes nothing.
+use mathlib.Core.Logic.{⊎_elim}
+use mathlib.Core.Path.{◌≡◌}
+use Rattle.types.specs.declared.ids.Shape.TheVariants.{Series, Structure, Unknown}
 use Rattle.types.specs.Extent.{by_shape}
 use Rattle.types.proofs.extent.plain_extent.Goals as goal
 
@@ -16,12 +19,7 @@ returns-in-LongText c = simp c.in-LongText.is c.long_text_extent.ensures
 
 pub returns-in-Series : goal.returns-in-Series
 unfolding by_shape
-returns-in-Series c = simp c.in-Series.is
-
-pub returns-in-Structure : goal.returns-in-Structure
-unfolding by_shape
-returns-in-Structure c = simp c.in-Structure.is
-
-pub returns-in-Unknown : goal.returns-in-Unknown
-unfolding by_shape
-returns-in-Unknown c = simp c.in-Unknown.is
+returns-in-Series c = ⊎_elim
+    (λ (e : c.args.layout ≡ Series). simp e)
+    (⊎_elim (λ (e : c.args.layout ≡ Structure). simp e) (λ (e : c.args.layout ≡ Unknown). simp e))
+    c.in-Series.is

@@ -7,7 +7,7 @@ use native.Mathlib.Omega.{arith}
 use native.Mathlib.Numerals.{add-one}
 use lib.Bits.{bit_or, or_add_and, and_le_r}
 use lib.ListN.{length, get_or, take}
-use lib.Seq.{take-suc, take_all}
+use lib.Seq.{take-suc}
 use lib.Dec.{eqb}
 use borrow.Author.Tests.{ne_eqb}
 use Rattle.types.specs.Number.{all_zero}
@@ -32,16 +32,11 @@ no_bit (suc a) b =
 more : (s : List ℕ) (i bits : ℕ) → i < length s → eqb bits 0 ≡ all_zero (take i s) → eqb (bit_or bits (get_or s i 0)) 0 ≡ all_zero (take (i + 1) s)
 more s i bits h e = no_bit bits (get_or s i 0) ∙ ap (λ (b : Bool). b && eqb (get_or s i 0) 0) e ∙ sym (next s i h)
 
-pub loop-i-init : goal.loop-i-init
+pub loop-b-init : goal.loop-b-init
 unfolding all_zero
-loop-i-init c = (omega arith, refl)
+loop-b-init c = refl
 
-pub loop-i-preserved : goal.loop-i-preserved
-loop-i-preserved c =
-    let l = c.loop-i in
-    (omega arith, more c.args.s.now l.i l.bits (omega arith) l.invariant.1)
-
-pub returns : goal.returns
-returns c =
-    let s = c.args.s.now in
-    c.loop-i.invariant.1 ∙ ap all_zero (take_all c.loop-i.i s (omega arith))
+pub loop-b-preserved : goal.loop-b-preserved
+loop-b-preserved c =
+    let l = c.loop-b in
+    more c.args.s.now l.b-index l.bits (omega arith) l.invariant

@@ -1,9 +1,7 @@
--- Below 2^63 the bits are the number; above, all bits turned twice. Assumes nothing.
-use Rattle.types.proofs.Machine.{bits_are, bits_turned}
+-- The bits of the i64 are the number's. Assumes nothing.
+use mathlib.Core.Path.{◌∙◌}
+use Rattle.types.proofs.Machine.{came_back, bits_are}
 use Rattle.types.proofs.number.bits_i64.Goals as goal
 
-pub returns-then-x-le9223372036854775807 : goal.returns-then-x-le9223372036854775807
-returns-then-x-le9223372036854775807 c = bits_are c.args.x c.ranges.x.fits
-
 pub returns : goal.returns
-returns c = bits_turned c.args.x c.ranges.x.fits
+returns c = came_back _ c.cast_signed.type_inv ∙ c.cast_signed.ensures ∙ bits_are c.args.x c.ranges.x.fits

@@ -1,8 +1,8 @@
--- Eight bytes written over eight are all there is. Assumes nothing.
-use mathlib.Core.Path.{sym, ◌∙◌}
+-- The eight bytes of a u64 one after the other. Assumes nothing.
+use native.Mathlib.Omega.{arith}
 use Rattle.types.specs.Number.{bytes_of}
-use Rattle.types.proofs.Numbers.{sets_all, length_bytes}
 use Rattle.types.proofs.number.le_bytes.Goals as goal
 
 pub returns : goal.returns
-returns c = c.put_le.ensures ∙ sets_all (bytes_of 8 c.args.n) _ (sym (length_bytes 8 _))
+unfolding bytes_of
+returns c = grind (arith, c.to_le_bytes.ensures)

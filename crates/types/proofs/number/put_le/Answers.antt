@@ -1,25 +1,28 @@
 -- What is left to write, written here, is the whole written from the start. Assumes nothing.
-use Prim.Native.Nat.{◌%◌}
-use mathlib.Core.Path.{refl, sym, ◌∙◌}
-use lib.ListN.{length-set}
+use native.Mathlib.Omega.{arith}
+use Prim.Native.Nat.{ℕ, ◌+◌, ◌-◌, ◌/◌, ◌%◌, ◌≤◌, ◌<◌}
+use mathlib.Core.Path.{◌≡◌, refl, sym, ◌∙◌}
+use mathlib.Core.List.{List}
+use lib.ListN.{set}
+use lib.Seq.{sets}
 use Rattle.types.specs.Number.{bytes_of}
-use Rattle.types.proofs.Numbers.{put_step, put_done, sets_out}
+use Rattle.types.proofs.Numbers.{put_step, put_done}
 use Rattle.types.proofs.number.put_le.Goals as goal
 
-pub loop-left-init : goal.loop-left-init
-loop-left-init c = (refl, refl)
+-- before the first turn all is left to write
+first : (l : List ℕ) (at width n : ℕ) → sets l at (bytes_of (width - (at - at)) n) ≡ sets l at (bytes_of width n)
+first l at width n =
+    let z : width - (at - at) ≡ width = omega arith in
+    rw z refl
 
-pub shape_of-out-then-out-p : goal.shape_of-out-then-out-p
-shape_of-out-then-out-p c = c.loop-left.invariant.0
+-- a turn writes the low byte of what is left
+step : (l : List ℕ) (at width p v : ℕ) → at ≤ p → p - at < width → sets l p (bytes_of (width - (p - at)) v) ≡ sets (set l p (v % 256)) (p + 1) (bytes_of (width - (p + 1 - at)) (v / 256))
+step l at width p v h k =
+    let e : width - (p + 1 - at) ≡ width - (p - at) - 1 = omega arith in
+    rw e (put_step l p (width - (p - at)) v (omega arith))
 
-pub returns-then-out-p : goal.returns-then-out-p
-returns-then-out-p c = sym (sets_out (bytes_of c.loop-left.left c.loop-left.v) _ _ c.if-out-p.true) ∙ c.loop-left.invariant.1
-
-pub loop-left-preserved : goal.loop-left-preserved
-loop-left-preserved c = (length-set c.loop-left.out c.loop-left.p (c.loop-left.v % 256) ∙ c.loop-left.invariant.0, sym (put_step c.loop-left.out _ _ _ c.loop-left-test.true) ∙ c.loop-left.invariant.1)
-
-pub shape_of-out : goal.shape_of-out
-shape_of-out c = c.loop-left.invariant.0
+pub loop-p-preserved : goal.loop-p-preserved
+loop-p-preserved c = sym (step c.loop-p.out c.args.at c.args.width c.loop-p.p c.loop-p.v (omega arith) (omega arith)) ∙ c.loop-p.invariant
 
 pub returns : goal.returns
-returns c = sym (put_done _ c.loop-left.p c.loop-left.left c.loop-left.v c.loop-left-test.false) ∙ c.loop-left.invariant.1
+returns c = sym (put_done c.loop-p.out c.loop-p.p (c.args.width - (c.loop-p.p - c.args.at)) c.loop-p.v (λ h. omega arith)) ∙ c.loop-p.invariant

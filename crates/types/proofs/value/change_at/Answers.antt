@@ -14,7 +14,7 @@ returns-in_default c = sym (change_varies _ _ _ (sym c.fixed_size.ensures ∙ c.
 pub returns-then-is_float : goal.returns-then-is_float
 returns-then-is_float c =
     let f = sym c.is_float.ensures ∙ c.if-is_float.true in
-    sym (change_float _ _ _ _ (sym c.fixed_size.ensures ∙ c.in-Bytes.is) (float_plain c.args.type_id.0 (omega arith) f) f)
+    sym (change_float _ _ _ _ (sym c.fixed_size.ensures ∙ c.in-Some.is) (float_plain c.args.type_id.0 (omega arith) f) f)
 
 pub sign_extended-requires : goal.sign_extended-requires
 sign_extended-requires c = rw c.unsigned_at-n.ensures (unsigned_below _ _ _ (λ i. (c.type_inv.s i).fits))
@@ -25,9 +25,9 @@ returns-then-is_signed c =
     let x = c.sign_extended in
     c.magnitude.ensures
     ∙ ap nat_abs (came_back _ x.type_inv ∙ sign_read a.s.now a.at _ _ _ x.ensures c.unsigned_at-n.ensures)
-    ∙ sym (change_signed _ _ _ _ (sym c.fixed_size.ensures ∙ c.in-Bytes.is) (sym c.is_signed.ensures ∙ c.if-is_signed.true))
+    ∙ sym (change_signed _ _ _ _ (sym c.fixed_size.ensures ∙ c.in-Some.is) (sym c.is_signed.ensures ∙ c.if-is_signed.true))
 
 pub returns : goal.returns
 returns c =
     c.unsigned_at-n.ensures
-    ∙ sym (change_plain _ _ _ _ (sym c.fixed_size.ensures ∙ c.in-Bytes.is) (sym c.is_signed.ensures ∙ c.if-is_signed.false) (sym c.is_float.ensures ∙ c.if-is_float.false))
+    ∙ sym (change_plain _ _ _ _ (sym c.fixed_size.ensures ∙ c.in-Some.is) (sym c.is_signed.ensures ∙ c.if-is_signed.false) (sym c.is_float.ensures ∙ c.if-is_float.false))

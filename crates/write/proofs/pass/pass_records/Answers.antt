@@ -1,70 +1,45 @@
 -- What is left of the walk is the whole, whatever is done with a record. Assumes nothing.
-use mathlib.Core.Path.{◌≡◌, refl, subst, ◌∙◌}
-use native.Mathlib.Omega.{arith}
+use mathlib.Core.Path.{◌≡◌}
 use lib.ListN.{length}
+use Rattle.std.specs.Prelude.{Err}
+use Rattle.std.proofs.Common.{rules}
 use Rattle.frame.specs.Status.{status_code}
-use Rattle.frame.specs.Inside.Passes.{TookOne}
-use Rattle.frame.proofs.Passes.{going_first, going_done, going_cut, going_more, going_stop, took_ahead}
-use Rattle.write.specs.declared.pass.Step.{Step}
+use Rattle.frame.specs.declared.failures.Unfinished.{Unfinished}
+use Rattle.frame.proofs.Passes.{going_first, going_done, going_cut, going_more, going_stop}
 use Rattle.write.specs.Request.{record_at, records_at}
 use Rattle.write.specs.Reply.{failure}
-use Rattle.write.specs.Inside.{doing_of, Took}
+use Rattle.write.specs.Write.{listing}
+use Rattle.write.specs.Inside.{by_name}
 use Rattle.write.proofs.Items.{ahead}
 use Rattle.write.proofs.pass.pass_records.Goals as goal
 
 pub loop-at-init : goal.loop-at-init
-loop-at-init c =
-    let a = c.args in
-    (refl, going_first (doing_of a.task 8 a.request) (record_at a.body.now) (length a.body.now) a.start a.store.now a.reply.now)
+loop-at-init g c = λ does by. going_first (listing (by_name does c.args.request)) (record_at c.args.body.now) (length c.args.body.now) c.args.start c.args.store.now c.args.reply.now
 
-pub shape_of-store-in_default : goal.shape_of-store-in_default
-shape_of-store-in_default c = c.record_turn.auto.store ∙ c.loop-at.invariant.0
-
-pub shape_of-reply-in_default : goal.shape_of-reply-in_default
-shape_of-reply-in_default c = c.loop-at.invariant.1.reply_length
-
-pub returns-in_default : goal.returns-in_default
+pub returns-in_err-step : goal.returns-in_err-step
 unfolding records_at
-returns-in_default c =
-    let did : (r : Step) → c.record_turn.result ≡ r → (Took (doing_of c.args.task 8 c.args.request) c.loop-at.store c.args.body.now c.loop-at.at r c.record_turn.new.store) = λ r e. subst ((λ (r : Step). Took (doing_of c.args.task 8 c.args.request) c.loop-at.store c.args.body.now c.loop-at.at r c.record_turn.new.store)) e c.record_turn.ensures in
-    going_cut c.loop-at.invariant.1 c.loop-at-test.true c.record_turn.new.store c.loop-at.reply (did Step.Cut c.in_default.is)
+returns-in_err-step g c = λ does by.
+    let why : c.in_err-step.field-0.0 ≡ Unfinished.Cut = cc (rw c.in_err-step.ensures.ok_part at c.in_err-step.ensures.value) in
+    let kept : c.from_residual.result ≡ Err c.in_err-step.field-0.0 = search rules in
+    rw (kept, why) (going_cut (c.loop-at.invariant does by) c.loop-at-test.true c.record_turn.new.store c.loop-at.reply (rw c.in_err-step.ensures.ok_part at (c.record_turn.ensures.took does by)))
 
-pub shape_of-store-in_default-note : goal.shape_of-store-in_default-note
-shape_of-store-in_default-note c = c.record_turn.auto.store ∙ c.loop-at.invariant.0
-
-pub shape_of-reply-in_default-note : goal.shape_of-reply-in_default-note
-shape_of-reply-in_default-note c = c.note.auto.reply ∙ c.loop-at.invariant.1.reply_length
-
-pub returns-in_default-note : goal.returns-in_default-note
+pub returns-in_err-out : goal.returns-in_err-out
 unfolding records_at
-returns-in_default-note c =
-    let did : (r : Step) → c.record_turn.result ≡ r → (Took (doing_of c.args.task 8 c.args.request) c.loop-at.store c.args.body.now c.loop-at.at r c.record_turn.new.store) = λ r e. subst ((λ (r : Step). Took (doing_of c.args.task 8 c.args.request) c.loop-at.store c.args.body.now c.loop-at.at r c.record_turn.new.store)) e c.record_turn.ensures in
-    let took : TookOne (doing_of c.args.task 8 c.args.request) (record_at c.args.body.now) c.loop-at.store c.loop-at.at ((c.in-Done.end)) c.in-Done.status ((failure (status_code c.in-Done.status) c.in-Done.id.0)) c.record_turn.new.store = did (Step.Done ((c.in-Done.end)) c.in-Done.status c.in-Done.id) c.in-Done.is in
+returns-in_err-out g c = λ does by.
     let n = c.note in
-    going_stop c.loop-at.invariant.1 c.loop-at-test.true (ahead c.args.body.now) ((c.in-Done.end)) c.in-Done.status ((failure (status_code c.in-Done.status) c.in-Done.id.0)) c.record_turn.new.store took n.result n.new.reply n.ensures c.in_default-note.is
-
-pub loop-at-smaller : goal.loop-at-smaller
-loop-at-smaller c =
-    let did : (r : Step) → c.record_turn.result ≡ r → (Took (doing_of c.args.task 8 c.args.request) c.loop-at.store c.args.body.now c.loop-at.at r c.record_turn.new.store) = λ r e. subst ((λ (r : Step). Took (doing_of c.args.task 8 c.args.request) c.loop-at.store c.args.body.now c.loop-at.at r c.record_turn.new.store)) e c.record_turn.ensures in
-    let took : TookOne (doing_of c.args.task 8 c.args.request) (record_at c.args.body.now) c.loop-at.store c.loop-at.at ((c.in-Done.end)) c.in-Done.status ((failure (status_code c.in-Done.status) c.in-Done.id.0)) c.record_turn.new.store = did (Step.Done ((c.in-Done.end)) c.in-Done.status c.in-Done.id) c.in-Done.is in
-    omega (arith, took_ahead (ahead c.args.body.now) took, c.loop-at-test.true)
+    let x = c.in_ok-step.step in
+    let why : c.in_err-out.field-0.0 ≡ Unfinished.Full = cc (rw c.in_err-out.ensures.ok_part at c.in_err-out.ensures.value) in
+    let kept : c.from_residual-in_err-out.result ≡ Err c.in_err-out.field-0.0 = search rules in
+    rw (kept, why) (going_stop (c.loop-at.invariant does by) c.loop-at-test.true (ahead c.args.body.now) x.end x.status (failure (status_code x.status) x.id.0) c.record_turn.new.store
+    (rw c.in_ok-step.ensures.ok_part at (c.record_turn.ensures.took does by)) n.result n.new.reply n.ensures c.in_err-out.ensures.ok_part)
 
 pub loop-at-preserved : goal.loop-at-preserved
-loop-at-preserved c =
-    let did : (r : Step) → c.record_turn.result ≡ r → (Took (doing_of c.args.task 8 c.args.request) c.loop-at.store c.args.body.now c.loop-at.at r c.record_turn.new.store) = λ r e. subst ((λ (r : Step). Took (doing_of c.args.task 8 c.args.request) c.loop-at.store c.args.body.now c.loop-at.at r c.record_turn.new.store)) e c.record_turn.ensures in
-    let took : TookOne (doing_of c.args.task 8 c.args.request) (record_at c.args.body.now) c.loop-at.store c.loop-at.at ((c.in-Done.end)) c.in-Done.status ((failure (status_code c.in-Done.status) c.in-Done.id.0)) c.record_turn.new.store = did (Step.Done ((c.in-Done.end)) c.in-Done.status c.in-Done.id) c.in-Done.is in
+loop-at-preserved g c = λ does by.
     let n = c.note in
-    let l = c.loop-at.invariant in (
-      c.record_turn.auto.store ∙ l.0,
-      going_more l.1 c.loop-at-test.true (ahead c.args.body.now) ((c.in-Done.end)) c.in-Done.status ((failure (status_code c.in-Done.status) c.in-Done.id.0)) c.record_turn.new.store took n.result n.new.reply n.ensures c.in-At.next c.in-At.is n.auto.reply,
-    )
-
-pub shape_of-store : goal.shape_of-store
-shape_of-store c = c.loop-at.invariant.0
-
-pub shape_of-reply : goal.shape_of-reply
-shape_of-reply c = c.loop-at.invariant.1.reply_length
+    let x = c.in_ok-step.step in
+    going_more (c.loop-at.invariant does by) c.loop-at-test.true (ahead c.args.body.now) x.end x.status (failure (status_code x.status) x.id.0) c.record_turn.new.store
+    (rw c.in_ok-step.ensures.ok_part at (c.record_turn.ensures.took does by)) n.result n.new.reply n.ensures c.in_ok-out.out c.in_ok-out.ensures.ok_part n.auto.reply
 
 pub returns : goal.returns
 unfolding records_at
-returns c = going_done c.loop-at.invariant.1 c.loop-at-test.false
+returns g c = λ does by. going_done (c.loop-at.invariant does by) c.loop-at-test.false

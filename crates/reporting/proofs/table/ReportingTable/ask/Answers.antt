@@ -1,25 +1,31 @@
--- `reporting::table::ReportingTable::ask` meets its contract. Assumes nothing.
-use mathlib.Core.Path.{sym, ◌∙◌}
-use mathlib.Core.Bool.{true, false}
-use mir.Facts.{to_z-of_z}
-use Rattle.reporting.proofs.Slots.{length_mapped, Found, ask_bad, ask_absent, ask_is}
+-- A table that `len` refuses has no answer; else what the scan came to. Assumes nothing.
+use Rattle.std.specs.Prelude.{Err}
+use native.Mathlib.Omega.{arith}
+use mathlib.Core.Path.{◌≡◌, ap, ◌∙◌}
 use borrow.Author.Rules.{rules}
+use mir.Facts.{to_z-of_z}
+use Prim.Native.Nat.{◌≤◌, ◌<◌}
+use Rattle.frame.specs.declared.answer.Refusal.TheVariants.{NotATable}
+use Rattle.reporting.specs.Table.{capacity, report_told}
+use Rattle.reporting.proofs.Slots.{length_mapped, Found, len_small, len_refused, length_back, ask_bad, ask_absent, ask_is}
 use Rattle.reporting.proofs.table.ReportingTable.ask.Goals as goal
 
-pub returns-then-n-gt-LIMIT : goal.returns-then-n-gt-LIMIT
-returns-then-n-gt-LIMIT c = ask_bad c.args.self c.if-n-gt-LIMIT.true _ _ _
+pub returns-in_err-count : goal.returns-in_err-count
+returns-in_err-count c =
+    let h : (capacity < c.args.self.count) × (c.in_err-count.field-0.0 ≡ NotATable) = len_refused _ _ (rw c.in_err-count.was at c.len.ensures) in
+    let kept : c.from_residual.result ≡ Err c.in_err-count.field-0.0 = search rules in
+    ap report_told kept ∙ rw h.1 (ask_bad c.args.self h.0 _ _ _)
 
-pub returns-then-n-at : goal.returns-then-n-at
-returns-then-n-at c =
-    let found : Found c.args.self c.args.key c.find-at.result = record { slots = search (length_mapped, rules); small = c.if-n-gt-LIMIT.false; place = c.find-at.ensures } in
-    ask_absent found _ _ c.if-n-at.true
-
-pub returns-then-due : goal.returns-then-due
-returns-then-due c =
-    let found : Found c.args.self c.args.key c.find-at.result = record { slots = search (length_mapped, rules); small = c.if-n-gt-LIMIT.false; place = c.find-at.ensures } in
-    ask_is found _ _ _ _ true (to_z-of_z c.ranges.value) c.if-n-at.false (sym c.if-due.true ∙ c.due.ensures)
+pub returns-then-count-at : goal.returns-then-count-at
+returns-then-count-at c =
+    let small : c.args.self.count ≤ capacity = len_small _ _ (rw c.in_ok-count.was at c.len.ensures) in
+    let found : Found c.args.self c.args.key c.find-at.result = record { slots = search (length_mapped, rules); small = small; place = c.find-at.ensures } in
+    let n : c.in_ok-count.count ≡ c.args.self.count = length_back c.args.self found.slots small _ (rw c.in_ok-count.was at c.len.ensures) in
+    ask_absent found _ _ (omega (arith, c.if-count-at.true))
 
 pub returns : goal.returns
 returns c =
-    let found : Found c.args.self c.args.key c.find-at.result = record { slots = search (length_mapped, rules); small = c.if-n-gt-LIMIT.false; place = c.find-at.ensures } in
-    ask_is found _ _ _ _ false (to_z-of_z c.ranges.value) c.if-n-at.false (sym c.if-due.false ∙ c.due.ensures)
+    let small : c.args.self.count ≤ capacity = len_small _ _ (rw c.in_ok-count.was at c.len.ensures) in
+    let found : Found c.args.self c.args.key c.find-at.result = record { slots = search (length_mapped, rules); small = small; place = c.find-at.ensures } in
+    let n : c.in_ok-count.count ≡ c.args.self.count = length_back c.args.self found.slots small _ (rw c.in_ok-count.was at c.len.ensures) in
+    ask_is found _ _ _ _ _ (to_z-of_z c.ranges.value) (omega (arith, c.if-count-at.false)) c.due.ensures

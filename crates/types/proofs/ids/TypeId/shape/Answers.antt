@@ -6,8 +6,8 @@ use Rattle.types.specs.declared.ids.Shape.TheVariants.{Text, LongText, Series, S
 use Rattle.types.proofs.Shapes.{shape_fixed, shape_keys, shape_run, shape_rest}
 use Rattle.types.proofs.ids.TypeId.shape.Goals as goal
 
-pub returns-in-Bytes : goal.returns-in-Bytes
-returns-in-Bytes c = shape_fixed _ _ (sym c.fixed_size.ensures ∙ c.in-Bytes.is)
+pub returns-in-Some : goal.returns-in-Some
+returns-in-Some c = shape_fixed _ _ (sym c.fixed_size.ensures ∙ c.in-Some.is)
 
 pub returns-in-76 : goal.returns-in-76
 returns-in-76 c = shape_keys Structure (0x4c ∷ []) tt c.args.self.0 (sym c.fixed_size.ensures ∙ c.in_default.is) c.in-76.is
