@@ -1,7 +1,7 @@
 -- No second answer fits a contract: one theorem for each public function, of two results and exit buffers that meet it at the same
 -- entry values. Assumes nothing.
 use mathlib.Core.Path.{sym, ◌∙◌}
-use Rattle.frame.specs.Claims.Unique.{RefusalNumberOnce, AnswerNumberOnce, ReplyLenOnce, RefuseOnce, FromBitsOnce, RawOnce, ListFailureOnce, ConcludeOnce}
+use Rattle.frame.specs.Claims.Unique.{RefusalNumberOnce, AnswerNumberOnce, ReplyLenOnce, RefuseOnce, FromBitsOnce, RawOnce, RefusalOfOnce, ListFailureOnce, ConcludeOnce}
 use Rattle.frame.specs.Claims.Unique.{FrameTypeOnce, IsManufacturerSpecificOnce, ReadHeaderOnce, WriteResponseHeaderOnce, BeginReplyOnce, ClearOnce, PutRunOnce, PutBothOnce}
 use Rattle.frame.specs.Claims.Unique.{PutByteOnce, PutU16Once, ToU8Once}
 use Rattle.frame.proofs.Outcome.{only_answer, putting_same}
@@ -27,6 +27,9 @@ pub raw_once : RawOnce
 raw_once self r q e f = e ∙ sym f
 
 -- src/failures.rt
+pub refusal_of_once : RefusalOfOnce
+refusal_of_once why r q e f = e ∙ sym f
+
 pub list_failure_once : ListFailureOnce
 list_failure_once reply out status failure r q x y e f = putting_same r q x y (e ∙ sym f)
 

@@ -13,7 +13,8 @@ pub fn clear(buffer: &mut [u8])
     }
 }
 
-// Puts bytes at `at` and says where the next one goes, if they fit there; otherwise nothing changes.
+// Puts bytes at `at` and says where the next one goes, if they fit there; otherwise nothing changes. Tried `copy_from_slice`: of a number of bytes that is
+// not known here the compiler makes a call of memmove, a name that an archive for C would want from outside; kept as a loop, which wants none.
 pub fn put_run(buffer: &mut [u8], at: usize, bytes: &[u8]) -> Option<usize>
     ensures { putting result buffer.new ≡ put buffer.old at bytes.now }
 {
@@ -24,7 +25,9 @@ pub fn put_run(buffer: &mut [u8], at: usize, bytes: &[u8]) -> Option<usize>
     if buffer.len() - at < n {
         return None;
     }
-    buffer[at..at + n].copy_from_slice(bytes);
+    for (i, b) in buffer[at..at + n].iter_mut().enumerate() {
+        *b = bytes[i];
+    }
     Some(at + n)
 }
 

@@ -1,10 +1,10 @@
 -- Claims. No second answer fits a contract: one claim for each public function, of two results and exit buffers that meet it at the same entry
--- values.
+-- values. The function of an `impl From` is one of them, and what it gives is its contract: RefusalNumberOnce, FromBitsOnce, RawOnce, RefusalOfOnce, ToU8Once.
 use Rattle.std.specs.Prelude.{ℕ, ◌≡◌, Bool, List, [], ◌∷◌, ◌++◌, length, Option, Result}
 use Rattle.frame.specs.Answer.{refusal_number, answer_number, answer_length, no_state, seen, refused}
 use Rattle.frame.specs.CommandIdentifier.{command_code, command_of}
 use Rattle.frame.specs.Inside.Buffer.{putting, put}
-use Rattle.frame.specs.Inside.Failures.{noting, concluded_at}
+use Rattle.frame.specs.Inside.Failures.{noting, refusal_of, concluded_at}
 use Rattle.types.specs.Number.{zeros, bytes_of}
 use Rattle.frame.specs.Header.{frame_type_of, has_code, header_of, reply_head}
 use Rattle.frame.specs.Status.{status_code}
@@ -41,6 +41,9 @@ abbrev pub RawOnce : Type 0
 RawOnce = (self : CommandIdentifier) (r q : ℕ) → r ≡ command_code self → q ≡ command_code self → r ≡ q
 
 -- src/failures.rt
+abbrev pub RefusalOfOnce : Type 0
+RefusalOfOnce = (why : Unfinished) (r q : Refusal) → r ≡ refusal_of why → q ≡ refusal_of why → r ≡ q
+
 abbrev pub ListFailureOnce : Type 0
 ListFailureOnce =
     (reply : List ℕ) (out : ℕ) (status : Status) (failure : List ℕ) (r q : Option ℕ) (x y : List ℕ)
